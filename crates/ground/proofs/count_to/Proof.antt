@@ -1,0 +1,15 @@
+-- `ground::count_to` meets its contract. Assumes nothing.
+use borrow.Author.Needs.{needs}
+use Rattle.ground.proofs.count_to.Statement.{statement}
+use Rattle.ground.proofs.count_to.Tie as tie
+use mathlib.Core.Path.{_∙_}
+use Rattle.ground.proofs.Laws.{place-count}
+
+find-byte-requires : tie.Need-find-byte-requires
+find-byte-requires c κs = search needs
+
+returns : tie.Need-returns
+returns c = c .find-byte .ensures ∙ place-count _ _
+
+pub count-to-spec : {M : Type 1} → statement M
+count-to-spec = tie.close (tie.spec find-byte-requires returns)

@@ -1,0 +1,45 @@
+-- The numbers' carrier, and the one decision on refusals 1 and 2 (docs/FORMAT.md, "Numbers" and "Bounds").
+-- Assumes nothing.
+use Prim.Native.Nat.{ℕ}
+use mathlib.Core.Bool.{Bool, _&&_, _||_}
+use lib.Dec.{eqb, leb}
+use Rattle.ground.specs.Basics.{pick}
+use Rattle.ground.specs.declared.Verdict.{Verdict}
+use Rattle.ground.specs.declared.Answer.{Answer}
+use Rattle.ground.specs.declared.Gate.{Gate}
+use Rattle.ground.specs.declared.Gate.the-variants.{Open, Shut}
+
+-- a number of the table and its place
+abbrev pub verdict : ℕ → ℕ → Verdict
+verdict n p = record { number = n; place = p }
+
+-- number 0, place 0
+abbrev pub fine : Verdict
+fine = verdict 0 0
+
+-- a call that was done, with what it counted
+abbrev pub counted : ℕ → Answer
+counted n = record { verdict = fine; count = n }
+
+-- a call that was refused: it counts nothing
+abbrev pub refused : Verdict → Answer
+refused v = record { verdict = v; count = 0 }
+
+-- the most bytes of a lent buffer, and the most records of a lent list
+abbrev pub mostBytes : ℕ
+mostBytes = 1073741824
+
+abbrev pub mostRecords : ℕ
+mostRecords = 1048576
+
+-- an id has 20 bytes or 32
+unfoldable pub idLength : ℕ → Bool
+idLength h = eqb h 20 || eqb h 32
+
+-- 2 where a buffer or a list is over its bound
+unfoldable pub sizeGate : ℕ → ℕ → Gate
+sizeGate bytes records = pick (leb bytes mostBytes && leb records mostRecords) Open (Shut (verdict 2 0))
+
+-- 1 where the id length is neither of the two, then 2
+unfoldable pub gateOf : ℕ → ℕ → ℕ → Gate
+gateOf h bytes records = pick (idLength h) (sizeGate bytes records) (Shut (verdict 1 0))
