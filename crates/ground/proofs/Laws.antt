@@ -1,6 +1,6 @@
 -- Laws of the definitions of `ground`, which every layer cites: tests, gates, scans, parts. Assumes nothing.
 use native.Mathlib.Decide.{decLt}
-use native.Mathlib.Nat.{not-suc-le-zero, le-of-suc-le-suc}
+use native.Mathlib.Nat.{not-suc-le-zero, le-of-suc-le-suc, add-zero, add-suc, suc-add}
 use native.Mathlib.Numerals.{add-one}
 use native.Mathlib.Omega.{arith}
 use Prim.Native.Nat.{ℕ, zero, suc, _+_, _-_, _<_, _≤_, min}
@@ -9,12 +9,13 @@ use mathlib.Core.Bool.{Bool, true, false, false≢true, _&&_, _||_, not}
 use mathlib.Core.List.{List, [], _∷_, _++_}
 use mathlib.Core.Logic.{_⊎_, inl, inr, ⊎-elim}
 use lib.Dec.{eqb, leb}
-use lib.ListN.{length, getD, take, drop, drop-of-length-le, length-drop}
-use lib.Seq.{drop-cons, take-all}
+use lib.ListN.{length, getD, take, drop, set, drop-of-length-le, length-drop}
+use lib.Seq.{drop-cons, take-all, sets, sets-eq}
 use borrow.Author.Tests.{eq-eqb, ne-eqb, eqb-true, le-leb, lt-leb, leb-true}
 use Rattle.ground.specs.Basics.{pick}
-use Rattle.ground.specs.Verdict.{verdict, idLength, sizeGate, gateOf, mostBytes, mostRecords}
+use Rattle.ground.specs.Verdict.{verdict, idLength, sizeGate, gateOf, mostBytes, mostRecords, stored}
 use Rattle.ground.specs.Scan.{countTo, placeFrom, commonStart, sameBytes, freeOf}
+use Rattle.ground.specs.declared.Verdict.{Verdict}
 use Rattle.ground.specs.declared.Gate.the-variants.{Open, Shut}
 
 -- ---- tests
@@ -107,10 +108,42 @@ module _ (h bytes records : ℕ) where
       go true p e = let s = size-open bytes records e in (id-is h p, s .0, s .1)
       go false p e = let z : _≡_ {A = ℕ} 0 1 = cc in absurd (omega arith)
 
+  -- a call that did not begin was refused 1 or 2
+  pub gate-shut : (v : Verdict) → gateOf h bytes records ≡ Shut v → (v ≡ verdict 1 0) ⊎ (v ≡ verdict 2 0)
+  unfolding gateOf sizeGate
+  gate-shut v e = go (idLength h) (leb bytes mostBytes && leb records mostRecords) e
+    where
+      go : (a b : Bool) → pick a (pick b Open (Shut (verdict 2 0))) (Shut (verdict 1 0)) ≡ Shut v → (v ≡ verdict 1 0) ⊎ (v ≡ verdict 2 0)
+      go true true e = let z : _≡_ {A = ℕ} 0 1 = cc in absurd (omega arith)
+      go true false e = inr (cc)
+      go false b e = inl (cc)
+
 -- both id lengths are small
 pub id-small : (h : ℕ) → (h ≡ 20) ⊎ (h ≡ 32) → (20 ≤ h) × (h ≤ 32)
 id-small h (inl e) = omega arith
 id-small h (inr e) = omega arith
+
+-- ---- what was lent, afterwards
+
+pub stored-done : (v : Verdict) (l lent : List ℕ) → v .number ≡ 0 → stored v l lent ≡ l ++ drop (length l) lent
+unfolding stored
+stored-done v l lent e = simp (eq-eqb (v .number) 0 e)
+
+-- a refusal leaves what was lent
+pub stored-refused : (v : Verdict) (l lent : List ℕ) → (v .number ≡ 0 → ⊥) → stored v l lent ≡ lent
+unfolding stored
+stored-refused v l lent e = simp (ne-eqb (v .number) 0 e)
+
+-- a run of stores, in two runs
+pub sets-append : {A : Type 0} (l : List A) (i : ℕ) (p q : List A) → sets l i (p ++ q) ≡ sets (sets l i p) (i + length p) q
+sets-append l i [] q = rw (add-zero i)
+sets-append l i (x ∷ p) q = sets-append (set l i x) (suc i) p q ∙ rw (add-suc i (length p), suc-add i (length p))
+
+-- a run of stores from the front on
+pub sets-front : {A : Type 0} (l p : List A) → length p ≤ length l → sets l 0 p ≡ p ++ drop (length p) l
+sets-front {A} l p h =
+    let z : 0 + length p ≡ length p = omega arith in
+    sets-eq p l 0 (omega arith) ∙ ap (λ (k : ℕ). p ++ drop k l) z
 
 -- ---- parts
 

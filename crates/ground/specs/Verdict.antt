@@ -2,7 +2,9 @@
 -- Assumes nothing.
 use Prim.Native.Nat.{ℕ}
 use mathlib.Core.Bool.{Bool, _&&_, _||_}
+use mathlib.Core.List.{List, _++_}
 use lib.Dec.{eqb, leb}
+use lib.ListN.{length, drop}
 use Rattle.ground.specs.Basics.{pick}
 use Rattle.ground.specs.declared.Verdict.{Verdict}
 use Rattle.ground.specs.declared.Answer.{Answer}
@@ -43,3 +45,7 @@ sizeGate bytes records = pick (leb bytes mostBytes && leb records mostRecords) O
 -- 1 where the id length is neither of the two, then 2
 unfoldable pub gateOf : ℕ → ℕ → ℕ → Gate
 gateOf h bytes records = pick (idLength h) (sizeGate bytes records) (Shut (verdict 1 0))
+
+-- what a lent buffer or list holds after a call with this verdict that writes l at its front: past l it stays, and after a refusal all of it stays
+unfoldable pub stored : Verdict → List ℕ → List ℕ → List ℕ
+stored v l lent = pick (eqb (v .number) 0) (l ++ drop (length l) lent) lent

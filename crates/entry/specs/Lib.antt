@@ -1,0 +1,3 @@
+pub mod Record
+pub mod Entry
+pub mod Decode

@@ -1,0 +1,75 @@
+-- `mode::extract` meets its contract. Assumes nothing.
+use borrow.Author.Needs.{needs}
+use Rattle.mode.proofs.EntryMode.extract.Statement.{statement}
+use Rattle.mode.proofs.EntryMode.extract.Tie as tie
+use Prim.Native.Nat.{ℕ}
+use mathlib.Core.Path.{_≡_, sym, ap, _∙_}
+use native.Mathlib.Omega.{arith}
+use lib.ListN.{take, length-take}
+use Rattle.mode.specs.declared.Octal.the-variants.{Number}
+use Rattle.mode.specs.Read.{octalFrom, textLen}
+use Rattle.mode.proofs.Laws.{read-none, read-long, read-other, read-number, text-le}
+
+returns : tie.Need-returns
+returns c = sym (read-none _ (c .if1 .taken))
+
+text-len-requires : tie.Need-text-len-requires
+text-len-requires c κs = search needs
+
+returns-2 : tie.Need-returns-2
+returns-2 c = sym (read-long _ (c .before .before .if1 .left) (omega (arith, c .before .text-len .ensures)))
+
+shared-slice-read-first : tie.Need-shared-slice-read-first
+shared-slice-read-first c = search needs
+
+rest-at-requires : tie.Need-rest-at-requires
+rest-at-requires c κs = search needs
+
+slice-aggregate-octal-of : tie.Need-slice-aggregate-octal-of
+slice-aggregate-octal-of c =
+    let text-len = c .before .before .before .before .text-len in
+    let args = c .before .before .before .before .before .before .before .args in
+    simp length-take (omega (arith, text-len .ensures, text-le (args .i .now)))
+
+octal-of-requires : tie.Need-octal-of-requires
+octal-of-requires c κs = search needs
+
+enum-known-v : tie.Need-enum-known-v
+enum-known-v c = search needs
+
+settled-requires : tie.Need-settled-requires
+settled-requires c κs = search needs
+
+enum-told : tie.Need-enum-told
+enum-told c = search needs
+
+returns-3 : tie.Need-returns-3
+returns-3 c =
+    let i = c .before .before .before .before .before .before .before .before .before .before .before .before .args .i .now in
+    let v = c .before .before .v .given .0 .0 in
+    let n = c .before .before .before .before .before .before .before .before .before .text-len .ensures in
+    let o : octalFrom 0 (take (textLen i) i) ≡ Number v = ap (λ (k : ℕ). octalFrom 0 (take k i)) (sym n) ∙ sym (c .before .before .before .before .octal-of .ensures) ∙ c .before .before .v .given .1 in
+    cc (read-number i (c .before .before .before .before .before .before .before .before .before .before .if1 .left) (omega arith) v o, n, c .settled .ensures, c .before .before .before .before .before .before .rest-at .ensures)
+
+returns-4 : tie.Need-returns-4
+returns-4 c =
+    let i = c .before .before .before .before .before .before .before .before .before .before .args .i .now in
+    let n = c .before .before .before .before .before .before .before .text-len .ensures in
+    sym (read-other i (c .before .before .before .before .before .before .before .before .if1 .left) (omega arith) (ap (λ (k : ℕ). octalFrom 0 (take k i)) (sym n) ∙ sym (c .before .before .octal-of .ensures) ∙ c .enum-told .given .1))
+
+pub extract-spec : {M : Type 1} → statement M
+extract-spec =
+    tie.close
+    (tie.spec
+    returns
+    text-len-requires
+    returns-2
+    shared-slice-read-first
+    rest-at-requires
+    slice-aggregate-octal-of
+    octal-of-requires
+    enum-known-v
+    settled-requires
+    enum-told
+    returns-3
+    returns-4)

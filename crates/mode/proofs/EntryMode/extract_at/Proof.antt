@@ -1,0 +1,67 @@
+-- `mode::extract_at` meets its contract. Assumes nothing.
+use borrow.Author.Needs.{needs}
+use Rattle.mode.proofs.EntryMode.extract_at.Statement.{statement}
+use Rattle.mode.proofs.EntryMode.extract_at.Tie as tie
+use mathlib.Core.Path.{sym, ap, _∙_}
+use native.Mathlib.Omega.{arith}
+use lib.ListN.{drop, length-drop}
+use Rattle.mode.specs.Read.{readModeAt, moved}
+use Rattle.mode.proofs.Laws.{past-reads, window-reads, read-next}
+
+returns : tie.Need-returns
+returns c = sym (past-reads _ _ (c .if1 .taken))
+
+eight-on-requires : tie.Need-eight-on-requires
+eight-on-requires c κs = search needs
+
+sub-extract : tie.Need-sub-extract
+sub-extract c = search needs
+
+part-extract-start : tie.Need-part-extract-start
+part-extract-start c = search needs
+
+part-extract-end : tie.Need-part-extract-end
+part-extract-end c = search needs
+
+extract-requires : tie.Need-extract-requires
+extract-requires c κs = search needs
+
+enum-known-m : tie.Need-enum-known-m
+enum-known-m c = search needs
+
+add-t13 : tie.Need-add-t13
+add-t13 c =
+    let args = c .before .before .before .before .before .before .before .before .args in
+    let e = sym (window-reads (args .s .now) (args .at) (c .before .before .before .before .before .before .if1 .left) _ (c .before .before .before .before .before .eight-on .ensures)) ∙ sym (c .before .before .before .extract .ensures) ∙ c .before .m .given .1 in
+    omega (arith, read-next (drop (args .at) (args .s .now)) _ _ e, length-drop (args .at) (args .s .now), c .before .before .before .before .before .before .if1 .left)
+
+enum-told : tie.Need-enum-told
+enum-told c = search needs
+
+returns-2 : tie.Need-returns-2
+unfolding readModeAt
+returns-2 c =
+    let args = c .before .before .before .before .before .before .before .before .args in
+    ap (moved (args .at)) (sym (c .before .m .given .1) ∙ c .before .before .before .extract .ensures ∙ window-reads (args .s .now) (args .at) (c .before .before .before .before .before .before .if1 .left) _ (c .before .before .before .before .before .eight-on .ensures))
+
+returns-3 : tie.Need-returns-3
+unfolding readModeAt
+returns-3 c =
+    let args = c .before .before .before .before .before .before .before .args in
+    ap (moved (args .at)) (sym (c .enum-told .given .1) ∙ c .before .before .extract .ensures ∙ window-reads (args .s .now) (args .at) (c .before .before .before .before .before .if1 .left) _ (c .before .before .before .before .eight-on .ensures))
+
+pub extract-at-spec : {M : Type 1} → statement M
+extract-at-spec =
+    tie.close
+    (tie.spec
+    returns
+    eight-on-requires
+    sub-extract
+    part-extract-start
+    part-extract-end
+    extract-requires
+    enum-known-m
+    add-t13
+    enum-told
+    returns-2
+    returns-3)

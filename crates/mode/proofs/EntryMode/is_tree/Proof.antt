@@ -1,0 +1,17 @@
+-- `mode::EntryMode::is_tree` meets its contract.
+-- Assumes nothing.
+use borrow.Author.Needs.{needs}
+use Rattle.mode.specs.Mode.{isTree}
+use Rattle.mode.proofs.Laws.{test}
+use Rattle.mode.proofs.EntryMode.is_tree.Statement.{statement}
+use Rattle.mode.proofs.EntryMode.is_tree.Tie as tie
+
+sort-requires : tie.Need-sort-requires
+sort-requires c κs = search needs
+
+returns : tie.Need-returns
+unfolding isTree
+returns c = test 0o40000 (c .sort .ensures)
+
+pub is-tree-spec : {M : Type 1} → statement M
+is-tree-spec = tie.close (tie.spec sort-requires returns)

@@ -1,0 +1,4 @@
+pub mod Mode
+pub mod Read
+pub mod Write
+pub mod Table

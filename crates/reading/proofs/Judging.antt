@@ -1,0 +1,143 @@
+-- Laws of the strict rules: each way through the tests of a name, of an entry, and what they say over the entries read before. Assumes nothing.
+use Prim.Native.Nat.{ℕ, _≤_}
+use native.Mathlib.Omega.{arith}
+use mathlib.Core.Path.{_≡_, refl, sym, _∙_}
+use mathlib.Core.Bool.{Bool, true, false, not, _||_, false≢true}
+use mathlib.Core.List.{List, [], _∷_, map}
+use lib.ListN.{length}
+use Rattle.ground.specs.Basics.{pick, ascii}
+use Rattle.ground.specs.Scan.{countTo, sameBytes, freeOf}
+use Rattle.ground.proofs.Laws.{is-false, and-left, and-right, whole-free, free-whole}
+use Rattle.mode.specs.Table.{rows, shown, findText}
+use Rattle.mode.specs.declared.EntryMode.{EntryMode}
+use Rattle.mode.specs.declared.Written.{Written}
+use Rattle.mode.specs.declared.ModeFound.the-variants as found
+use Rattle.order.specs.Order.{nameOrder}
+use Rattle.order.specs.declared.Order.{Order}
+use Rattle.entry.specs.Record.{nameOf, folderOf}
+use Rattle.entry.specs.Entry.{entryOf}
+use Rattle.entry.specs.declared.EntryRecord.{EntryRecord}
+use Rattle.reading.specs.Rules.{isText, judge, textOf, permitted, isBelow, standsBefore, isAfter, gitRules}
+use Rattle.reading.specs.Code.{LastWithin, lastOf, afterAt, judgeAt}
+use Rattle.reading.specs.declared.Last.{Last}
+use Rattle.reading.specs.declared.Last.the-variants.{Nothing, After}
+
+-- ---- a mode text
+
+text-found : (t : List ℕ) (rs : List Written) (m : EntryMode) → findText t rs ≡ found.Mode m → isText rs t ≡ true
+text-found t [] m e = let z : _≡_ {A = ℕ} 0 1 = cc in absurd (omega arith)
+text-found t (r ∷ rs) m e = go (text-found t rs m) (sameBytes t (shown (r .text))) e
+  where
+    go : (findText t rs ≡ found.Mode m → isText rs t ≡ true) → (v : Bool) → pick v (found.Mode (record { internal = r .mode })) (findText t rs) ≡ found.Mode m
+        → (v || isText rs t) ≡ true
+    go ih true e = refl
+    go ih false e = ih e
+
+text-none : (t : List ℕ) (rs : List Written) → findText t rs ≡ found.None → isText rs t ≡ false
+text-none t [] e = refl
+text-none t (r ∷ rs) e = go (text-none t rs) (sameBytes t (shown (r .text))) e
+  where
+    go : (findText t rs ≡ found.None → isText rs t ≡ false) → (v : Bool) → pick v (found.Mode (record { internal = r .mode })) (findText t rs) ≡ found.None
+        → (v || isText rs t) ≡ false
+    go ih true e = let z : _≡_ {A = ℕ} 0 1 = cc in absurd (omega arith)
+    go ih false e = ih e
+
+-- ---- a name
+
+module _ (n : List ℕ) where
+  -- what a permitted name is
+  pub permitted-parts : permitted n ≡ true
+      → (not (sameBytes n []) ≡ true) × (freeOf 0 n ≡ true) × (freeOf 47 n ≡ true) × (not (sameBytes n (ascii ".")) ≡ true) × (not (sameBytes n (ascii "..")) ≡ true)
+      × (not (sameBytes n (ascii ".git")) ≡ true)
+  unfolding permitted
+  permitted-parts e =
+      let a = and-right (not (sameBytes n [])) _ e in
+      let b = and-right (freeOf 0 n) _ a in
+      let c = and-right (freeOf 47 n) _ b in
+      let d = and-right (not (sameBytes n (ascii "."))) _ c in (
+        and-left (not (sameBytes n [])) _ e,
+        and-left (freeOf 0 n) _ a,
+        and-left (freeOf 47 n) _ b,
+        and-left (not (sameBytes n (ascii "."))) _ c,
+        and-left (not (sameBytes n (ascii ".."))) _ d,
+        and-right (not (sameBytes n (ascii ".."))) _ d,
+      )
+
+  not-true : (b : Bool) → b ≡ true → not b ≡ true → ⊥
+  not-true b e f = let g = rw e at f in absurd (false≢true g)
+
+  empty-same : (k : ℕ) → k ≡ length n → k ≡ 0 → sameBytes n [] ≡ true
+  empty-same k e z = go n (sym e ∙ z)
+    where
+      go : (l : List ℕ) → length l ≡ 0 → sameBytes l [] ≡ true
+      go [] q = refl
+      go (x ∷ xs) q = absurd (omega arith)
+
+  some-same : (length n ≡ 0 → ⊥) → sameBytes n [] ≡ false
+  some-same f = go n f
+    where
+      go : (l : List ℕ) → (length l ≡ 0 → ⊥) → sameBytes l [] ≡ false
+      go [] q = absurd (q refl)
+      go (x ∷ xs) q = refl
+
+  pub name-empty : length n ≡ 0 → permitted n ≡ false
+  name-empty e = is-false (permitted n) (λ p. not-true _ (empty-same (length n) refl e) (permitted-parts p .0))
+
+  pub name-nul : (countTo 0 n ≡ length n → ⊥) → permitted n ≡ false
+  name-nul f = is-false (permitted n) (λ p. f (whole-free 0 n (permitted-parts p .1)))
+
+  pub name-slash : (countTo 47 n ≡ length n → ⊥) → permitted n ≡ false
+  name-slash f = is-false (permitted n) (λ p. f (whole-free 47 n (permitted-parts p .2)))
+
+  pub name-dot : sameBytes n (ascii ".") ≡ true → permitted n ≡ false
+  name-dot e = is-false (permitted n) (λ p. not-true _ e (permitted-parts p .3))
+
+  pub name-dots : sameBytes n (ascii "..") ≡ true → permitted n ≡ false
+  name-dots e = is-false (permitted n) (λ p. not-true _ e (permitted-parts p .4))
+
+  pub name-git : sameBytes n (ascii ".git") ≡ true → permitted n ≡ false
+  name-git e = is-false (permitted n) (λ p. not-true _ e (permitted-parts p .5))
+
+  pub name-fine : (length n ≡ 0 → ⊥) → countTo 0 n ≡ length n → countTo 47 n ≡ length n → sameBytes n (ascii ".") ≡ false → sameBytes n (ascii "..") ≡ false
+      → sameBytes n (ascii ".git") ≡ false → permitted n ≡ true
+  unfolding permitted
+  name-fine a b c d e f = rw (some-same a, free-whole 0 n b, free-whole 47 n c, d, e, f)
+
+-- ---- an entry after the one before
+
+-- the entry before lies inside
+pub last-within : (len : ℕ) {last : Last} {p : EntryRecord} → last ≡ After p → LastWithin len last → (p .«name_start» ≤ p .«name_end») × (p .«name_end» ≤ len)
+last-within len q w = rw q at w
+
+module _ (s : List ℕ) (e : EntryRecord) where
+  pub after-first : {last : Last} → last ≡ Nothing → afterAt s last e ≡ 0
+  unfolding afterAt
+  after-first q = rw q
+
+  pub after-by : {last : Last} (p : EntryRecord) (o : Order) → last ≡ After p → nameOrder (nameOf s p) (folderOf p) (nameOf s e) (folderOf e) ≡ o
+      → afterAt s last e ≡ pick (isBelow o) 0 7
+  unfolding afterAt
+  after-by p o q r = rw (q, r)
+
+-- ---- an entry
+
+module _ (s : List ℕ) (last : Last) (at : ℕ) (e : EntryRecord) where
+  pub judge-text : findText (textOf s at e) rows ≡ found.None → judgeAt s last at e ≡ 5
+  unfolding judgeAt
+  judge-text f = rw (text-none (textOf s at e) rows f)
+
+  module _ (m : EntryMode) (f : findText (textOf s at e) rows ≡ found.Mode m) where
+    pub judge-name : permitted (nameOf s e) ≡ false → judgeAt s last at e ≡ 6
+    unfolding judgeAt
+    judge-name p = rw (text-found (textOf s at e) rows m f, p)
+
+    pub judge-after : permitted (nameOf s e) ≡ true → judgeAt s last at e ≡ afterAt s last e
+    unfolding judgeAt
+    judge-after p = rw (text-found (textOf s at e) rows m f, p)
+
+-- the leaves say what the rules say over the entries that were read before, the nearest first
+pub judges : (h : ℕ) (s : List ℕ) (seen : List EntryRecord) (at : ℕ) (e : EntryRecord)
+    → judgeAt s (lastOf seen) at e ≡ judge gitRules (map (entryOf h s) seen) (textOf s at e) (entryOf h s e)
+unfolding judgeAt judge afterAt gitRules isAfter standsBefore entryOf folderOf
+judges h s [] at e = refl
+judges h s (p ∷ ps) at e = refl

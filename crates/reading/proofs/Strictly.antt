@@ -1,0 +1,85 @@
+-- The strict reader's first pass, turn by turn: what holds at the head of a turn, and what each way out of a turn gives. Assumes nothing.
+use Prim.Native.Nat.{ℕ, _+_, _<_, _≤_}
+use native.Mathlib.Omega.{arith}
+use mathlib.Core.Path.{_≡_, refl, ap, sym, _∙_}
+use mathlib.Core.List.{List, [], _∷_, map}
+use lib.ListN.{length, drop}
+use Rattle.ground.specs.Verdict.{verdict, mostRecords}
+use Rattle.ground.specs.declared.Verdict.{Verdict}
+use Rattle.mode.proofs.Laws.{read-next}
+use Rattle.entry.specs.Entry.{entryOf}
+use Rattle.entry.specs.Decode.{decode}
+use Rattle.entry.specs.declared.EntryRecord.{EntryRecord}
+use Rattle.entry.specs.declared.Cursor.{Cursor}
+use Rattle.entry.specs.declared.Decoded.the-variants.{Whole, Broken}
+use Rattle.entry.proofs.Laws.{decode-inside, decode-parts}
+use Rattle.reading.specs.Listing.{Listing, tally}
+use Rattle.reading.specs.Rules.{judge, textOf, cut, strictly, gitRules}
+use Rattle.reading.specs.Code.{Within, LastWithin, lastOf, judgeAt}
+use Rattle.reading.specs.declared.Last.{Last}
+use Rattle.reading.specs.declared.Last.the-variants.{Nothing, After}
+use Rattle.reading.specs.declared.Counted.the-variants.{Total, Stopped}
+use Rattle.reading.proofs.Laws.{restAt, rest-end, rest-full, rest-broken, rest-whole, cut-bad, cut-fine}
+use Rattle.reading.proofs.Judging.{judges}
+
+-- the head of a turn: n entries are read, the nearest of them first in `seen`, and the count from the start is the count from here
+pub record Reading (h : ℕ) (s : List ℕ) (at n : ℕ) (last : Last) : Type 0 where
+  pub seen : List EntryRecord
+  pub few : n ≤ mostRecords
+  pub nearest : last ≡ lastOf seen
+  pub inside : LastWithin (length s) last
+  pub same : tally 0 (strictly gitRules h s) ≡ tally n (cut gitRules h s (map (entryOf h s) seen) (restAt h s at n))
+
+pub reading-start : (h : ℕ) (s : List ℕ) → Reading h s 0 0 Nothing
+reading-start h s = record { seen = []; few = omega arith; nearest = refl; inside = tt; same = refl }
+
+-- an entry that was decoded lies inside, past its mode text and a space
+pub decoded-within : (h : ℕ) (s : List ℕ) (at : ℕ) (e : EntryRecord) (next : Cursor) → decode h at (drop at s) ≡ Whole e next → Within (length s) at e
+decoded-within h s at e next d =
+    let i = decode-inside h s at e next d in
+    let p = decode-parts h at (drop at s) e next d in
+    let a : e .«name_start» ≡ at + p .size = ap (λ (x : EntryRecord). x .«name_start») (p .laid) in
+    (omega (arith, read-next (drop at s) (e .mode) (p .size) (p .reads)), omega arith, omega arith)
+
+module _ (h : ℕ) (s : List ℕ) (at n : ℕ) (last : Last) (r : Reading h s at n last) where
+  abbrev from : Listing → Listing
+  from l = cut gitRules h s (map (entryOf h s) (r .seen)) l
+
+  pub reading-end : length s ≤ at → Total n ≡ tally 0 (strictly gitRules h s)
+  unfolding tally cut
+  reading-end p = sym (r .same ∙ ap (λ (l : Listing). tally n (from l)) (rest-end h s at n p))
+
+  module _ (p : at < length s) where
+    pub reading-full : mostRecords ≤ n → Stopped (verdict 2 0) ≡ tally 0 (strictly gitRules h s)
+    unfolding tally cut
+    reading-full f = sym (r .same ∙ ap (λ (l : Listing). tally n (from l)) (rest-full h s at n p f))
+
+    module _ (f : n < mostRecords) where
+      pub reading-broken : {v : Verdict} → decode h at (drop at s) ≡ Broken v → Stopped v ≡ tally 0 (strictly gitRules h s)
+      unfolding tally cut
+      reading-broken d = sym (r .same ∙ ap (λ (l : Listing). tally n (from l)) (rest-broken h s at n p f d))
+
+      module _ (e : EntryRecord) (next : Cursor) (number : ℕ) (d : decode h at (drop at s) ≡ Whole e next) (j : number ≡ judgeAt s last at e) where
+        said : number ≡ judge gitRules (map (entryOf h s) (r .seen)) (textOf s at e) (entryOf h s e)
+        said = j ∙ ap (λ (x : Last). judgeAt s x at e) (r .nearest) ∙ judges h s (r .seen) at e
+
+        pub reading-refused : (number ≡ 0 → ⊥) → Stopped (verdict number at) ≡ tally 0 (strictly gitRules h s)
+        unfolding tally
+        reading-refused z =
+            sym (r .same ∙ ap (λ (l : Listing). tally n (from l)) (rest-whole h s at n p f d)
+            ∙ ap (tally n) (cut-bad gitRules h s (map (entryOf h s) (r .seen)) at e (restAt h s (next .at) (n + 1)) (λ q. z (said ∙ q)))
+            ∙ ap (λ (k : ℕ). Stopped (verdict k at)) (sym said))
+
+        pub reading-kept : number ≡ 0 → Reading h s (next .at) (n + 1) (After e)
+        unfolding tally
+        reading-kept z =
+            let w = decoded-within h s at e next d in
+            record {
+              seen = e ∷ r .seen;
+              few = omega arith;
+              nearest = refl;
+              inside = (w .1, w .2);
+              same =
+                  r .same ∙ ap (λ (l : Listing). tally n (from l)) (rest-whole h s at n p f d)
+                  ∙ ap (tally n) (cut-fine gitRules h s (map (entryOf h s) (r .seen)) at e (restAt h s (next .at) (n + 1)) (sym said ∙ z));
+            }

@@ -1,0 +1,4 @@
+pub mod Listing
+pub mod Rules
+pub mod Whole
+pub mod Code

@@ -1,0 +1,81 @@
+-- Strict reading: a listing, cut at the first entry that its rules do not permit; and the rules themselves (docs/FORMAT.md, "Strict reading").
+-- Assumes nothing.
+use Prim.Native.Nat.{ℕ, zero, suc, _-_}
+use mathlib.Core.Bool.{Bool, true, false, not, _&&_, _||_}
+use mathlib.Core.List.{List, [], _∷_}
+use lib.Dec.{eqb}
+use Rattle.ground.specs.Basics.{pick, ascii, part}
+use Rattle.ground.specs.Scan.{sameBytes, freeOf}
+use Rattle.ground.specs.Verdict.{verdict}
+use Rattle.mode.specs.Mode.{isTree}
+use Rattle.mode.specs.Table.{rows, shown}
+use Rattle.mode.specs.declared.Written.{Written}
+use Rattle.order.specs.Order.{nameOrder}
+use Rattle.order.specs.declared.Order.{Order}
+use Rattle.order.specs.declared.Order.the-variants.{Below, Same, Above}
+use Rattle.entry.specs.Entry.{Entry, entryOf}
+use Rattle.entry.specs.declared.EntryRecord.{EntryRecord}
+use Rattle.reading.specs.Listing.{Listing, done, stop, entry, listing}
+
+-- What is permitted: the rows of the mode table, and what is said of a name, and of an entry after the ones before it, the nearest first.
+-- A 0 says that it is permitted; any other number is the refusal.
+pub record Rules : Type 0 where
+  pub modes : List Written
+  pub nameNo : List ℕ → ℕ
+  pub afterNo : List Entry → Entry → ℕ
+
+-- the first number that is not 0
+abbrev pub orElse : ℕ → ℕ → ℕ
+orElse zero j = j
+orElse (suc i) j = suc i
+
+-- a mode text of one of the rows
+abbrev pub isText : List Written → List ℕ → Bool
+isText [] t = false
+isText (r ∷ rs) t = sameBytes t (shown (r .text)) || isText rs t
+
+-- what the rules say of an entry with its mode text, after the entries before: 5, then its name, then its place
+unfoldable pub judge : Rules → List Entry → List ℕ → Entry → ℕ
+judge R before text e = orElse (pick (isText (R .modes) text) 0 5) (orElse (R .nameNo (e .name)) (R .afterNo before e))
+
+-- the mode text of an entry at a place: all that stands before the space ahead of its name
+unfoldable pub textOf : List ℕ → ℕ → EntryRecord → List ℕ
+textOf s at e = part at (e .«name_start» - 1) s
+
+-- a listing of the object s, cut at the first entry that is not permitted after those before it
+unfoldable pub cut : Rules → ℕ → List ℕ → List Entry → Listing → Listing
+cut R h s before done = done
+cut R h s before (stop v) = stop v
+cut R h s before (entry at e l) =
+    pick (eqb (judge R before (textOf s at e) (entryOf h s e)) 0) (entry at e (cut R h s (entryOf h s e ∷ before) l))
+    (stop (verdict (judge R before (textOf s at e) (entryOf h s e)) at))
+
+-- the strict reading of a whole object
+abbrev pub strictly : Rules → ℕ → List ℕ → Listing
+strictly R h s = cut R h s [] (listing h s)
+
+-- ---- the present rules
+
+-- not empty, free of NUL and slash, and none of `.`, `..` and `.git`
+unfoldable pub permitted : List ℕ → Bool
+permitted n =
+    not (sameBytes n []) && (freeOf 0 n && (freeOf 47 n
+    && (not (sameBytes n (ascii ".")) && (not (sameBytes n (ascii "..")) && not (sameBytes n (ascii ".git"))))))
+
+abbrev pub isBelow : Order → Bool
+isBelow Below = true
+isBelow Same = false
+isBelow Above = false
+
+-- one entry stands strictly before another in Git's order
+unfoldable pub standsBefore : Entry → Entry → Bool
+standsBefore a b = isBelow (nameOrder (a .name) (isTree (a .mode)) (b .name) (isTree (b .mode)))
+
+-- an entry stands strictly after the nearest before it
+unfoldable pub isAfter : List Entry → Entry → Bool
+isAfter [] e = true
+isAfter (p ∷ ps) e = standsBefore p e
+
+-- the five written modes; 6 for a name; 7 for an entry that does not stand after the one before
+unfoldable pub gitRules : Rules
+gitRules = record { modes = rows; nameNo = λ n. pick (permitted n) 0 6; afterNo = λ before e. pick (isAfter before e) 0 7 }

@@ -1,0 +1,256 @@
+// A whole tree object into lent records, plainly and strictly (docs/FORMAT.md, "Reading" and "Strict reading"). Follows tree/ref_iter.rs.
+ghost use mathlib.Core.Path.{_≡_};
+ghost use Prim.Native.Nat.{_≤_};
+ghost use lib.ListN.{length};
+ghost use lib.Seq.{sets};
+ghost use Rattle.ground.specs.Verdict.{stored};
+ghost use Rattle.entry.specs.Record.{many};
+ghost use Rattle.reading.specs.Listing.{listing, tally, recordsIn, flats};
+ghost use Rattle.reading.specs.Rules.{permitted, gitRules, strictly};
+ghost use Rattle.reading.specs.Whole.{inRoom, readAnswer, readRecords};
+ghost use Rattle.reading.specs.Code.{Within, LastWithin, afterAt, judgeAt};
+use entry::Cursor;
+use entry::Decoded;
+use entry::EntryRecord;
+use entry::WIDTH;
+use entry::is_folder;
+use entry::put_entry;
+use ground::Answer;
+use ground::Gate;
+use ground::MOST_RECORDS;
+use ground::Verdict;
+use ground::bounds;
+use ground::count_to;
+use ground::same_bytes;
+use mode::ModeFound;
+use mode::written_mode;
+use order::Order;
+use order::name_order;
+
+// How many entries an object has, or the refusal that reading it met.
+enum Counted {
+    Total(usize),
+    Stopped(Verdict),
+}
+
+// The entry before the one that is read.
+enum Last {
+    Nothing,
+    After(EntryRecord),
+}
+
+// The first pass of the plain reader.
+fn count_plain(s: &[u8], h: usize) -> Counted
+    ensures { λ r. ⌜ r ≡ tally 0 (listing h (now (s .entry))) ⌝ }
+{
+    let mut c = Cursor { at: 0 };
+    let mut n: usize = 0;
+    while c.at < s.len() {
+        if MOST_RECORDS <= n {
+            return Counted::Stopped(Verdict {
+                number: 2,
+                place: 0,
+            });
+        }
+        match c.decode(s, h) {
+            Decoded::Whole(_, next) => {
+                c = next;
+                n += 1;
+            }
+            Decoded::Broken(v) => {
+                return Counted::Stopped(v);
+            }
+        }
+    }
+    Counted::Total(n)
+}
+
+// Whether the strict reader permits a name.
+fn name_permitted(name: &[u8]) -> bool
+    ensures { λ r. ⌜ r ≡ permitted (now (name .entry)) ⌝ }
+{
+    let all = name.len();
+    if all == 0 {
+        return false;
+    }
+    if count_to(name, 0) != all {
+        return false;
+    }
+    if count_to(name, 47) != all {
+        return false;
+    }
+    if same_bytes(name, b".") {
+        return false;
+    }
+    if same_bytes(name, b"..") {
+        return false;
+    }
+    if same_bytes(name, b".git") {
+        return false;
+    }
+    true
+}
+
+// 7 where an entry does not stand after the one before, else 0.
+fn after_number(s: &[u8], last: Last, e: EntryRecord) -> usize
+    requires { ⌜ LastWithin (length (now s)) last ⌝ }
+    requires { ⌜ (e .«name_start» ≤ e .«name_end») × (e .«name_end» ≤ length (now s)) ⌝ }
+    ensures { λ r. ⌜ r ≡ afterAt (now (s .entry)) last e ⌝ }
+{
+    match last {
+        Last::Nothing => 0,
+        Last::After(p) => {
+            let from = p.name_start;
+            let to = p.name_end;
+            let start = e.name_start;
+            let end = e.name_end;
+            match name_order(&s[from..to], is_folder(p), &s[start..end], is_folder(e)) {
+                Order::Below => 0,
+                Order::Same => 7,
+                Order::Above => 7,
+            }
+        }
+    }
+}
+
+// What the strict rules say of an entry at a place: 0, 5, 6 or 7.
+fn judge_entry(s: &[u8], last: Last, at: usize, e: EntryRecord) -> usize
+    requires { ⌜ LastWithin (length (now s)) last ⌝ }
+    requires { ⌜ Within (length (now s)) at e ⌝ }
+    ensures { λ r. ⌜ r ≡ judgeAt (now (s .entry)) last at e ⌝ }
+{
+    let start = e.name_start;
+    let end = e.name_end;
+    let space = start - 1;
+    match written_mode(&s[at..space]) {
+        ModeFound::None => 5,
+        ModeFound::Mode(_) => {
+            if name_permitted(&s[start..end]) {
+                return after_number(s, last, e);
+            }
+            6
+        }
+    }
+}
+
+// The first pass of the strict reader.
+fn count_strict(s: &[u8], h: usize) -> Counted
+    ensures { λ r. ⌜ r ≡ tally 0 (strictly gitRules h (now (s .entry))) ⌝ }
+{
+    let mut c = Cursor { at: 0 };
+    let mut n: usize = 0;
+    let mut last = Last::Nothing;
+    while c.at < s.len() {
+        if MOST_RECORDS <= n {
+            return Counted::Stopped(Verdict {
+                number: 2,
+                place: 0,
+            });
+        }
+        match c.decode(s, h) {
+            Decoded::Whole(e, next) => {
+                let at = c.at;
+                let number = judge_entry(s, last, at, e);
+                if number != 0 {
+                    return Counted::Stopped(Verdict { number, place: at });
+                }
+                last = Last::After(e);
+                c = next;
+                n += 1;
+            }
+            Decoded::Broken(v) => {
+                return Counted::Stopped(v);
+            }
+        }
+    }
+    Counted::Total(n)
+}
+
+// The second pass of both: the records of an object that was read to its end, from the front of the lent list.
+fn fill(s: &[u8], h: usize, count: usize, records: &mut [usize])
+    requires { ⌜ tally 0 (listing h (now s)) ≡ Counted.Total count ⌝ }
+    requires { ⌜ count ≤ many (length (now records)) ⌝ }
+    ensures { λ r. ⌜ now (records .exit) ≡ sets (now (records .entry)) 0 (flats (recordsIn (listing h (now (s .entry))))) ⌝ }
+{
+    let mut c = Cursor { at: 0 };
+    let mut n: usize = 0;
+    while n < count {
+        match c.decode(s, h) {
+            Decoded::Whole(e, next) => {
+                put_entry(records, n, e);
+                c = next;
+                n += 1;
+            }
+            Decoded::Broken(_) => {
+                return;
+            }
+        }
+    }
+}
+
+// The answer for an object of so many entries: 4 where the lent list is too short for them, else they are stored.
+fn finish(s: &[u8], h: usize, count: usize, records: &mut [usize]) -> Answer
+    requires { ⌜ tally 0 (listing h (now s)) ≡ Counted.Total count ⌝ }
+    ensures { λ r. ⌜ r ≡ inRoom (many (length (now (records .entry)))) (Counted.Total count) ⌝ }
+    ensures { λ r. ⌜ now (records .exit) ≡ stored (inRoom (many (length (now (records .entry)))) (Counted.Total count) .verdict) (flats (recordsIn (listing h (now (s .entry))))) (now (records .entry)) ⌝ }
+{
+    if records.len() / WIDTH < count {
+        return Answer {
+            verdict: Verdict {
+                number: 4,
+                place: count,
+            },
+            count: 0,
+        };
+    }
+    fill(s, h, count, records);
+    Answer {
+        verdict: Verdict {
+            number: 0,
+            place: 0,
+        },
+        count,
+    }
+}
+
+// The object's entries as records, four numbers each; a refusal changes none of the numbers lent.
+pub fn read_tree(bytes: &[u8], h: usize, records: &mut [usize]) -> Answer
+    ensures answer { λ r. ⌜ r ≡ readAnswer h (now (bytes .entry)) (listing h (now (bytes .entry))) (now (records .entry)) ⌝ }
+    ensures records { λ r. ⌜ now (records .exit) ≡ readRecords h (now (bytes .entry)) (listing h (now (bytes .entry))) (now (records .entry)) ⌝ }
+{
+    let room = records.len() / WIDTH;
+    match bounds(h, bytes.len(), room) {
+        Gate::Shut(v) => Answer {
+            verdict: v,
+            count: 0,
+        },
+        Gate::Open => match count_plain(bytes, h) {
+            Counted::Stopped(w) => Answer {
+                verdict: w,
+                count: 0,
+            },
+            Counted::Total(n) => finish(bytes, h, n, records),
+        },
+    }
+}
+
+// The same for an object that keeps the strict rules.
+pub fn read_tree_strict(bytes: &[u8], h: usize, records: &mut [usize]) -> Answer
+    ensures answer { λ r. ⌜ r ≡ readAnswer h (now (bytes .entry)) (strictly gitRules h (now (bytes .entry))) (now (records .entry)) ⌝ }
+    ensures records { λ r. ⌜ now (records .exit) ≡ readRecords h (now (bytes .entry)) (strictly gitRules h (now (bytes .entry))) (now (records .entry)) ⌝ }
+{
+    let room = records.len() / WIDTH;
+    match bounds(h, bytes.len(), room) {
+        Gate::Shut(v) => Answer {
+            verdict: v,
+            count: 0,
+        },
+        Gate::Open => match count_strict(bytes, h) {
+            Counted::Stopped(w) => Answer {
+                verdict: w,
+                count: 0,
+            },
+            Counted::Total(n) => finish(bytes, h, n, records),
+        },
+    }
+}
