@@ -60,6 +60,10 @@ pub by-same : {x y : ℕ} → byNumber x y ≡ Same → x ≡ y
 by-same {x} {y} h =
     ⊎-elim (λ k. absurd (below≢same (by-lt k) h)) (⊎-elim (λ k. k) (λ k. absurd (above≢same (by-gt k) h))) (three x y)
 
+pub by-above : {x y : ℕ} → byNumber x y ≡ Above → y < x
+by-above {x} {y} h =
+    ⊎-elim (λ k. absurd (above≢below h (by-lt k))) (⊎-elim (λ k. absurd (above≢same h (by-eq k))) (λ k. k)) (three x y)
+
 by-flip : (x y : ℕ) → byNumber y x ≡ opposite (byNumber x y)
 by-flip x y =
     ⊎-elim (λ k. by-gt k ∙ sym (ap opposite (by-lt k)))
@@ -177,7 +181,8 @@ free-first x a h = go (eqb x 47) refl h
     go false e h = ((λ q. false≢true (sym e ∙ eq-eqb x 47 q)), h)
 
 -- names without a slash are Same only where they are one name of one sort
-pub order-same : (a : List ℕ) (s : Bool) (b : List ℕ) (t : Bool) → freeOf 47 a ≡ true → freeOf 47 b ≡ true → nameOrder a s b t ≡ Same → (a ≡ b) × (s ≡ t)
+pub order-same : (a : List ℕ) (s : Bool) (b : List ℕ) (t : Bool) → freeOf 47 a ≡ true → freeOf 47 b ≡ true → nameOrder a s b t ≡ Same
+    → (a ≡ b) × (s ≡ t)
 unfolding nameOrder next
 order-same [] true [] true p q h = (refl, refl)
 order-same [] true [] false p q h = absurd (omega (arith, by-same h))
@@ -206,6 +211,14 @@ order-between (x ∷ a) (y ∷ c) u h k =
     let e : x ≡ y = omega (arith, first-le x a false y c u h, first-le y c u x a true k) in
     let w = order-between a c u (rw (by-eq e) at h) (rw (by-eq (sym e)) at k) in
     (w .0, w .1, cc, w .3)
+
+-- a name without a slash stands to b, a slash and anything as it stands to tree b
+pub order-slash : (a : List ℕ) (s : Bool) (b rest : List ℕ) (t : Bool) → freeOf 47 a ≡ true → nameOrder a s (b ++ (47 ∷ rest)) t ≡ nameOrder a s b true
+unfolding nameOrder next
+order-slash [] s [] rest t p = refl
+order-slash [] s (y ∷ b) rest t p = refl
+order-slash (x ∷ a) s [] rest t p = differ x 47 (nameOrder a s rest t) (free-first x a p .0)
+order-slash (x ∷ a) s (y ∷ b) rest t p = ap (orElse (byNumber x y)) (order-slash a s b rest t (free-first x a p .1))
 
 -- ---- the numbers
 

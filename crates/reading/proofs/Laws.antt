@@ -35,7 +35,7 @@ use Rattle.reading.specs.declared.Counted.the-variants.{Total, Stopped}
 abbrev pub restAt : ℕ → List ℕ → ℕ → ℕ → Listing
 restAt h s at n = plain h (mostRecords - n) at (drop at s)
 
-plain-none : (h left at : ℕ) → plain h left at [] ≡ done
+pub plain-none : (h left at : ℕ) → plain h left at [] ≡ done
 unfolding plain
 plain-none h zero at = refl
 plain-none h (suc left) at = refl
@@ -211,6 +211,26 @@ module _ (l : Listing) (g : Gate) (room : ℕ) where
   pub answer-counted : {k : Counted} → g ≡ Open → tally 0 l ≡ k → answerOf g l room ≡ inRoom room k
   unfolding answerOf
   answer-counted q t = rw (q, t)
+
+-- a reading that was done: the call began, the listing was counted to its end, and there was room
+pub answer-done : (l : Listing) (h bytes records room n : ℕ) → Stops Refusal l → answerOf (gateOf h bytes records) l room ≡ counted n
+    → (gateOf h bytes records ≡ Open) × (tally 0 l ≡ Total n) × (n ≤ room)
+unfolding answerOf
+answer-done l h bytes records room n r e = start (gateOf h bytes records) refl e
+  where
+    last : (m : ℕ) → tally 0 l ≡ Total m → (v : Bool) → leb m room ≡ v → pick v (counted m) (refused (verdict 4 m)) ≡ counted n → (tally 0 l ≡ Total n) × (n ≤ room)
+    last m t true q e =
+        let z : m ≡ n = ap (λ (a : Answer). a .count) e in
+        (t ∙ ap Total z, omega (arith, leb-true m room q))
+    last m t false q e = let z : _≡_ {A = ℕ} 4 0 = ap (λ (a : Answer). a .verdict .number) e in absurd (omega arith)
+
+    go : (k : Counted) → tally 0 l ≡ k → inRoom room k ≡ counted n → (tally 0 l ≡ Total n) × (n ≤ room)
+    go (Total m) t e = last m t (leb m room) refl e
+    go (Stopped v) t e = absurd (tally-stops Refusal 0 l v r t (ap (λ (a : Answer). a .verdict .number) e))
+
+    start : (g : Gate) → gateOf h bytes records ≡ g → answerOf g l room ≡ counted n → (gateOf h bytes records ≡ Open) × (tally 0 l ≡ Total n) × (n ≤ room)
+    start Open q e = let w = go (tally 0 l) refl e in (q, w .0, w .1)
+    start (Shut v) q e = absurd (gate-refuses h bytes records v q (ap (λ (a : Answer). a .verdict .number) e))
 
 -- a refused reading leaves the lent list
 pub refused-both : {a : Answer} (v : Verdict) (l lent : List ℕ) → a ≡ refused v → Refusal v → (refused v ≡ a) × (lent ≡ stored (a .verdict) l lent)

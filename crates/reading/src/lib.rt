@@ -28,7 +28,7 @@ use order::Order;
 use order::name_order;
 
 // How many entries an object has, or the refusal that reading it met.
-enum Counted {
+pub enum Counted {
     Total(usize),
     Stopped(Verdict),
 }

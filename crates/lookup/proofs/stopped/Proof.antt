@@ -1,0 +1,12 @@
+-- `lookup::stopped` meets its contract. Assumes nothing.
+use Rattle.lookup.proofs.stopped.Statement.{statement}
+use Rattle.lookup.proofs.stopped.Tie as tie
+use mathlib.Core.Path.{refl}
+use Rattle.lookup.specs.Probe.{stoppedOf}
+
+returns : tie.Need-returns
+unfolding stoppedOf
+returns c = refl
+
+pub stopped-spec : {M : Type 1} → statement M
+stopped-spec = tie.close (tie.spec returns)

@@ -1,0 +1,5 @@
+pub mod Back
+pub mod Cutting
+pub mod Settling
+pub mod Theorem
+pub mod Present

@@ -1,0 +1,193 @@
+-- The present rules keep the laws of the theorem; and a sound listing in plain words is a sound listing under them. Assumes nothing.
+use Prim.Native.Nat.{ℕ, suc}
+use native.Mathlib.Omega.{arith}
+use mathlib.Core.Path.{_≡_, refl, sym, ap}
+use mathlib.Core.Bool.{Bool, true, false, not, _||_, false≢true}
+use mathlib.Core.List.{List, [], _∷_}
+use mathlib.Core.Logic.{_⊎_, inl, inr, _↔_}
+use lib.Dec.{eqb}
+use borrow.Author.Tests.{eqb-true}
+use Rattle.ground.specs.Basics.{pick, ascii}
+use Rattle.ground.specs.Scan.{sameBytes}
+use Rattle.ground.proofs.Laws.{is-false, same-refl, same-true}
+use Rattle.mode.specs.Table.{rows}
+use Rattle.mode.specs.Write.{writeMode, again}
+use Rattle.order.specs.declared.Order.{Order}
+use Rattle.order.specs.declared.Order.the-variants.{Below, Same, Above}
+use Rattle.entry.specs.Entry.{Entry}
+use Rattle.reading.specs.Rules.{permitted, isBelow, standsBefore, isAfter, gitRules}
+use Rattle.reading.proofs.Judging.{permitted-parts}
+use Rattle.one_listing.specs.Sound.{isMode, Permitted, Sound, SoundEntry, Before, Ascending, EachSound, SoundListing}
+use Rattle.one_listing.specs.Demand.{OneListing, ShortRoom, OneObject}
+use Rattle.one_listing.proofs.Cutting.{RowsOk, RulesOk}
+use Rattle.one_listing.proofs.Theorem.{one-listing, short-room, one-object}
+
+-- ---- the laws
+
+rows-ok : RowsOk rows
+unfolding rows writeMode again
+rows-ok = (
+  record { written = refl; some = λ e. omega arith; small = omega arith; same = refl },
+  (
+    record { written = refl; some = λ e. omega arith; small = omega arith; same = refl },
+    (
+      record { written = refl; some = λ e. omega arith; small = omega arith; same = refl },
+      (
+        record { written = refl; some = λ e. omega arith; small = omega arith; same = refl },
+        (
+          record { written = refl; some = λ e. omega arith; small = omega arith; same = refl },
+          tt,
+        ),
+      ),
+    ),
+  ),
+)
+
+passed : (v : Bool) (j : ℕ) → _≡_ {A = ℕ} (pick v 0 (suc j)) 0 → v ≡ true
+passed true j e = refl
+passed false j e = absurd (omega arith)
+
+fine : (v : Bool) (j : ℕ) → v ≡ true → _≡_ {A = ℕ} (pick v 0 (suc j)) 0
+fine v j e = rw e
+
+below-is : (o : Order) → isBelow o ≡ true → o ≡ Below
+below-is Below e = refl
+below-is Same e = absurd (false≢true e)
+below-is Above e = absurd (false≢true e)
+
+after-before : (p : Entry) (ps : List Entry) (e : Entry) → isAfter (p ∷ ps) e ≡ true → Before p e
+unfolding isAfter standsBefore
+after-before p ps e q = below-is _ q
+
+before-after : (p : Entry) (ps : List Entry) (e : Entry) → Before p e → isAfter (p ∷ ps) e ≡ true
+unfolding isAfter standsBefore
+before-after p ps e q = ap isBelow q
+
+pub git-ok : RulesOk gitRules
+unfolding gitRules
+git-ok =
+    record {
+      modes = rows-ok;
+      names = λ n e. permitted-parts n (passed (permitted n) 5 e) .1;
+      after = λ p ps e q. after-before p ps e (passed (isAfter (p ∷ ps) e) 6 q);
+    }
+
+-- ---- in plain words
+
+-- Git's five modes are the modes of the rows
+abbrev Five : ℕ → Type 0
+Five m = (m ≡ 0o40000) ⊎ ((m ≡ 0o100644) ⊎ ((m ≡ 0o100755) ⊎ ((m ≡ 0o120000) ⊎ (m ≡ 0o160000))))
+
+mode-five : (m : ℕ) → isMode rows m ≡ true → Five m
+unfolding isMode rows
+mode-five m e = first (eqb 0o40000 m) refl e
+  where
+    is : (k : ℕ) → eqb k m ≡ true → m ≡ k
+    is k q = sym (eqb-true k m q)
+
+    fifth : (v : Bool) → eqb 0o160000 m ≡ v → (v || false) ≡ true → m ≡ 0o160000
+    fifth true q e = is 0o160000 q
+    fifth false q e = absurd (false≢true e)
+
+    fourth : (v : Bool) → eqb 0o120000 m ≡ v → (v || (eqb 0o160000 m || false)) ≡ true → (m ≡ 0o120000) ⊎ (m ≡ 0o160000)
+    fourth true q e = inl (is 0o120000 q)
+    fourth false q e = inr (fifth (eqb 0o160000 m) refl e)
+
+    third : (v : Bool) → eqb 0o100755 m ≡ v → (v || (eqb 0o120000 m || (eqb 0o160000 m || false))) ≡ true → (m ≡ 0o100755) ⊎ ((m ≡ 0o120000) ⊎ (m ≡ 0o160000))
+    third true q e = inl (is 0o100755 q)
+    third false q e = inr (fourth (eqb 0o120000 m) refl e)
+
+    second : (v : Bool) → eqb 0o100644 m ≡ v → (v || (eqb 0o100755 m || (eqb 0o120000 m || (eqb 0o160000 m || false)))) ≡ true
+        → (m ≡ 0o100644) ⊎ ((m ≡ 0o100755) ⊎ ((m ≡ 0o120000) ⊎ (m ≡ 0o160000)))
+    second true q e = inl (is 0o100644 q)
+    second false q e = inr (third (eqb 0o100755 m) refl e)
+
+    first : (v : Bool) → eqb 0o40000 m ≡ v → (v || (eqb 0o100644 m || (eqb 0o100755 m || (eqb 0o120000 m || (eqb 0o160000 m || false))))) ≡ true → Five m
+    first true q e = inl (is 0o40000 q)
+    first false q e = inr (second (eqb 0o100644 m) refl e)
+
+five-mode : (m : ℕ) → Five m → isMode rows m ≡ true
+unfolding isMode rows
+five-mode m (inl e) = rw e
+five-mode m (inr (inl e)) = rw e
+five-mode m (inr (inr (inl e))) = rw e
+five-mode m (inr (inr (inr (inl e)))) = rw e
+five-mode m (inr (inr (inr (inr e)))) = rw e
+
+-- a name that is not this one
+not-this : (n t : List ℕ) → not (sameBytes n t) ≡ true → n ≡ t → ⊥
+not-this n t e q = let g : not (sameBytes t t) ≡ true = rw q at e in let f : false ≡ true = rw (same-refl t) at g in absurd (false≢true f)
+
+this-not : (n t : List ℕ) → (n ≡ t → ⊥) → sameBytes n t ≡ false
+this-not n t f = is-false (sameBytes n t) (λ e. f (same-true n t e))
+
+permitted-plain : (h : ℕ) (before : List Entry) (e : Entry) → Permitted gitRules h before e → SoundEntry h e
+unfolding gitRules
+permitted-plain h before e p =
+    let n = permitted-parts (e .name) (passed (permitted (e .name)) 5 (p .named)) in
+    record {
+      mode = mode-five (e .mode) (p .known);
+      some = not-this (e .name) [] (n .0);
+      nulless = n .1;
+      slashless = n .2;
+      no-dot = not-this (e .name) (ascii ".") (n .3);
+      no-dots = not-this (e .name) (ascii "..") (n .4);
+      no-git = not-this (e .name) (ascii ".git") (n .5);
+      sized = p .sized;
+    }
+
+name-permitted : (h : ℕ) (e : Entry) → SoundEntry h e → permitted (e .name) ≡ true
+unfolding permitted
+name-permitted h e s =
+    rw (this-not (e .name) [] (s .some), s .nulless, s .slashless, this-not (e .name) (ascii ".") (s .no-dot), this-not (e .name) (ascii "..") (s .no-dots), this-not (e .name) (ascii ".git") (s .no-git))
+
+plain-permitted : (h : ℕ) (before : List Entry) (e : Entry) → SoundEntry h e → isAfter before e ≡ true → Permitted gitRules h before e
+unfolding gitRules
+plain-permitted h before e s a =
+    record { known = five-mode (e .mode) (s .mode); named = fine (permitted (e .name)) 5 (name-permitted h e s); placed = fine (isAfter before e) 6 a; sized = s .sized }
+
+sound-each : (h : ℕ) (before es : List Entry) → Sound gitRules h before es → EachSound h es
+sound-each h before [] s = tt
+sound-each h before (e ∷ es) s = (permitted-plain h before e (s .0), sound-each h (e ∷ before) es (s .1))
+
+sound-ascends : (h : ℕ) (before es : List Entry) → Sound gitRules h before es → Ascending es
+sound-ascends h before [] s = tt
+sound-ascends h before (a ∷ []) s = tt
+sound-ascends h before (a ∷ b ∷ es) s = (git-ok .after a before b (s .1 .0 .placed), sound-ascends h (a ∷ before) (b ∷ es) (s .1))
+
+-- the first entry stands after the one before
+abbrev Follows : List Entry → List Entry → Type 0
+Follows before [] = Unit {0}
+Follows before (e ∷ es) = isAfter before e ≡ true
+
+follows : (a : Entry) (ps es : List Entry) → Ascending (a ∷ es) → Follows (a ∷ ps) es
+follows a ps [] s = tt
+follows a ps (b ∷ es) s = before-after a ps b (s .0)
+
+ascends-rest : (a : Entry) (es : List Entry) → Ascending (a ∷ es) → Ascending es
+ascends-rest a [] s = tt
+ascends-rest a (b ∷ es) s = s .1
+
+each-sound : (h : ℕ) (before es : List Entry) → EachSound h es → Ascending es → Follows before es → Sound gitRules h before es
+each-sound h before [] s a f = tt
+each-sound h before (e ∷ es) s a f = (plain-permitted h before e (s .0) f, each-sound h (e ∷ before) es (s .1) (ascends-rest e es a) (follows e before es a))
+
+first-follows : (es : List Entry) → Follows [] es
+unfolding isAfter
+first-follows [] = tt
+first-follows (e ∷ es) = refl
+
+-- sound in plain words is sound under the present rules
+pub plainly : (h : ℕ) (es : List Entry) → SoundListing h es ↔ Sound gitRules h [] es
+plainly h es = ((λ s. each-sound h [] es (s .0) (s .1) (first-follows es)), (λ s. (sound-each h [] es s, sound-ascends h [] es s)))
+
+-- ---- the theorem for the present rules
+
+pub git-one-listing : OneListing gitRules
+git-one-listing = one-listing gitRules git-ok
+
+pub git-short-room : ShortRoom gitRules
+git-short-room = short-room gitRules git-ok
+
+pub git-one-object : OneObject gitRules
+git-one-object = one-object gitRules git-ok

@@ -1,0 +1,65 @@
+-- Sound listings, for any rules, and in plain words for the present ones. Assumes nothing.
+use Prim.Native.Nat.{ℕ}
+use mathlib.Core.Path.{_≡_}
+use mathlib.Core.Bool.{Bool, true, false, _||_}
+use mathlib.Core.List.{List, [], _∷_}
+use mathlib.Core.Logic.{_⊎_}
+use lib.Dec.{eqb}
+use lib.ListN.{length}
+use Rattle.ground.specs.Basics.{ascii}
+use Rattle.ground.specs.Scan.{freeOf}
+use Rattle.mode.specs.Mode.{isTree}
+use Rattle.mode.specs.declared.Written.{Written}
+use Rattle.order.specs.Order.{nameOrder}
+use Rattle.order.specs.declared.Order.the-variants.{Below}
+use Rattle.entry.specs.Entry.{Entry}
+use Rattle.reading.specs.Rules.{Rules}
+
+-- a mode of one of the rows
+unfoldable pub isMode : List Written → ℕ → Bool
+isMode [] m = false
+isMode (r ∷ rs) m = eqb (r .mode) m || isMode rs m
+
+-- an entry that rules permit after the ones before it, the nearest first, with an id of h bytes
+pub record Permitted (R : Rules) (h : ℕ) (before : List Entry) (e : Entry) : Type 0 where
+  pub known : isMode (R .modes) (e .mode) ≡ true
+  pub named : R .nameNo (e .name) ≡ 0
+  pub placed : R .afterNo before e ≡ 0
+  pub sized : length (e .id) ≡ h
+
+-- a listing that rules permit, after the entries before it
+abbrev pub Sound : Rules → ℕ → List Entry → List Entry → Type 0
+Sound R h before [] = Unit {0}
+Sound R h before (e ∷ es) = Permitted R h before e × Sound R h (e ∷ before) es
+
+-- ---- in plain words
+
+-- one of Git's five modes; a name that is not empty, has no NUL and no slash, and is none of `.`, `..`, `.git`; an id of h bytes
+pub record SoundEntry (h : ℕ) (e : Entry) : Type 0 where
+  pub mode : (e .mode ≡ 0o40000) ⊎ ((e .mode ≡ 0o100644) ⊎ ((e .mode ≡ 0o100755) ⊎ ((e .mode ≡ 0o120000) ⊎ (e .mode ≡ 0o160000))))
+  pub some : e .name ≡ [] → ⊥
+  pub nulless : freeOf 0 (e .name) ≡ true
+  pub slashless : freeOf 47 (e .name) ≡ true
+  pub no-dot : e .name ≡ ascii "." → ⊥
+  pub no-dots : e .name ≡ ascii ".." → ⊥
+  pub no-git : e .name ≡ ascii ".git" → ⊥
+  pub sized : length (e .id) ≡ h
+
+-- one entry stands strictly before another in Git's order
+abbrev pub Before : Entry → Entry → Type 0
+Before a b = nameOrder (a .name) (isTree (a .mode)) (b .name) (isTree (b .mode)) ≡ Below
+
+-- each entry stands strictly after the one before
+abbrev pub Ascending : List Entry → Type 0
+Ascending [] = Unit {0}
+Ascending (a ∷ []) = Unit {0}
+Ascending (a ∷ b ∷ es) = Before a b × Ascending (b ∷ es)
+
+-- each entry is sound
+abbrev pub EachSound : ℕ → List Entry → Type 0
+EachSound h [] = Unit {0}
+EachSound h (e ∷ es) = SoundEntry h e × EachSound h es
+
+-- a sound listing
+abbrev pub SoundListing : ℕ → List Entry → Type 0
+SoundListing h es = EachSound h es × Ascending es

@@ -1,0 +1,1 @@
+// One listing, one object: theorems over the definitions of the layers below, and no code (specs/Demand.antt states them).
