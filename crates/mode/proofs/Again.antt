@@ -5,10 +5,10 @@ use mathlib.Core.Bool.{Bool, true, false, _&&_, and-false}
 use mathlib.Core.List.{List, [], _∷_, _++_}
 use native.Mathlib.Omega.{arith}
 use lib.Dec.{eqb, ltb}
-use lib.ListN.{drop, take, length, getD}
+use lib.ListN.{drop, length, getD}
 use borrow.Author.Tests.{eq-eqb, ne-eqb, le-leb, lt-ltb, eqb-true, eqb-false, ltb-true}
 use Rattle.ground.specs.Basics.{pick}
-use Rattle.mode.specs.Read.{octalFrom, hasSix, textLen, settle, restAt, readMode}
+use Rattle.mode.specs.Read.{octalFrom, hasSix, textLen, settle, readMode}
 use Rattle.mode.specs.Write.{sixDigits, writeMode}
 use Rattle.mode.specs.declared.ModeRead.the-variants.{Mode}
 use Rattle.mode.specs.declared.Octal.the-variants.{Number}
@@ -62,8 +62,7 @@ unfolding hasSix
 read-six a b c d e f t v o =
     let i : List ℕ = a ∷ b ∷ c ∷ d ∷ e ∷ (48 + f) ∷ 32 ∷ t in
     let n : textLen i ≡ 6 = text-six i (simp (ne-eqb (48 + f) 32 (λ q. omega arith))) in
-    read-number i (λ q. omega arith) (omega arith) v (ap (λ (k : ℕ). octalFrom 0 (take k i)) n ∙ o)
-    ∙ ap (Mode (record { internal = settle v a })) (ap (λ (k : ℕ). restAt k (length i)) n ∙ rest-more 6 (length i) (omega arith))
+    read-number i (λ q. omega arith) 6 (sym n) (omega arith) v o ∙ ap (Mode (record { internal = settle v a })) (rest-more 6 (length i) (omega arith))
 
 far : (x : ℕ) → eqb (48 + x) 32 ≡ false
 far x = ne-eqb (48 + x) 32 (λ q. omega arith)
@@ -74,8 +73,7 @@ unfolding hasSix
 read-five a b c d e t v o =
     let i : List ℕ = (48 + a) ∷ (48 + b) ∷ (48 + c) ∷ (48 + d) ∷ (48 + e) ∷ 32 ∷ t in
     let n : textLen i ≡ 5 = text-count i (and-false (eqb (getD t 0 0) 32)) ∙ simp (far a, far b, far c, far d, far e) in
-    read-number i (λ q. omega arith) (omega arith) v (ap (λ (k : ℕ). octalFrom 0 (take k i)) n ∙ o)
-    ∙ ap (Mode (record { internal = settle v (48 + a) })) (ap (λ (k : ℕ). restAt k (length i)) n ∙ rest-more 5 (length i) (omega arith))
+    read-number i (λ q. omega arith) 5 (sym n) (omega arith) v o ∙ ap (Mode (record { internal = settle v (48 + a) })) (rest-more 5 (length i) (omega arith))
 
 -- ---- what is kept of the number
 

@@ -123,21 +123,20 @@ module _ (i : List ℕ) where
   unfolding readMode
   read-none e = simp (le-ltb 0 (length i) (omega arith))
 
-  module _ (some : length i ≡ 0 → ⊥) where
-    pub read-long : 7 < textLen i → readMode i ≡ Bad
+  module _ (some : length i ≡ 0 → ⊥) (k : ℕ) (e : k ≡ textLen i) where
+    pub read-long : 7 < k → readMode i ≡ Bad
     unfolding readMode
-    read-long h = simp (lt-ltb 0 (length i) (omega arith), lt-leb (textLen i) 7 h)
+    read-long h = simp (lt-ltb 0 (length i) (omega arith), lt-leb (textLen i) 7 (omega arith))
 
-    module _ (h : textLen i ≤ 7) where
-      pub read-text : readMode i ≡ modeOf (getD i 0 0) (restAt (textLen i) (length i)) (octalFrom 0 (take (textLen i) i))
+    module _ (h : k ≤ 7) where
+      pub read-text : readMode i ≡ modeOf (getD i 0 0) (restAt k (length i)) (octalFrom 0 (take k i))
       unfolding readMode
-      read-text = simp (lt-ltb 0 (length i) (omega arith), le-leb (textLen i) 7 h)
+      read-text = rw e (simp (lt-ltb 0 (length i) (omega arith), le-leb (textLen i) 7 (omega arith)))
 
-      pub read-other : octalFrom 0 (take (textLen i) i) ≡ Other → readMode i ≡ Bad
+      pub read-other : octalFrom 0 (take k i) ≡ Other → readMode i ≡ Bad
       read-other o = read-text ∙ ap (modeOf _ _) o
 
-      pub read-number : (v : ℕ) → octalFrom 0 (take (textLen i) i) ≡ Number v
-          → readMode i ≡ Mode (record { internal = settle v (getD i 0 0) }) (restAt (textLen i) (length i))
+      pub read-number : (v : ℕ) → octalFrom 0 (take k i) ≡ Number v → readMode i ≡ Mode (record { internal = settle v (getD i 0 0) }) (restAt k (length i))
       read-number v o = read-text ∙ ap (modeOf _ _) o
 
 -- ---- where the rest begins
@@ -202,20 +201,23 @@ text-take k i p = go (hasSix i) refl
 cut-reads : (k : ℕ) (i : List ℕ) → 8 ≤ k → k < length i → readMode (take k i) ≡ readMode i
 cut-reads k i p q = elim (decLt 7 (textLen i)) [ yes h ↦ long h | no h ↦ fits (omega arith) ]
   where
-    size : length (take k i) ≡ k
-    size = simp length-take (omega arith)
+    some : length (take k i) ≡ 0 → ⊥
+    some z = omega (arith, length-take k i)
 
     long : 7 < textLen i → readMode (take k i) ≡ readMode i
-    long h = read-long (take k i) (λ z. omega (arith, size)) (omega (arith, text-take k i p)) ∙ sym (read-long i (λ z. omega arith) h)
+    long h = read-long (take k i) some _ refl (omega (arith, text-take k i p)) ∙ sym (read-long i (λ z. omega arith) _ refl h)
 
     fits : textLen i ≤ 7 → readMode (take k i) ≡ readMode i
     fits h =
-        let n : textLen (take k i) ≡ textLen i = omega (arith, text-take k i p) in
-        let f : getD (take k i) 0 0 ≡ getD i 0 0 = getD-take k i 0 0 (omega arith) in
-        let t : take (textLen i) (take k i) ≡ take (textLen i) i = take-take (textLen i) k i (omega arith) in
+        let n : textLen i ≡ textLen (take k i) = omega (arith, text-take k i p) in
         let r : restAt (textLen i) (length (take k i)) ≡ restAt (textLen i) (length i)
-        = rest-more (textLen i) (length (take k i)) (omega (arith, size)) ∙ sym (rest-more (textLen i) (length i) (omega arith)) in
-        cc (read-text (take k i) (λ z. omega (arith, size)) (omega arith), read-text i (λ z. omega arith) h)
+        = rest-more (textLen i) (length (take k i)) (omega (arith, length-take k i)) ∙ sym (rest-more (textLen i) (length i) (omega arith)) in
+        cc (
+          read-text (take k i) some (textLen i) n h,
+          read-text i (λ z. omega arith) (textLen i) refl h,
+          getD-take k i 0 0 (omega arith),
+          take-take (textLen i) k i (omega arith),
+        )
 
 -- so does one at the end
 pub first-decide : (k : ℕ) (i : List ℕ) → min 8 (length i) ≤ k → readMode (take k i) ≡ readMode i
@@ -327,20 +329,21 @@ row-reads =
     (λ (r : Written). Mode (record { internal = r .mode }) (r .text .len + 1)) refl
 
 -- a row's text lies in its array
-pub row-fits : (i : ℕ) → i < 5 → rowAt i .text .len ≤ length (rowAt i .text .bytes)
-row-fits i h = text-is (rowAt i .text) (rowAt i .mode) (row-text-is i h) .1
+pub row-fits : (i : ℕ) (r : Written) → r ≡ rowAt i → i < 5 → r .text .len ≤ length (r .text .bytes)
+row-fits i r e h = rw e (text-is (rowAt i .text) (rowAt i .mode) (row-text-is i h) .1)
 
 -- the search for a text from a row on: the row has it, the row has another, no row is left
-row-cons : (i : ℕ) → i < 5 → drop i rows ≡ rowAt i ∷ drop (i + 1) rows
-unfolding rowAt
-row-cons i h = rw (add-one i) (drop-cons rows i noRow (rw rows-length h))
-
 module _ (t : List ℕ) (i : ℕ) where
-  pub find-here : i < 5 → sameBytes t (shown (rowAt i .text)) ≡ true → findText t (drop i rows) ≡ found.Mode (record { internal = rowAt i .mode })
-  find-here h e = rw (row-cons i h) (simp e)
+  module _ (r : Written) (e : r ≡ rowAt i) (h : i < 5) where
+    row-cons : drop i rows ≡ r ∷ drop (i + 1) rows
+    unfolding rowAt
+    row-cons = rw (e, add-one i) (drop-cons rows i noRow (rw rows-length h))
 
-  pub find-more : i < 5 → sameBytes t (shown (rowAt i .text)) ≡ false → findText t (drop i rows) ≡ findText t (drop (i + 1) rows)
-  find-more h e = rw (row-cons i h) (simp e)
+    pub find-here : sameBytes t (shown (r .text)) ≡ true → findText t (drop i rows) ≡ found.Mode (record { internal = r .mode })
+    find-here q = rw row-cons (simp q)
+
+    pub find-more : sameBytes t (shown (r .text)) ≡ false → findText t (drop i rows) ≡ findText t (drop (i + 1) rows)
+    find-more q = rw row-cons (simp q)
 
   pub find-end : 5 ≤ i → findText t (drop i rows) ≡ found.None
   find-end h = rw (drop-of-length-le rows {i = i} (rw rows-length h))

@@ -1,5 +1,4 @@
--- `mode::has_six` meets its contract: where there is no byte 6 it is no space.
--- Assumes nothing.
+-- `mode::has_six` meets its contract: where there is no byte 6 it is no space. Assumes nothing.
 use mathlib.Core.Path.{sym}
 use lib.ListN.{getD}
 use borrow.Author.Tests.{eq-eqb, ne-eqb}

@@ -1,5 +1,4 @@
--- `mode::octal_of` meets its contract. The loop's invariant: reading the whole is reading the rest after the sum so far.
--- Assumes nothing.
+-- `mode::octal_of` meets its contract. The loop's invariant: reading the whole is reading the rest after the sum so far. Assumes nothing.
 use Prim.Native.Nat.{_≤_, _-_}
 use mathlib.Core.Path.{_≡_, refl, sym, _∙_}
 use native.Mathlib.Omega.{arith}

@@ -1,8 +1,7 @@
--- `mode::rest_at` meets its contract: each branch is a case of `restAt`.
--- Assumes nothing.
+-- `mode::rest_at` meets its contract: each way out is a law of `restAt`. Assumes nothing.
 use borrow.Author.Needs.{needs}
-use borrow.Author.Tests.{lt-ltb, le-ltb}
-use Rattle.mode.specs.Read.{restAt}
+use mathlib.Core.Path.{sym}
+use Rattle.mode.proofs.Laws.{rest-more, rest-end}
 use Rattle.mode.proofs.rest_at.Statement.{statement}
 use Rattle.mode.proofs.rest_at.Tie as tie
 
@@ -10,12 +9,10 @@ add-result : tie.Need-add-result
 add-result c = search needs
 
 returns : tie.Need-returns
-unfolding restAt
-returns c = simp (lt-ltb _ _ (c .if1 .taken))
+returns c = sym (rest-more _ _ (c .if1 .taken))
 
 returns-2 : tie.Need-returns-2
-unfolding restAt
-returns-2 c = simp (le-ltb _ _ (c .if1 .left))
+returns-2 c = sym (rest-end _ _ (c .if1 .left))
 
 pub rest-at-spec : {M : Type 1} → statement M
 rest-at-spec = tie.close (tie.spec add-result returns returns-2)

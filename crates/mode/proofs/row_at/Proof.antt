@@ -1,5 +1,4 @@
--- `mode::row_at` meets its contract: the constant is the list of the rows.
--- Assumes nothing.
+-- `mode::row_at` meets its contract: the constant is the list of the rows. Assumes nothing.
 use Rattle.mode.specs.Table.{rows, rowAt}
 use Rattle.ground.proofs.Laws.{getD-any}
 use borrow.Author.Needs.{needs}

@@ -1,5 +1,4 @@
--- `mode::settled` meets its contract: each branch is a case of `settle`.
--- Assumes nothing.
+-- `mode::settled` meets its contract: each branch is a case of `settle`. Assumes nothing.
 use borrow.Author.Tests.{eq-eqb, ne-eqb}
 use Rattle.mode.specs.Read.{settle}
 use Rattle.mode.proofs.settled.Statement.{statement}

@@ -1,16 +1,11 @@
--- `mode::written_mode` meets its contract. The loop's invariant: the rows passed do not have the text.
--- Assumes nothing.
+-- `mode::written_mode` meets its contract. The loop's invariant: the rows passed do not have the text. Assumes nothing.
 use borrow.Author.Needs.{needs}
 use Prim.Native.Nat.{_≤_, _-_}
-use mathlib.Core.Path.{_≡_, refl, sym, ap, _∙_}
+use mathlib.Core.Path.{_≡_, refl, sym, _∙_}
 use native.Mathlib.Omega.{arith}
-use mathlib.Core.Bool.{true, false}
-use lib.ListN.{drop, length}
+use lib.ListN.{drop}
 use lib.Seq.{length-take-le}
-use Rattle.mode.specs.declared.ModeFound.the-variants.{Mode}
-use Rattle.mode.specs.declared.Written.{Written}
-use Rattle.ground.specs.Scan.{sameBytes}
-use Rattle.mode.specs.Table.{rows, rowAt, shown, findText, writtenMode}
+use Rattle.mode.specs.Table.{rows, findText, writtenMode}
 use Rattle.mode.proofs.Laws.{find-here, find-more, find-end, row-fits}
 use Rattle.mode.proofs.written_mode.Statement.{statement}
 use Rattle.mode.proofs.written_mode.Tie as tie
@@ -29,15 +24,12 @@ row-at-requires : tie.Need-row-at-requires Inv-loop μ-loop
 row-at-requires c κs = omega arith
 
 array-share-prefix-bytes : tie.Need-array-share-prefix-bytes Inv-loop μ-loop
-array-share-prefix-bytes c =
-    let loop = c .before .before .before .before .loop in
-    rw (c .before .before .row-at .ensures) (row-fits (loop .i) (omega arith))
+array-share-prefix-bytes c = row-fits _ _ (c .before .before .row-at .ensures) (c .before .before .before .loop-test .taken)
 
 slice-aggregate-same-bytes : tie.Need-slice-aggregate-same-bytes Inv-loop μ-loop
 slice-aggregate-same-bytes c =
-    let r = c .before .before .before .row-at .result in
-    let h : r .text .len ≤ length (r .text .bytes) = rw (c .before .before .before .row-at .ensures) (row-fits (c .before .before .before .before .before .loop .i) (omega arith)) in
-    sym (length-take-le _ _ h)
+    let p = c .before .before .before in
+    sym (length-take-le _ _ (row-fits _ _ (p .row-at .ensures) (p .before .loop-test .taken)))
 
 same-bytes-requires : tie.Need-same-bytes-requires Inv-loop μ-loop
 same-bytes-requires c κs = search needs
@@ -45,10 +37,7 @@ same-bytes-requires c κs = search needs
 returns : tie.Need-returns Inv-loop μ-loop
 returns c =
     let p = c .before .before .before .before .before in
-    let i = p .before .before .loop .i in
-    let t = p .before .before .before .before .args .t .now in
-    let e : sameBytes t (shown (rowAt i .text)) ≡ true = ap (λ (r : Written). sameBytes t (shown (r .text))) (sym (p .row-at .ensures)) ∙ sym (c .before .same-bytes .ensures) ∙ c .if1 .taken in
-    ap (λ (r : Written). Mode (record { internal = r .mode })) (p .row-at .ensures) ∙ sym (p .before .before .loop .inv .1 ∙ find-here t i (omega arith) e)
+    sym (p .before .before .loop .inv .1 ∙ find-here _ _ _ (p .row-at .ensures) (p .before .loop-test .taken) (sym (c .before .same-bytes .ensures) ∙ c .if1 .taken))
 
 add-i : tie.Need-add-i Inv-loop μ-loop
 add-i c = omega arith
@@ -59,10 +48,7 @@ loop-less c = omega arith
 loop-again : tie.Need-loop-again Inv-loop μ-loop
 loop-again c =
     let p = c .before .before .before .before .before in
-    let i = p .before .before .loop .i in
-    let t = p .before .before .before .before .args .t .now in
-    let e : sameBytes t (shown (rowAt i .text)) ≡ false = ap (λ (r : Written). sameBytes t (shown (r .text))) (sym (p .row-at .ensures)) ∙ sym (c .before .same-bytes .ensures) ∙ c .if1 .left in
-    (omega arith, p .before .before .loop .inv .1 ∙ find-more t i (omega arith) e)
+    (omega arith, p .before .before .loop .inv .1 ∙ find-more _ _ _ (p .row-at .ensures) (p .before .loop-test .taken) (sym (c .before .same-bytes .ensures) ∙ c .if1 .left))
 
 returns-2 : tie.Need-returns-2 Inv-loop μ-loop
 returns-2 c = sym (c .before .loop .inv .1 ∙ find-end _ _ (c .loop-test .left))

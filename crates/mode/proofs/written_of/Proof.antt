@@ -1,5 +1,4 @@
--- `mode::written_of` meets its contract.
--- Assumes nothing.
+-- `mode::written_of` meets its contract. Assumes nothing.
 use mathlib.Core.Path.{ap, _∙_}
 use native.Mathlib.Omega.{arith}
 use Rattle.mode.specs.Table.{writtenOf, rowAt}

@@ -1,4 +1,4 @@
--- `mode::as_bytes` meets its contract. Assumes nothing.
+-- `mode::EntryMode::as_bytes` meets its contract: each way out is a law of `modeText`. Assumes nothing.
 use borrow.Author.Needs.{needs}
 use Rattle.mode.proofs.EntryMode.as_bytes.Statement.{statement}
 use Rattle.mode.proofs.EntryMode.as_bytes.Tie as tie

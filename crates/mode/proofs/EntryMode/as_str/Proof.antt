@@ -1,5 +1,4 @@
--- `mode::EntryMode::as_str` meets its contract.
--- Assumes nothing.
+-- `mode::EntryMode::as_str` meets its contract. Assumes nothing.
 use mathlib.Core.Path.{ap, _∙_}
 use Rattle.mode.specs.Table.{writtenOf, wordOf}
 use Rattle.mode.specs.declared.Written.{Written}

@@ -1,5 +1,4 @@
--- `mode::EntryMode::executes` meets its contract: the mask takes the one bit of the value.
--- Assumes nothing.
+-- `mode::EntryMode::executes` meets its contract: the mask takes the one bit of the value. Assumes nothing.
 use borrow.Author.Needs.{needs}
 use mathlib.Core.Path.{ap, _∙_}
 use lib.Dec.{eqb}

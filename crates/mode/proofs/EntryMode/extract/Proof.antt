@@ -1,13 +1,10 @@
--- `mode::extract` meets its contract. Assumes nothing.
+-- `mode::EntryMode::extract` meets its contract: each way out is a law of `readMode`. Assumes nothing.
 use borrow.Author.Needs.{needs}
 use Rattle.mode.proofs.EntryMode.extract.Statement.{statement}
 use Rattle.mode.proofs.EntryMode.extract.Tie as tie
-use Prim.Native.Nat.{ℕ}
-use mathlib.Core.Path.{_≡_, sym, ap, _∙_}
+use mathlib.Core.Path.{sym, _∙_}
 use native.Mathlib.Omega.{arith}
-use lib.ListN.{take, length-take}
-use Rattle.mode.specs.declared.Octal.the-variants.{Number}
-use Rattle.mode.specs.Read.{octalFrom, textLen}
+use lib.ListN.{length-take}
 use Rattle.mode.proofs.Laws.{read-none, read-long, read-other, read-number, text-le}
 
 returns : tie.Need-returns
@@ -17,7 +14,7 @@ text-len-requires : tie.Need-text-len-requires
 text-len-requires c κs = search needs
 
 returns-2 : tie.Need-returns-2
-returns-2 c = sym (read-long _ (c .before .before .if1 .left) (omega (arith, c .before .text-len .ensures)))
+returns-2 c = sym (read-long _ (c .before .before .if1 .left) _ (c .before .text-len .ensures) (c .if2 .taken))
 
 shared-slice-read-first : tie.Need-shared-slice-read-first
 shared-slice-read-first c = search needs
@@ -45,17 +42,16 @@ enum-told c = search needs
 
 returns-3 : tie.Need-returns-3
 returns-3 c =
-    let i = c .before .before .before .before .before .before .before .before .before .before .before .before .args .i .now in
-    let v = c .before .before .v .given .0 .0 in
-    let n = c .before .before .before .before .before .before .before .before .before .text-len .ensures in
-    let o : octalFrom 0 (take (textLen i) i) ≡ Number v = ap (λ (k : ℕ). octalFrom 0 (take k i)) (sym n) ∙ sym (c .before .before .before .before .octal-of .ensures) ∙ c .before .before .v .given .1 in
-    cc (read-number i (c .before .before .before .before .before .before .before .before .before .before .if1 .left) (omega arith) v o, n, c .settled .ensures, c .before .before .before .before .before .before .rest-at .ensures)
+    let q = c .before .before .before .before in
+    let p = q .before .before .before .before in
+    let number = read-number _ (p .before .before .if1 .left) _ (p .before .text-len .ensures) (p .if2 .left) _ (sym (q .octal-of .ensures) ∙ c .before .before .v .given .1) in
+    cc (number, c .settled .ensures, q .before .before .rest-at .ensures)
 
 returns-4 : tie.Need-returns-4
 returns-4 c =
-    let i = c .before .before .before .before .before .before .before .before .before .before .args .i .now in
-    let n = c .before .before .before .before .before .before .before .text-len .ensures in
-    sym (read-other i (c .before .before .before .before .before .before .before .before .if1 .left) (omega arith) (ap (λ (k : ℕ). octalFrom 0 (take k i)) (sym n) ∙ sym (c .before .before .octal-of .ensures) ∙ c .enum-told .given .1))
+    let q = c .before .before in
+    let p = q .before .before .before .before in
+    sym (read-other _ (p .before .before .if1 .left) _ (p .before .text-len .ensures) (p .if2 .left) (sym (q .octal-of .ensures) ∙ c .enum-told .given .1))
 
 pub extract-spec : {M : Type 1} → statement M
 extract-spec =

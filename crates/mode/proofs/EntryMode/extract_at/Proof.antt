@@ -1,4 +1,4 @@
--- `mode::extract_at` meets its contract. Assumes nothing.
+-- `mode::EntryMode::extract_at` meets its contract: it reads the bytes from the place on, of which eight are enough. Assumes nothing.
 use borrow.Author.Needs.{needs}
 use Rattle.mode.proofs.EntryMode.extract_at.Statement.{statement}
 use Rattle.mode.proofs.EntryMode.extract_at.Tie as tie
@@ -31,9 +31,12 @@ enum-known-m c = search needs
 
 add-t13 : tie.Need-add-t13
 add-t13 c =
-    let args = c .before .before .before .before .before .before .before .before .args in
-    let e = sym (window-reads (args .s .now) (args .at) (c .before .before .before .before .before .before .if1 .left) _ (c .before .before .before .before .before .eight-on .ensures)) ∙ sym (c .before .before .before .extract .ensures) ∙ c .before .m .given .1 in
-    omega (arith, read-next (drop (args .at) (args .s .now)) _ _ e, length-drop (args .at) (args .s .now), c .before .before .before .before .before .before .if1 .left)
+    let q = c .before .before .before in
+    let p = q .before .before .before in
+    let s = p .before .before .args .s .now in
+    let at = p .before .before .args .at in
+    let e = sym (window-reads s at (p .if1 .left) _ (q .before .before .eight-on .ensures)) ∙ sym (q .extract .ensures) ∙ c .before .m .given .1 in
+    omega (arith, read-next (drop at s) _ _ e, length-drop at s, p .if1 .left)
 
 enum-told : tie.Need-enum-told
 enum-told c = search needs
@@ -41,14 +44,16 @@ enum-told c = search needs
 returns-2 : tie.Need-returns-2
 unfolding readModeAt
 returns-2 c =
-    let args = c .before .before .before .before .before .before .before .before .args in
-    ap (moved (args .at)) (sym (c .before .m .given .1) ∙ c .before .before .before .extract .ensures ∙ window-reads (args .s .now) (args .at) (c .before .before .before .before .before .before .if1 .left) _ (c .before .before .before .before .before .eight-on .ensures))
+    let q = c .before .before .before in
+    let p = q .before .before .before in
+    ap (moved _) (sym (c .before .m .given .1) ∙ q .extract .ensures ∙ window-reads _ _ (p .if1 .left) _ (q .before .before .eight-on .ensures))
 
 returns-3 : tie.Need-returns-3
 unfolding readModeAt
 returns-3 c =
-    let args = c .before .before .before .before .before .before .before .args in
-    ap (moved (args .at)) (sym (c .enum-told .given .1) ∙ c .before .before .extract .ensures ∙ window-reads (args .s .now) (args .at) (c .before .before .before .before .before .if1 .left) _ (c .before .before .before .before .eight-on .ensures))
+    let q = c .before .before in
+    let p = q .before .before .before in
+    ap (moved _) (sym (c .enum-told .given .1) ∙ q .extract .ensures ∙ window-reads _ _ (p .if1 .left) _ (q .before .before .eight-on .ensures))
 
 pub extract-at-spec : {M : Type 1} → statement M
 extract-at-spec =

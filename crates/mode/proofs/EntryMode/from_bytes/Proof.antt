@@ -1,4 +1,4 @@
--- `mode::from_bytes` meets its contract. Assumes nothing.
+-- `mode::EntryMode::from_bytes` meets its contract: it reads from place 0 where the bound lets it. Assumes nothing.
 use borrow.Author.Needs.{needs}
 use Rattle.mode.proofs.EntryMode.from_bytes.Statement.{statement}
 use Rattle.mode.proofs.EntryMode.from_bytes.Tie as tie

@@ -1,4 +1,4 @@
--- `mode::from_u32` meets its contract. Assumes nothing.
+-- `mode::EntryMode::from_u32` meets its contract: each way out is a law of `fromNumber`. Assumes nothing.
 use borrow.Author.Needs.{needs}
 use Rattle.mode.proofs.EntryMode.from_u32.Statement.{statement}
 use Rattle.mode.proofs.EntryMode.from_u32.Tie as tie

@@ -1,5 +1,4 @@
--- `mode::EntryMode::is_blob` meets its contract.
--- Assumes nothing.
+-- `mode::EntryMode::is_blob` meets its contract. Assumes nothing.
 use borrow.Author.Needs.{needs}
 use Rattle.mode.proofs.Laws.{test}
 use Rattle.mode.proofs.EntryMode.is_blob.Statement.{statement}

@@ -1,5 +1,4 @@
--- `mode::EntryMode::is_blob_or_symlink` meets its contract.
--- Assumes nothing.
+-- `mode::EntryMode::is_blob_or_symlink` meets its contract. Assumes nothing.
 use borrow.Author.Needs.{needs}
 use mathlib.Core.Path.{ap, _∙_}
 use Rattle.mode.specs.Mode.{isFileOrLink}

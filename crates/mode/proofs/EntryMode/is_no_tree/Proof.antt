@@ -1,5 +1,4 @@
--- `mode::EntryMode::is_no_tree` meets its contract.
--- Assumes nothing.
+-- `mode::EntryMode::is_no_tree` meets its contract. Assumes nothing.
 use borrow.Author.Needs.{needs}
 use mathlib.Core.Path.{ap}
 use mathlib.Core.Bool.{not}

@@ -1,5 +1,4 @@
--- `mode::EntryMode::is_tree` meets its contract.
--- Assumes nothing.
+-- `mode::EntryMode::is_tree` meets its contract. Assumes nothing.
 use borrow.Author.Needs.{needs}
 use Rattle.mode.specs.Mode.{isTree}
 use Rattle.mode.proofs.Laws.{test}

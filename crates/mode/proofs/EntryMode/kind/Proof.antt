@@ -1,5 +1,4 @@
--- `mode::EntryMode::kind` meets its contract: each branch is a case of `kindOf`.
--- Assumes nothing.
+-- `mode::EntryMode::kind` meets its contract: each branch is a case of `kindOf`. Assumes nothing.
 use borrow.Author.Needs.{needs}
 use borrow.Author.Tests.{eq-eqb, ne-eqb}
 use Rattle.mode.specs.Mode.{kindOf}

@@ -1,5 +1,4 @@
--- `mode::EntryMode::sort` meets its contract: the mask takes the top four bits of the value.
--- Assumes nothing.
+-- `mode::EntryMode::sort` meets its contract: the mask takes the top four bits of the value. Assumes nothing.
 use borrow.Author.Needs.{needs}
 use mathlib.Core.Path.{ap, _∙_}
 use Rattle.mode.specs.Mode.{sortOf, topBits}

@@ -1,5 +1,4 @@
--- `mode::EntryMode::value` meets its contract: each branch is a case of `valueOf`.
--- Assumes nothing.
+-- `mode::EntryMode::value` meets its contract: each branch is a case of `valueOf`. Assumes nothing.
 use mathlib.Core.Path.{sym, _∙_}
 use borrow.Author.Tests.{eq-eqb, ne-eqb}
 use Rattle.mode.specs.Mode.{valueOf, topBits}

@@ -1,4 +1,4 @@
--- `mode::alone` meets its contract. Assumes nothing.
+-- `mode::ModeAnswer::alone` meets its contract. Assumes nothing.
 use borrow.Author.Needs.{needs}
 use Rattle.mode.proofs.ModeAnswer.alone.Statement.{statement}
 use Rattle.mode.proofs.ModeAnswer.alone.Tie as tie

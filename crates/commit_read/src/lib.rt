@@ -1,0 +1,373 @@
+// Reading a commit into lent lists (docs/FORMAT.md, "Commits" and "Numbers"; Rust: src/commit/decode.rs).
+ghost use mathlib.Core.Path.{_≡_};
+ghost use Prim.Native.Nat.{_+_, _*_, _<_, _≤_};
+ghost use lib.ListN.{length};
+ghost use Rattle.commit_read.specs.Parents.{parentAt, parentCount, stored};
+ghost use Rattle.commit_read.specs.Headers.{heads, tally, written};
+ghost use Rattle.commit_read.specs.Fields.{actorAt, encodingAt, endingOf, peopleOf, fieldsOf};
+ghost use Rattle.commit_read.specs.Read.{outcomeOf, refusedRead, doneRead, commitAnswer, commitParents, commitHeaders};
+use actor::is_actor;
+use ground::Gate;
+use ground::Verdict;
+use ground::bounds;
+use ground::byte_at;
+use ground::longer;
+use header::CommitParts;
+use header::Extra;
+use header::HEADER_WIDTH;
+use header::Line;
+use header::extra_at;
+use header::id_line;
+use header::put_header;
+use header::value_line;
+
+// The answer: the verdict with the field that failed (0 where none did), the counts, and the parts. All are 0 on a refusal.
+pub struct CommitRead {
+    pub verdict: Verdict,
+    pub field: usize,
+    pub parents: usize,
+    pub headers: usize,
+    pub parts: CommitParts,
+}
+
+// Why a commit is refused.
+struct Refusal {
+    verdict: Verdict,
+    field: usize,
+}
+
+// The value of an author's or committer's line.
+enum Person {
+    At(usize, usize),
+    Fails(Refusal),
+}
+
+// The encoding's value, its mark 1 where there is one, and the place after it.
+struct Encoding {
+    mark: usize,
+    start: usize,
+    end: usize,
+    next: usize,
+}
+
+// How many extra headers there are, and the place after them.
+struct HeaderCount {
+    count: usize,
+    end: usize,
+}
+
+// What was found: the counts, the place of the first extra header, and the parts.
+struct Found {
+    parents: usize,
+    headers: usize,
+    first: usize,
+    parts: CommitParts,
+}
+
+enum Outcome {
+    Whole(Found),
+    Fails(Refusal),
+}
+
+// Whether a parent's line stands at a place.
+fn parent_at(s: &[u8], at: usize, h: usize) -> bool
+    ensures { λ r. ⌜ r ≡ parentAt h (now (s .entry)) at ⌝ }
+{
+    id_line(s, at, b"parent", h)
+}
+
+// How many parents' lines there are from a place on.
+fn count_parents(s: &[u8], at: usize, h: usize) -> usize
+    ensures { λ r. ⌜ r ≡ parentCount h (now (s .entry)) at ⌝ }
+{
+    let mut p = at;
+    let mut n: usize = 0;
+    while parent_at(s, p, h) {
+        p = p + (8 + 2 * h);
+        n += 1;
+    }
+    n
+}
+
+// How many extra headers there are from a place on, and the place after them.
+fn count_headers(s: &[u8], at: usize) -> HeaderCount
+    ensures { λ r. ⌜ r ≡ tally 0 (heads (now (s .entry)) at) ⌝ }
+{
+    let mut p = at;
+    let mut n: usize = 0;
+    loop {
+        match extra_at(s, p) {
+            Extra::No => {
+                return HeaderCount { count: n, end: p };
+            }
+            Extra::Got(_, next) => {
+                p = next;
+                n += 1;
+            }
+        }
+    }
+}
+
+// An author's or committer's line at a place: 11 where it is missing, 12 where its value has not the actor form.
+fn actor_at(s: &[u8], at: usize, word: &[u8], field: usize) -> Person
+    ensures { λ r. ⌜ r ≡ actorAt (now (s .entry)) at (now (word .entry)) field ⌝ }
+{
+    match value_line(s, at, word) {
+        Line::Missing => Person::Fails(Refusal {
+            verdict: Verdict {
+                number: 11,
+                place: at,
+            },
+            field: field,
+        }),
+        Line::Value(from, to) => {
+            if is_actor(&s[from..to]) {
+                return Person::At(from, to);
+            }
+            Person::Fails(Refusal {
+                verdict: Verdict {
+                    number: 12,
+                    place: at,
+                },
+                field: 0,
+            })
+        }
+    }
+}
+
+// The encoding's line at a place.
+fn encoding_at(s: &[u8], at: usize) -> Encoding
+    ensures { λ r. ⌜ r ≡ encodingAt (now (s .entry)) at ⌝ }
+{
+    match value_line(s, at, b"encoding") {
+        Line::Missing => Encoding {
+            mark: 0,
+            start: 0,
+            end: 0,
+            next: at,
+        },
+        Line::Value(from, to) => {
+            let next = to + 1;
+            Encoding {
+                mark: 1,
+                start: from,
+                end: to,
+                next: next,
+            }
+        }
+    }
+}
+
+// What follows the committer's line: the encoding, the extra headers, the blank line and the message.
+fn ending(s: &[u8], n: usize, a: usize, e: usize, b: usize, f: usize) -> Outcome
+    requires { ⌜ f < length (now s) ⌝ }
+    ensures { λ r. ⌜ r ≡ endingOf (now (s .entry)) n a e b f ⌝ }
+{
+    let at = f + 1;
+    let enc = encoding_at(s, at);
+    let k = count_headers(s, enc.next);
+    let end = k.end;
+    if byte_at(s, end) == 10 {
+        let message = end + 1;
+        let all = s.len();
+        return Outcome::Whole(Found {
+            parents: n,
+            headers: k.count,
+            first: enc.next,
+            parts: CommitParts {
+                tree: 5,
+                author_start: a,
+                author_end: e,
+                committer_start: b,
+                committer_end: f,
+                encoding: enc.mark,
+                encoding_start: enc.start,
+                encoding_end: enc.end,
+                message_start: message,
+                message_end: all,
+            },
+        });
+    }
+    Outcome::Fails(Refusal {
+        verdict: Verdict {
+            number: 11,
+            place: end,
+        },
+        field: 4,
+    })
+}
+
+// Author and committer after n parents, and what follows them.
+fn people(s: &[u8], n: usize, p: usize) -> Outcome
+    ensures { λ r. ⌜ r ≡ peopleOf (now (s .entry)) n p ⌝ }
+{
+    match actor_at(s, p, b"author", 2) {
+        Person::Fails(r) => Outcome::Fails(r),
+        Person::At(a, e) => {
+            let q = e + 1;
+            match actor_at(s, q, b"committer", 3) {
+                Person::Fails(x) => Outcome::Fails(x),
+                Person::At(b, f) => ending(s, n, a, e, b, f),
+            }
+        }
+    }
+}
+
+// Where the parts stand, or the first field that fails.
+fn fields(s: &[u8], h: usize) -> Outcome
+    requires { ⌜ h ≤ 32 ⌝ }
+    ensures { λ r. ⌜ r ≡ fieldsOf (now (s .entry)) h ⌝ }
+{
+    if id_line(s, 0, b"tree", h) {
+        let at = 6 + 2 * h;
+        let n = count_parents(s, at, h);
+        let p = at + n * (8 + 2 * h);
+        return people(s, n, p);
+    }
+    Outcome::Fails(Refusal {
+        verdict: Verdict {
+            number: 11,
+            place: 0,
+        },
+        field: 1,
+    })
+}
+
+// All that reading decides, before anything is stored: room for np parents and nh headers is lent.
+fn decide(s: &[u8], h: usize, np: usize, nh: usize) -> Outcome
+    ensures { λ r. ⌜ r ≡ outcomeOf (now (s .entry)) h np nh ⌝ }
+{
+    match bounds(h, s.len(), longer(np, nh)) {
+        Gate::Shut(verdict) => Outcome::Fails(Refusal { verdict, field: 0 }),
+        Gate::Open => match fields(s, h) {
+            Outcome::Fails(r) => Outcome::Fails(r),
+            Outcome::Whole(f) => {
+                let n = f.parents;
+                let m = f.headers;
+                if np < n {
+                    return Outcome::Fails(Refusal {
+                        verdict: Verdict {
+                            number: 4,
+                            place: n,
+                        },
+                        field: 0,
+                    });
+                }
+                if nh < m {
+                    return Outcome::Fails(Refusal {
+                        verdict: Verdict {
+                            number: 4,
+                            place: m,
+                        },
+                        field: 0,
+                    });
+                }
+                Outcome::Whole(f)
+            }
+        },
+    }
+}
+
+// Where the ids of n parents start, stored from the front.
+fn fill_parents(out: &mut [usize], n: usize, at: usize, h: usize)
+    requires { ⌜ n ≤ length (now out) ⌝ }
+    requires { ⌜ at + n * (8 + 2 * h) < 18446744073709551616 ⌝ }
+    ensures { λ r. ⌜ now (out .exit) ≡ stored h (now (out .entry)) 0 at n ⌝ }
+{
+    let mut left = n;
+    let mut i: usize = 0;
+    let mut p = at;
+    while left != 0 {
+        out[i] = p + 7;
+        p = p + (8 + 2 * h);
+        i += 1;
+        left -= 1;
+    }
+}
+
+// The records of all extra headers from a place on, stored from the front.
+fn fill_headers(s: &[u8], at: usize, out: &mut [usize])
+    ensures { λ r. ⌜ now (out .exit) ≡ written (now (out .entry)) 0 (heads (now (s .entry)) at) ⌝ }
+{
+    let mut p = at;
+    let mut n: usize = 0;
+    loop {
+        match extra_at(s, p) {
+            Extra::No => {
+                return;
+            }
+            Extra::Got(x, next) => {
+                put_header(out, n, x);
+                p = next;
+                n += 1;
+            }
+        }
+    }
+}
+
+// A refusal as an answer.
+fn refused(r: Refusal) -> CommitRead
+    ensures { λ x. ⌜ x ≡ refusedRead r ⌝ }
+{
+    let verdict = r.verdict;
+    CommitRead {
+        verdict: verdict,
+        field: r.field,
+        parents: 0,
+        headers: 0,
+        parts: CommitParts {
+            tree: 0,
+            author_start: 0,
+            author_end: 0,
+            committer_start: 0,
+            committer_end: 0,
+            encoding: 0,
+            encoding_start: 0,
+            encoding_end: 0,
+            message_start: 0,
+            message_end: 0,
+        },
+    }
+}
+
+// What was found as an answer.
+fn done(f: Found) -> CommitRead
+    ensures { λ x. ⌜ x ≡ doneRead f ⌝ }
+{
+    let parts = f.parts;
+    CommitRead {
+        verdict: Verdict {
+            number: 0,
+            place: 0,
+        },
+        field: 0,
+        parents: f.parents,
+        headers: f.headers,
+        parts: parts,
+    }
+}
+
+// A commit into lent numbers: one for each parent, where its hex digits start, and five for each extra header.
+pub fn read_commit(
+    bytes: &[u8],
+    h: usize,
+    parents: &mut [usize],
+    headers: &mut [usize],
+) -> CommitRead
+    ensures answer { λ r. ⌜ r ≡ commitAnswer (now (bytes .entry)) h (now (parents .entry)) (now (headers .entry)) ⌝ }
+    ensures parents { λ r. ⌜ now (parents .exit) ≡ commitParents (now (bytes .entry)) h (now (parents .entry)) (now (headers .entry)) ⌝ }
+    ensures headers { λ r. ⌜ now (headers .exit) ≡ commitHeaders (now (bytes .entry)) h (now (parents .entry)) (now (headers .entry)) ⌝ }
+{
+    let room = headers.len() / HEADER_WIDTH;
+    match decide(bytes, h, parents.len(), room) {
+        Outcome::Fails(r) => refused(r),
+        Outcome::Whole(f) => {
+            let at = 6 + 2 * h;
+            let n = f.parents;
+            let first = f.first;
+            fill_parents(parents, n, at, h);
+            fill_headers(bytes, first, headers);
+            done(f)
+        }
+    }
+}
