@@ -9,7 +9,7 @@ use lib.ListN.{drop, length, getD}
 use borrow.Author.Tests.{eq-eqb, ne-eqb, le-leb, lt-ltb, eqb-true, eqb-false, ltb-true}
 use Rattle.ground.specs.Basics.{pick}
 use Rattle.mode.specs.Read.{octalFrom, hasSix, textLen, settle, readMode}
-use Rattle.mode.specs.Write.{sixDigits, writeMode}
+use Rattle.mode.specs.Write.{sixDigits, trimmed, writeMode}
 use Rattle.mode.specs.declared.ModeRead.the-variants.{Mode}
 use Rattle.mode.specs.declared.Octal.the-variants.{Number}
 use Rattle.mode.proofs.Laws.{text-six, text-count, rest-more, read-number}
@@ -113,7 +113,7 @@ settle-padded m h = go (eqb m 49152) refl
 -- The text of every mode but 0, with a space and anything behind it, reads as `again` of the mode, and the rest begins behind the space.
 pub written-reads : (m : ℕ) (t : List ℕ) → (m ≡ 0 → ⊥) → m < 0o200000
     → readMode (writeMode m ++ 32 ∷ t) ≡ Mode (record { internal = again m }) (length (writeMode m) + 1)
-unfolding writeMode
+unfolding writeMode trimmed
 written-reads m t z h = go (eqb m 0) refl (eqb (48 + m / 0o10000 % 8) 52) refl (eqb (48 + m / 0o100000 % 8) 48) refl
   where
     text : Bool → Bool → Bool → List ℕ

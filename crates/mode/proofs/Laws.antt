@@ -21,7 +21,7 @@ use Rattle.ground.proofs.Laws.{same-test, count-le, count-take}
 use Rattle.ground.proofs.Table.{rows-agree}
 use Rattle.mode.specs.Mode.{topBits, valueOf, sortOf, executes, kindOf, accepted, rejected, fromNumber}
 use Rattle.mode.specs.Read.{octalFrom, hasSix, textLen, settle, restAt, modeOf, readMode, moved, readModeAt, alone, modeAlone}
-use Rattle.mode.specs.Write.{sixDigits, writeMode, short, modeText}
+use Rattle.mode.specs.Write.{sixDigits, trimmed, writeMode, short, modeText}
 use Rattle.mode.specs.Table.{placeOf, rows, noRow, rowAt, shown, findText}
 use Rattle.mode.specs.declared.EntryMode.{EntryMode}
 use Rattle.mode.specs.declared.EntryKind.{EntryKind}
@@ -251,32 +251,22 @@ module _ (i : List ℕ) where
   unfolding modeAlone
   alone-shut v e = rw e
 
--- ---- writing: mode 0, a tree's digits without the first, with `0` for the first, and all six digits
+-- ---- writing: mode 0, and any other
 
 module _ (m : ℕ) where
   pub text-zero : m ≡ 0 → modeText m ≡ short (48 ∷ [])
   unfolding modeText writeMode
   text-zero e = simp (eq-eqb m 0 e)
 
-  module _ (n : m ≡ 0 → ⊥) where
-    pub text-all : (48 + m / 0o10000 % 8 ≡ 52 → ⊥) → modeText m ≡ short (sixDigits m)
-    unfolding modeText writeMode
-    text-all b = simp (ne-eqb m 0 n, ne-eqb (48 + m / 0o10000 % 8) 52 b)
-
-    module _ (b : 48 + m / 0o10000 % 8 ≡ 52) where
-      pub text-five : 48 + m / 0o100000 % 8 ≡ 48 → modeText m ≡ short (drop 1 (sixDigits m))
-      unfolding modeText writeMode
-      text-five a = simp (ne-eqb m 0 n, eq-eqb (48 + m / 0o10000 % 8) 52 b, eq-eqb (48 + m / 0o100000 % 8) 48 a)
-
-      pub text-padded : (48 + m / 0o100000 % 8 ≡ 48 → ⊥) → modeText m ≡ short (48 ∷ drop 1 (sixDigits m))
-      unfolding modeText writeMode
-      text-padded a = simp (ne-eqb m 0 n, eq-eqb (48 + m / 0o10000 % 8) 52 b, ne-eqb (48 + m / 0o100000 % 8) 48 a)
+  pub text-more : (m ≡ 0 → ⊥) → modeText m ≡ short (trimmed (sixDigits m))
+  unfolding modeText writeMode
+  text-more n = simp (ne-eqb m 0 n)
 
 -- ---- a mode's text as a writer has it
 
 -- it has at most six bytes
 pub mode-le : (m : ℕ) → length (writeMode m) ≤ 6
-unfolding writeMode
+unfolding writeMode trimmed
 mode-le m = go (eqb m 0) (eqb (getD (sixDigits m) 1 0) 52) (eqb (getD (sixDigits m) 0 0) 48)
   where
     go : (p q r : Bool) → length (pick p (48 ∷ []) (pick q (pick r (drop 1 (sixDigits m)) (48 ∷ drop 1 (sixDigits m))) (sixDigits m))) ≤ 6
@@ -313,7 +303,7 @@ rows-length = refl
 
 -- The table's rule, over all of its rows at once: each text is the one written for the row's mode, ..
 pub row-text-is : (i : ℕ) → i < 5 → rowAt i .text ≡ modeText (rowAt i .mode)
-unfolding rows rowAt modeText writeMode
+unfolding rows rowAt modeText writeMode trimmed
 row-text-is = rows-agree rows noRow (λ (r : Written). r .text) (λ (r : Written). modeText (r .mode)) refl
 
 -- .. each kind is that mode's kind, ..

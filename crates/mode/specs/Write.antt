@@ -18,13 +18,13 @@ sixDigits m =
     ∷ (48 + m % 8)
     ∷ []
 
--- mode 0 is `0`. Any other has its six digits, but where the second is `4` the first is left out if it is `0`, and is made `0` if it is `1`
+-- where the second digit is `4`, the first is left out if it is `0`, and is made `0` if it is `1`
+unfoldable pub trimmed : List ℕ → List ℕ
+trimmed ds = pick (eqb (getD ds 1 0) 52) (pick (eqb (getD ds 0 0) 48) (drop 1 ds) (48 ∷ drop 1 ds)) ds
+
+-- mode 0 is `0`, any other its digits so trimmed
 unfoldable pub writeMode : ℕ → List ℕ
-writeMode m =
-    pick (eqb m 0) (48 ∷ [])
-    (pick (eqb (getD (sixDigits m) 1 0) 52)
-    (pick (eqb (getD (sixDigits m) 0 0) 48) (drop 1 (sixDigits m)) (48 ∷ drop 1 (sixDigits m)))
-    (sixDigits m))
+writeMode m = pick (eqb m 0) (48 ∷ []) (trimmed (sixDigits m))
 
 -- the mode that a written text reads as: the one it was written for, but those from 49153 to 53247 lose their highest bit
 unfoldable pub again : ℕ → ℕ

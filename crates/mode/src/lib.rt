@@ -2,11 +2,12 @@
 // (docs/FORMAT.md, "Modes"; it follows src/tree/mod.rs).
 ghost use mathlib.Core.Path.{_≡_};
 ghost use mathlib.Core.Bool.{not};
+ghost use mathlib.Core.List.{[], _∷_};
 ghost use Prim.Native.Nat.{_+_, _%_, _≤_, _<_, min};
 ghost use lib.Dec.{eqb};
 ghost use Rattle.mode.specs.Mode.{valueOf, sortOf, executes, kindOf, isTree, isExecutable, isFileOrLink, accepted, rejected, fromNumber};
 ghost use Rattle.mode.specs.Read.{octalFrom, hasSix, textLen, settle, restAt, readMode, readModeAt, alone, modeAlone};
-ghost use Rattle.mode.specs.Write.{modeText};
+ghost use Rattle.mode.specs.Write.{trimmed, short, modeText};
 ghost use Rattle.mode.specs.Table.{placeOf, rowAt, writtenOf, wordOf, writtenMode};
 use ground::Gate;
 use ground::Verdict;
@@ -23,7 +24,7 @@ pub enum EntryKind {
     Commit,
 }
 
-// The 16 bits. 49152 is a tree whose text had six digits, 16384 one whose text had five.
+// The 16 bits. 16384 from a text that begins with 0 is kept as 49152, so that the text can be written again.
 pub struct EntryMode {
     pub internal: u16,
 }
@@ -254,7 +255,7 @@ impl EntryMode {
 
     pub const COMMIT: u16 = 0o160000;
 
-    // The number a mode stands for: a tree is 16384 where its text had six digits.
+    // The number a mode stands for: itself, but 16384 where the top four bits are those of 49152.
     pub fn value(self) -> u16
         ensures { λ r. ⌜ r ≡ valueOf (self .internal) ⌝ }
     {
@@ -360,30 +361,14 @@ impl EntryMode {
                 len: 1,
             };
         }
-        let a = digit(m / 0o100000);
-        let b = digit(m / 0o10000);
-        let c = digit(m / 0o1000);
-        let d = digit(m / 0o100);
-        let e = digit(m / 0o10);
-        let f = digit(m);
-        if b == 52 {
-            if a == 48 {
-                ShortText {
-                    bytes: [b, c, d, e, f, 0],
-                    len: 5,
-                }
-            } else {
-                ShortText {
-                    bytes: [48, b, c, d, e, f],
-                    len: 6,
-                }
-            }
-        } else {
-            ShortText {
-                bytes: [a, b, c, d, e, f],
-                len: 6,
-            }
-        }
+        trimmed(
+            digit(m / 0o100000),
+            digit(m / 0o10000),
+            digit(m / 0o1000),
+            digit(m / 0o100),
+            digit(m / 0o10),
+            digit(m),
+        )
     }
 
     // A mode from a 32-bit number: refusal 23 where it is neither a tree's nor has bit 15 set.
@@ -459,6 +444,28 @@ fn digit(n: u16) -> u8
     48 + (n % 8) as u8
 }
 
+// The text of six digits: a tree's loses its first, or has 0 for it.
+fn trimmed(a: u8, b: u8, c: u8, d: u8, e: u8, f: u8) -> ShortText
+    ensures { λ r. ⌜ r ≡ short (trimmed (a ∷ b ∷ c ∷ d ∷ e ∷ f ∷ [])) ⌝ }
+{
+    if b != 52 {
+        return ShortText {
+            bytes: [a, b, c, d, e, f],
+            len: 6,
+        };
+    }
+    if a == 48 {
+        return ShortText {
+            bytes: [b, c, d, e, f, 0],
+            len: 5,
+        };
+    }
+    ShortText {
+        bytes: [48, b, c, d, e, f],
+        len: 6,
+    }
+}
+
 // Eight bytes on from a place, or the end where that comes first.
 fn eight_on(at: usize, len: usize) -> usize
     requires { ⌜ at ≤ len ⌝ }
@@ -504,7 +511,7 @@ fn text_len(i: &[u8]) -> usize
     if has_six(i) { 6 } else { count_to(i, 32) }
 }
 
-// A tree whose text begins with 0 is told from one whose text does not.
+// 16384 from a text that begins with 0 is told from 16384 from another.
 fn settled(v: u16, first: u8) -> u16
     ensures { λ r. ⌜ r ≡ settle v first ⌝ }
 {

@@ -1,8 +1,6 @@
-// Runs every mode and the mode texts of docs/FORMAT.md, "Modes", and writes what comes of them; expected.py computes the same from the paper.
+// Runs every mode and the mode texts of docs/FORMAT.md, "Modes", and writes what comes of them; expected.py computes the same without Rattle.
 // A line for each of the 16 sorts: the sort in octal; how many of its 4,096 modes are of each kind, in the table's order; how many texts have
 // 1, 5 and 6 bytes; how many, read back, give the mode itself, the mode less 32768, and anything else; and a sum.
-// The sum begins with 0 and takes x by sum * 31 + x modulo 2^32. Of each mode, in ascending order, it takes: the value, the kind's place in the
-// table, each byte of the text, the mode read back from that text, a space and the letter a (65536 if refused), and the rest's place (0 if refused).
 use libc::STDOUT_FILENO;
 use mode::EntryKind;
 use mode::EntryMode;
@@ -42,6 +40,7 @@ fn row(word: &[u8], counts: &[u64], from: usize, to: usize) {
     }
 }
 
+// The sum takes a number x: sum * 31 + x, modulo 2^32.
 fn take(sum: u64, x: u64) -> u64 {
     (sum % 4294967296 * 31 + x % 4294967296) % 4294967296
 }
@@ -134,6 +133,8 @@ fn read_back(t: ShortText) -> ModeRead {
     EntryMode::extract_at(&line[..end], 0)
 }
 
+// One mode: its three counts, and what the sum takes of it, in this order: the value, the kind's place, each byte of the text, the mode read
+// back (65536 if refused), and where the rest begins (0 if refused).
 fn one_mode(m: u16, counts: &mut [u64], sum: u64) -> u64 {
     let mode = EntryMode { internal: m };
     let kind = kind_place(mode.kind());
@@ -146,7 +147,7 @@ fn one_mode(m: u16, counts: &mut [u64], sum: u64) -> u64 {
     take_read(take_text(a, t), back)
 }
 
-// All modes of a sort: their counts, and the sum.
+// All modes of a sort, in ascending order: their counts, and the sum, which begins with 0.
 fn all_modes(sort: u16, counts: &mut [u64]) -> u64 {
     let mut sum: u64 = 0;
     let mut low: u16 = 0;

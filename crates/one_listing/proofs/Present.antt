@@ -11,7 +11,7 @@ use Rattle.ground.specs.Basics.{pick, ascii}
 use Rattle.ground.specs.Scan.{sameBytes}
 use Rattle.ground.proofs.Laws.{is-false, same-refl, same-true}
 use Rattle.mode.specs.Table.{rows}
-use Rattle.mode.specs.Write.{writeMode, again}
+use Rattle.mode.specs.Write.{writeMode, trimmed, again}
 use Rattle.order.specs.declared.Order.{Order}
 use Rattle.order.specs.declared.Order.the-variants.{Below, Same, Above}
 use Rattle.entry.specs.Entry.{Entry}
@@ -25,7 +25,7 @@ use Rattle.one_listing.proofs.Theorem.{one-listing, short-room, one-obj
 -- ---- the laws
 
 rows-ok : RowsOk rows
-unfolding rows writeMode again
+unfolding rows writeMode trimmed again
 rows-ok = (
   record { written = refl; some = λ e. omega arith; small = omega arith; same = refl },
   (

@@ -30,8 +30,14 @@ records-stored [] rest = refl
 records-stored (r ∷ rs) rest = ap (λ (l : List EntryRecord). r ∷ l) (records-stored rs rest)
 
 -- the same of the lent list after a reading that was done
-stored-records : (l : Listing) (v : Verdict) (lent : List ℕ) (n : ℕ) → v .number ≡ 0 → n ≡ length (recordsIn l) → take n (recordsOf (stored v (flats (recordsIn l)) lent)) ≡ recordsIn l
+pub stored-records : (l : Listing) (v : Verdict) (lent : List ℕ) (n : ℕ) → v .number ≡ 0 → n ≡ length (recordsIn l) → take n (recordsOf (stored v (flats (recordsIn l)) lent)) ≡ recordsIn l
 stored-records l v lent n z e = rw (e, stored-done v (flats (recordsIn l)) lent z) (records-stored (recordsIn l) (drop (length (flats (recordsIn l))) lent))
+
+-- a listing of what was written has as many entries
+pub listed-total : (at n : ℕ) (es : List Entry) → tally n (listed at es) ≡ Total (n + length es)
+unfolding tally listed
+listed-total at n [] = let z : n + 0 ≡ n = omega arith in rw z
+listed-total at n (e ∷ es) = let z : n + length (e ∷ es) ≡ n + 1 + length es = omega arith in rw z (listed-total _ (n + 1) es)
 
 module _ (R : Rules) (ok : RulesOk R) where
   -- a sound listing as written is read to its end, and the records name it
@@ -40,11 +46,6 @@ module _ (R : Rules) (ok : RulesOk R) where
   sound-listed h es s few =
       let w = sound-writable R ok h [] es s in
       (ap (cut R h (asWritten es) []) (read-written h mostRecords 0 es w few) ∙ sound-uncut R ok h [] [] es s, names-listed h [] es w ∙ sound-again R ok h [] es s)
-
-  listed-total : (at n : ℕ) (es : List Entry) → tally n (listed at es) ≡ Total (n + length es)
-  unfolding tally listed
-  listed-total at n [] = let z : n + 0 ≡ n = omega arith in rw z
-  listed-total at n (e ∷ es) = let z : n + length (e ∷ es) ≡ n + 1 + length es = omega arith in rw z (listed-total _ (n + 1) es)
 
   module _ (h : ℕ) (s lent : List ℕ) (es : List Entry) (i : (h ≡ 20) ⊎ (h ≡ 32)) (b : length s ≤ mostBytes) (sound : Sound R h [] es) (few : length es ≤ mostRecords) (bytes : s ≡ asWritten es) where
     read-is : strictly R h s ≡ listed 0 es
@@ -67,7 +68,7 @@ module _ (R : Rules) (ok : RulesOk R) where
           listed = ap (entriesOf h s) (r ∙ ap recordsIn read-is) ∙ rw bytes (sound-listed h es sound few .1);
         }
 
-  accepts-sound : (h : ℕ) (s lent : List ℕ) (es : List Entry) → Accepts R h s lent es → Sound R h [] es × (length es ≤ many (length lent)) × (s ≡ asWritten es)
+  pub accepts-sound : (h : ℕ) (s lent : List ℕ) (es : List Entry) → Accepts R h s lent es → Sound R h [] es × (length es ≤ many (length lent)) × (s ≡ asWritten es)
   accepts-sound h s lent es a =
       let d = answer-done (strictly R h s) h (length s) (many (length lent)) (many (length lent)) (length es) (cut-refuses R h s) (a .answer) in
       let g = gate-open h (length s) (many (length lent)) (d .0) in

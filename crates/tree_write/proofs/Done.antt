@@ -19,7 +19,8 @@ use Rattle.tree_write.specs.Write.{written, judged, measured, treeSize, 
 use Rattle.tree_write.proofs.Laws.{measured-fine, measured-length, measured-size}
 
 module _ (h : ℕ) (bytes records : List ℕ) (room : ℕ) (z : treeAnswer h bytes records room .verdict .number ≡ 0) where
-  began : gateOf h (max (length bytes) room) (length (recordsOf records)) ≡ Open
+  -- the call began
+  pub began : gateOf h (max (length bytes) room) (length (recordsOf records)) ≡ Open
   unfolding treeAnswer
   began = gated-done h (max (length bytes) room) (length (recordsOf records)) _ z
 

@@ -7,7 +7,7 @@ use Rattle.ground.specs.Basics.{ascii}
 use Rattle.ground.specs.Verdict.{verdict, counted, refused, idLength, sizeGate, gateOf, stored}
 use Rattle.ground.specs.declared.Answer.{Answer}
 use Rattle.output.specs.Output.{fitted, gated}
-use Rattle.mode.specs.Write.{writeMode}
+use Rattle.mode.specs.Write.{writeMode, trimmed}
 use Rattle.entry.specs.Record.{recordsOf, wellFormed, nameOf, idOf}
 use Rattle.entry.specs.Entry.{entryBytes, asWritten, entryOf}
 use Rattle.tree_write.specs.Write.{written, refusal, judged, measured, treeSize, treeAnswer}
@@ -65,16 +65,16 @@ examples =
     ∷ []
 
 pub answers-hold : map (λ (e : Example). treeAnswer 20 (e .bytes) (e .records) (length (e .room))) examples ≡ map (λ (e : Example). e .answer) examples
-unfolding examples idLength sizeGate gateOf fitted gated writeMode recordsOf wellFormed nameOf idOf entryBytes asWritten entryOf refusal judged measured treeAnswer
+unfolding examples idLength sizeGate gateOf fitted gated writeMode trimmed recordsOf wellFormed nameOf idOf entryBytes asWritten entryOf refusal judged measured treeAnswer
 answers-hold = refl
 
 pub sizes-hold : map (λ (e : Example). treeSize 20 (e .bytes) (e .records)) examples ≡ map (λ (e : Example). e .size) examples
-unfolding examples idLength sizeGate gateOf gated writeMode recordsOf wellFormed nameOf idOf entryBytes asWritten entryOf refusal judged measured treeSize
+unfolding examples idLength sizeGate gateOf gated writeMode trimmed recordsOf wellFormed nameOf idOf entryBytes asWritten entryOf refusal judged measured treeSize
 sizes-hold = refl
 
 abbrev after : Example → List ℕ
 after e = stored (treeAnswer 20 (e .bytes) (e .records) (length (e .room)) .verdict) (written 20 (e .bytes) (recordsOf (e .records))) (e .room)
 
 pub outputs-hold : map after examples ≡ map (λ (e : Example). e .output) examples
-unfolding examples idLength sizeGate gateOf fitted gated stored writeMode recordsOf wellFormed nameOf idOf entryBytes asWritten entryOf refusal judged measured treeAnswer
+unfolding examples idLength sizeGate gateOf fitted gated stored writeMode trimmed recordsOf wellFormed nameOf idOf entryBytes asWritten entryOf refusal judged measured treeAnswer
 outputs-hold = refl

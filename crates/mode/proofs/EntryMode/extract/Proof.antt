@@ -14,7 +14,7 @@ text-len-requires : tie.Need-text-len-requires
 text-len-requires c κs = search needs
 
 returns-2 : tie.Need-returns-2
-returns-2 c = sym (read-long _ (c .before .before .if1 .left) _ (c .before .text-len .ensures) (c .if2 .taken))
+returns-2 c = sym (read-long _ (c .before .before .if1 .left) _ (c .before .text-len .ensures) (omega arith))
 
 shared-slice-read-first : tie.Need-shared-slice-read-first
 shared-slice-read-first c = search needs
@@ -44,14 +44,14 @@ returns-3 : tie.Need-returns-3
 returns-3 c =
     let q = c .before .before .before .before in
     let p = q .before .before .before .before in
-    let number = read-number _ (p .before .before .if1 .left) _ (p .before .text-len .ensures) (p .if2 .left) _ (sym (q .octal-of .ensures) ∙ c .before .before .v .given .1) in
+    let number = read-number _ (p .before .before .if1 .left) _ (p .before .text-len .ensures) (omega arith) _ (sym (q .octal-of .ensures) ∙ c .before .before .v .given .1) in
     cc (number, c .settled .ensures, q .before .before .rest-at .ensures)
 
 returns-4 : tie.Need-returns-4
 returns-4 c =
     let q = c .before .before in
     let p = q .before .before .before .before in
-    sym (read-other _ (p .before .before .if1 .left) _ (p .before .text-len .ensures) (p .if2 .left) (sym (q .octal-of .ensures) ∙ c .enum-told .given .1))
+    sym (read-other _ (p .before .before .if1 .left) _ (p .before .text-len .ensures) (omega arith) (sym (q .octal-of .ensures) ∙ c .enum-told .given .1))
 
 pub extract-spec : {M : Type 1} → statement M
 extract-spec =
