@@ -21,7 +21,8 @@ use Rattle.actor.proofs.Laws.{name-is, named-is, zone-length, zone-is, 
 
 -- ---- classes of bytes
 
-free-both : (x : ℕ) (a b : List ℕ) → freeOf x a ≡ true → freeOf x b ≡ true → freeOf x (a ++ b) ≡ true
+-- two lists free of a byte are free of it together
+pub free-both : (x : ℕ) (a b : List ℕ) → freeOf x a ≡ true → freeOf x b ≡ true → freeOf x (a ++ b) ≡ true
 free-both x [] b e f = f
 free-both x (y ∷ a) b e f =
     rw (and-left (not (eqb y x)) (freeOf x a) e) (free-both x a b (and-right (not (eqb y x)) (freeOf x a) e) f)

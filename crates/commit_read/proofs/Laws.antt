@@ -72,7 +72,8 @@ parents-fit h s at k = from (length s - 0) at k
     from zero at k = rw (zero-mul (8 + 2 * h)) (omega arith)
     from (suc left) at k = go (parentAt h s at) refl (from left (at + (8 + 2 * h)))
       where
-        go : (t : Bool) → parentAt h s at ≡ t → (at + (8 + 2 * h) ≤ length s → at + (8 + 2 * h) + parentsFrom left h s (at + (8 + 2 * h)) * (8 + 2 * h) ≤ length s)
+        go : (t : Bool) → parentAt h s at ≡ t → (at + (8 + 2 * h) ≤ length s → at + (8 + 2 * h) + parentsFrom left h s (at + (8 + 2 * h)) *
+            (8 + 2 * h) ≤ length s)
             → at + pick t (suc (parentsFrom left h s (at + (8 + 2 * h)))) 0 * (8 + 2 * h) ≤ length s
         go true q ih = rw (suc-mul (parentsFrom left h s (at + (8 + 2 * h))) (8 + 2 * h)) (omega (arith, ih (parent-fits h s at q)))
         go false q ih = rw (zero-mul (8 + 2 * h)) (omega arith)
@@ -316,10 +317,6 @@ fields-parts s h x q = by-tree (idAt treeWord h s 0) refl
 
 -- ---- the outcome
 
--- the gate of a call, from what was asked and answered
-pub gate-told : (h len m n : ℕ) (g w : Gate) → m ≡ n → g ≡ gateOf h len m → g ≡ w → gateOf h len n ≡ w
-gate-told h len m n g w p q r = rw (← p, ← q) r
-
 module _ (s : List ℕ) (h np nh : ℕ) where
   pub outcome-shut : (v : Verdict) → gateOf h (length s) (max np nh) ≡ Shut v → outcomeOf s h np nh ≡ Fails (record { verdict = v; field = 0 })
   unfolding outcomeOf gatedBy
@@ -366,7 +363,8 @@ outcome-inverse s h np nh x q = by-gate (gateOf h (length s) (max np nh)) refl
                 → (gateOf h (length s) (max np nh) ≡ Open) × (fieldsOf s h ≡ Whole x) × (x .parents ≤ np) × (x .headers ≤ nh)
             go false a b c = let z : _≡_ {A = ℕ} 0 1 = cc (outcome-parents s h np nh g f m (leb-false (f .parents) np a)) in absurd (omega arith)
             go true a false c =
-                let z : _≡_ {A = ℕ} 0 1 = cc (outcome-headers s h np nh g f m (leb-true (f .parents) np a) (leb-false (f .headers) nh c)) in absurd (omega arith)
+                let z : _≡_ {A = ℕ} 0 1 = cc (outcome-headers s h np nh g f m (leb-true (f .parents) np a) (leb-false (f .headers) nh c)) in absurd
+                (omega arith)
             go true a true c =
                 let j = leb-true (f .parents) np a in
                 let k = leb-true (f .headers) nh c in

@@ -31,40 +31,40 @@ pub struct CommitRead {
 }
 
 // Why a commit is refused.
-struct Refusal {
-    verdict: Verdict,
-    field: usize,
+pub struct Refusal {
+    pub verdict: Verdict,
+    pub field: usize,
 }
 
 // The value of an author's or committer's line.
-enum Person {
+pub enum Person {
     At(usize, usize),
     Fails(Refusal),
 }
 
 // The encoding's value, its mark 1 where there is one, and the place after it.
-struct Encoding {
-    mark: usize,
-    start: usize,
-    end: usize,
-    next: usize,
+pub struct Encoding {
+    pub mark: usize,
+    pub start: usize,
+    pub end: usize,
+    pub next: usize,
 }
 
 // How many extra headers there are, and the place after them.
-struct HeaderCount {
-    count: usize,
-    end: usize,
+pub struct HeaderCount {
+    pub count: usize,
+    pub end: usize,
 }
 
 // What was found: the counts, the place of the first extra header, and the parts.
-struct Found {
-    parents: usize,
-    headers: usize,
-    first: usize,
-    parts: CommitParts,
+pub struct Found {
+    pub parents: usize,
+    pub headers: usize,
+    pub first: usize,
+    pub parts: CommitParts,
 }
 
-enum Outcome {
+pub enum Outcome {
     Whole(Found),
     Fails(Refusal),
 }

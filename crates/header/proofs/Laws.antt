@@ -1,6 +1,6 @@
 -- Laws of hex digits, lines, extra headers and records, one for each way through a definition. Assumes nothing.
 use Prim.Native.Nat.{ℕ, suc, _+_, _-_, _*_, _/_, _<_, _≤_}
-use mathlib.Core.Path.{_≡_, refl, sym, _∙_}
+use mathlib.Core.Path.{_≡_, refl, ap, sym, _∙_}
 use mathlib.Core.Bool.{Bool, true, false, true≢false, _&&_}
 use mathlib.Core.List.{List, [], _∷_}
 use mathlib.Core.Logic.{_⊎_, inl, inr}
@@ -21,6 +21,10 @@ use Rattle.header.specs.Record.{width, headerOf, flat, headerAt, putHead
 use Rattle.header.specs.declared.HeaderRecord.{HeaderRecord}
 use Rattle.header.specs.declared.Line.the-variants.{Value, Missing}
 use Rattle.header.specs.declared.Extra.the-variants.{Got, No}
+
+-- what a test says of a number, from the number's own name and the test's answer
+pub told : {A : Type 0} (f : ℕ → A) {m n : ℕ} {g w : A} → m ≡ n → g ≡ f m → g ≡ w → f n ≡ w
+told f p q r = ap f (sym p) ∙ sym q ∙ r
 
 -- ---- hex digits, from a place on: one, another byte, the end
 
@@ -133,7 +137,8 @@ line-fits w s at a e v = let k = line-parts w s at a e v in (omega (arith, k, pl
 -- ---- lines that start with a space
 
 -- inside a line: it ends, or it does not
-line-ends-at : (start at : ℕ) (t : List ℕ) → countTo 10 t < length t → foldFrom true start at t ≡ foldFrom false start (at + countTo 10 t + 1) (drop (countTo 10 t + 1) t)
+line-ends-at : (start at : ℕ) (t : List ℕ) → countTo 10 t < length t → foldFrom true start at t ≡ foldFrom false start (at + countTo 10 t + 1)
+    (drop (countTo 10 t + 1) t)
 unfolding foldFrom
 line-ends-at start at [] h = absurd (not-suc-le-zero h)
 line-ends-at start at (b ∷ bs) h = rw (add-one (pick (eqb b 10) 0 (suc (countTo 10 bs)))) (go (eqb b 10) h (line-ends-at start (at + 1) bs))

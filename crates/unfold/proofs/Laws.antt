@@ -10,7 +10,6 @@ use lib.Seq.{drop-cons, sets, sets-eq}
 use borrow.Author.Tests.{eq-eqb, ne-eqb, le-leb, lt-leb}
 use Rattle.ground.specs.Verdict.{verdict, counted, refused, sizeGate}
 use Rattle.ground.specs.declared.Verdict.{Verdict}
-use Rattle.ground.specs.declared.Gate.{Gate}
 use Rattle.ground.specs.declared.Gate.the-variants.{Open, Shut}
 use Rattle.header.specs.Extra.{foldedForm}
 use Rattle.header.specs.Record.{wellFormed, valueOf}
@@ -54,10 +53,6 @@ plain-same mark v m = from 0 v
     from prev (x ∷ xs) = plain-keep mark prev (x ∷ xs) 0 (omega arith) (rw (ne-eqb mark 1 m)) ∙ ap (λ (l : List ℕ). x ∷ l) (from x xs)
 
 -- ---- what a call comes to
-
--- the gate of a call, from what was asked and answered
-pub gate-told : (m n : ℕ) (g w : Gate) → m ≡ n → g ≡ sizeGate m 0 → g ≡ w → sizeGate n 0 ≡ w
-gate-told m n g w p q r = rw (← p, ← q) r
 
 module _ (s : List ℕ) (x : HeaderRecord) (room : ℕ) where
   pub plan-shut : (v : Verdict) → sizeGate (max (length s) room) 0 ≡ Shut v → unfoldPlan s x room ≡ refuses v

@@ -54,7 +54,8 @@ returns-2 c =
     let count-to = c .before .before .before .before .before .before .count-to in
     let args = c .before .before .before .before .before .before .before .before .args in
     let v = args .v .now in
-    c .is-addressed .ensures ∙ ap isAddressed (part-from v (count-to .result + 1)) ∙ sym (actor-is v _ (count-to .ensures) (sym (is-named .ensures) ∙ c .before .before .if2 .taken))
+    c .is-addressed .ensures ∙ ap isAddressed (part-from v (count-to .result + 1)) ∙ sym
+    (actor-is v _ (count-to .ensures) (sym (is-named .ensures) ∙ c .before .before .if2 .taken))
 
 returns-3 : tie.Need-returns-3
 returns-3 c =

@@ -68,7 +68,8 @@ returns-4 c =
     let count-to = c .before .before .before .before .before .before .before .before .before .count-to in
     let args = c .before .before .before .before .before .before .before .before .before .before .before .args in
     let a = args .a .now in
-    c .is-time .ensures ∙ ap isTime (part-from a (count-to .result + 2)) ∙ sym (address-is a _ (count-to .ensures) (if1 .left) (if3 .left) (sym (all-of .ensures) ∙ c .before .before .if4 .taken))
+    c .is-time .ensures ∙ ap isTime (part-from a (count-to .result + 2)) ∙ sym
+    (address-is a _ (count-to .ensures) (if1 .left) (if3 .left) (sym (all-of .ensures) ∙ c .before .before .if4 .taken))
 
 returns-5 : tie.Need-returns-5
 returns-5 c =

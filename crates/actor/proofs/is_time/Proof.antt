@@ -65,7 +65,8 @@ returns-4 c =
     let count-to = c .before .before .before .before .before .before .before .before .count-to in
     let args = c .before .before .before .before .before .before .before .before .before .before .args in
     let d = args .d .now in
-    c .is-zone .ensures ∙ ap isZone (part-from d (count-to .result + 1)) ∙ sym (time-is d _ (count-to .ensures) (if1 .left) (omega (arith, if2 .left)) (sym (all-of .ensures) ∙ c .before .before .if4 .taken))
+    c .is-zone .ensures ∙ ap isZone (part-from d (count-to .result + 1)) ∙ sym
+    (time-is d _ (count-to .ensures) (if1 .left) (omega (arith, if2 .left)) (sym (all-of .ensures) ∙ c .before .before .if4 .taken))
 
 returns-5 : tie.Need-returns-5
 returns-5 c =

@@ -74,7 +74,8 @@ returns-3 c =
     let args = c .before .before .before .before .before .before .before .before .before .before .before .before .before .before .before .args in
     let z = args .z .now in
     let d = sym (all-of .ensures ∙ ap (allOf Digit) (part-from z 1)) ∙ if3 .taken in
-    ap (λ (v : ℕ). leb v 59) (c .two-digits2 .ensures) ∙ sym (zone-is z (if1 .left) (sym (is-sign .ensures) ∙ if2 .taken) d (omega (arith, two-digits .ensures, if4 .left)))
+    ap (λ (v : ℕ). leb v 59) (c .two-digits2 .ensures) ∙ sym (zone-is z (if1 .left) (sym (is-sign .ensures) ∙ if2 .taken) d
+    (omega (arith, two-digits .ensures, if4 .left)))
 
 returns-4 : tie.Need-returns-4
 returns-4 c =

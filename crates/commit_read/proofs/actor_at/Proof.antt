@@ -33,7 +33,8 @@ returns c =
     let from = c .before .before .before .before .from in
     let value-line = c .before .before .before .before .before .before .value-line in
     let args = c .before .before .before .before .before .before .before .before .before .args in
-    sym (actor-good (args .s .now) (args .at) (args .word .now) (args .field) _ _ (sym (value-line .ensures) ∙ from .given .1) (sym (c .before .is-actor .ensures) ∙ c .if1 .taken))
+    sym (actor-good (args .s .now) (args .at) (args .word .now) (args .field) _ _ (sym (value-line .ensures) ∙ from .given .1)
+    (sym (c .before .is-actor .ensures) ∙ c .if1 .taken))
 
 returns-2 : tie.Need-returns-2
 returns-2 c =
@@ -45,7 +46,8 @@ returns-3 c =
     let from = c .before .before .before .before .from in
     let value-line = c .before .before .before .before .before .before .value-line in
     let args = c .before .before .before .before .before .before .before .before .before .args in
-    sym (actor-bad (args .s .now) (args .at) (args .word .now) (args .field) _ _ (sym (value-line .ensures) ∙ from .given .1) (sym (c .before .is-actor .ensures) ∙ c .if1 .left))
+    sym (actor-bad (args .s .now) (args .at) (args .word .now) (args .field) _ _ (sym (value-line .ensures) ∙ from .given .1)
+    (sym (c .before .is-actor .ensures) ∙ c .if1 .left))
 
 pub actor-at-spec : {M : Type 1} → statement M
 actor-at-spec =

@@ -27,13 +27,15 @@ returns : tie.Need-returns
 returns c =
     let encoding-at = c .before .before .before .encoding-at in
     let args = c .before .before .before .before .before .args in
-    sym (ending-is (args .s .now) (args .n) (args .a) (args .e) (args .b) (args .f) _ _ (encoding-at .ensures) (c .before .before .count-headers .ensures) (sym (c .before .byte-at .ensures) ∙ c .if1 .taken))
+    sym (ending-is (args .s .now) (args .n) (args .a) (args .e) (args .b) (args .f) _ _ (encoding-at .ensures) (c .before .before .count-headers .ensures)
+    (sym (c .before .byte-at .ensures) ∙ c .if1 .taken))
 
 returns-2 : tie.Need-returns-2
 returns-2 c =
     let encoding-at = c .before .before .before .encoding-at in
     let args = c .before .before .before .before .before .args in
-    sym (ending-no (args .s .now) (args .n) (args .a) (args .e) (args .b) (args .f) _ _ (encoding-at .ensures) (c .before .before .count-headers .ensures) (λ e. c .if1 .left (c .before .byte-at .ensures ∙ e)))
+    sym (ending-no (args .s .now) (args .n) (args .a) (args .e) (args .b) (args .f) _ _ (encoding-at .ensures) (c .before .before .count-headers .ensures)
+    (λ e. c .if1 .left (c .before .byte-at .ensures ∙ e)))
 
 pub ending-spec : {M : Type 1} → statement M
 ending-spec =

@@ -31,14 +31,16 @@ add-p c = search needs
 mul-p-2 : tie.Need-mul-p-2
 mul-p-2 c =
     let args = c .before .before .before .before .before .args in
-    let f = parents-fit (args .h) (args .s .now) (6 + 2 * args .h) (tree-fits (args .s .now) (args .h) (sym (c .before .before .id-line .ensures) ∙ c .before .if1 .taken)) in
+    let f = parents-fit (args .h) (args .s .now) (6 + 2 * args .h)
+    (tree-fits (args .s .now) (args .h) (sym (c .before .before .id-line .ensures) ∙ c .before .if1 .taken)) in
     let g = rw (← c .count-parents .ensures) at f in
     omega (arith, g)
 
 add-p-2 : tie.Need-add-p-2
 add-p-2 c =
     let args = c .before .before .before .before .before .args in
-    let f = parents-fit (args .h) (args .s .now) (6 + 2 * args .h) (tree-fits (args .s .now) (args .h) (sym (c .before .before .id-line .ensures) ∙ c .before .if1 .taken)) in
+    let f = parents-fit (args .h) (args .s .now) (6 + 2 * args .h)
+    (tree-fits (args .s .now) (args .h) (sym (c .before .before .id-line .ensures) ∙ c .before .if1 .taken)) in
     let g = rw (← c .count-parents .ensures) at f in
     omega (arith, g)
 
@@ -49,7 +51,8 @@ returns : tie.Need-returns
 returns c =
     let id-line = c .before .before .before .id-line in
     let args = c .before .before .before .before .before .before .args in
-    c .people .ensures ∙ sym (fields-are (args .s .now) (args .h) (sym (id-line .ensures) ∙ c .before .before .if1 .taken) _ (c .before .count-parents .ensures))
+    c .people .ensures ∙ sym (fields-are (args .s .now) (args .h) (sym (id-line .ensures) ∙ c .before .before .if1 .taken) _
+    (c .before .count-parents .ensures))
 
 returns-2 : tie.Need-returns-2
 returns-2 c =

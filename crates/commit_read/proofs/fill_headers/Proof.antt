@@ -60,8 +60,12 @@ loop-again c =
     let extra-at = c .before .before .before .before .before .before .before .extra-at in
     let loop = c .before .before .before .before .before .before .before .before .loop in
     let g = sym (extra-at .ensures) ∙ x-at .given .1 in
-    let x = extra-next _ _ g in
-    (omega (arith, x, loop .inv .0), put-header .kept .0 ∙ loop .inv .1, loop .inv .2 ∙ written-more _ _ (loop .n) _ _ (heads-more _ _ _ (omega (arith, x, loop .inv .0)) g) (put-header .ensures))
+    let x = extra-next _ _ g in (
+      omega (arith, x, loop .inv .0),
+      put-header .kept .0 ∙ loop .inv .1,
+      loop .inv .2 ∙ written-more _ _ (loop .n) _ _
+          (heads-more _ _ _ (omega (arith, x, loop .inv .0)) g) (put-header .ensures),
+    )
 
 pub fill-headers-spec : {M : Type 1} → statement M
 fill-headers-spec =

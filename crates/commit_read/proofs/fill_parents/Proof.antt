@@ -10,7 +10,8 @@ use Rattle.commit_read.specs.Parents.{stored}
 use Rattle.commit_read.proofs.Laws.{stored-none, stored-more, one-less}
 
 abbrev Inv-loop : tie.InvT-loop
-Inv-loop out₀ n at h left₀ i₀ p₀ out left i p = (i + left ≡ n) × (length out ≡ length out₀) × (p + left * (8 + 2 * h) < 18446744073709551616) × (stored h out₀ 0 at n ≡ stored h out i p left)
+Inv-loop out₀ n at h left₀ i₀ p₀ out left i p = (i + left ≡ n) × (length out ≡ length out₀) × (p + left * (8 + 2 * h) < 18446744073709551616) ×
+    (stored h out₀ 0 at n ≡ stored h out i p left)
 
 abbrev μ-loop : tie.MeasureT-loop
 μ-loop out₀ n at h left₀ i₀ p₀ out left i p = left
@@ -51,15 +52,26 @@ loop-less c = search needs
 
 loop-again : tie.Need-loop-again Inv-loop μ-loop
 loop-again c =
-    let args = c .before .before .args in
-    (omega (arith, c .before .loop .inv .0, c .loop-test .taken), simp length-set (c .before .loop .inv .1), omega (arith, c .before .loop .inv .2, one-less (c .before .loop .p) (c .before .loop .left) (8 + 2 * args .h) (c .loop-test .taken)), c .before .loop .inv .3 ∙ stored-more (args .h) (c .before .loop .out) (c .before .loop .i) (c .before .loop .p) (c .before .loop .left) (c .loop-test .taken))
+    let args = c .before .before .args in (
+      omega (arith, c .before .loop .inv .0, c .loop-test .taken),
+      simp length-set (c .before .loop .inv .1),
+      omega (
+        arith,
+        c .before .loop .inv .2,
+        one-less (c .before .loop .p) (c .before .loop .left) (8 + 2 * args .h)
+            (c .loop-test .taken),
+      ),
+      c .before .loop .inv .3 ∙ stored-more (args .h) (c .before .loop .out) (c .before .loop .i) (c .before .loop .p)
+          (c .before .loop .left) (c .loop-test .taken),
+    )
 
 same-length : tie.Need-same-length Inv-loop μ-loop
 same-length c = c .before .loop .inv .1
 
 returns : tie.Need-returns Inv-loop μ-loop
 returns c =
-    sym (c .before .loop .inv .3 ∙ stored-none (c .before .before .args .h) (c .before .loop .out) (c .before .loop .i) (c .before .loop .p) (c .before .loop .left) (c .loop-test .left))
+    sym (c .before .loop .inv .3 ∙ stored-none (c .before .before .args .h) (c .before .loop .out) (c .before .loop .i) (c .before .loop .p)
+    (c .before .loop .left) (c .loop-test .left))
 
 pub fill-parents-spec : {M : Type 1} → statement M
 fill-parents-spec =

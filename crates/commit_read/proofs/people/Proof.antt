@@ -56,7 +56,8 @@ returns-3 c =
     let a = c .before .before .before .before .before .before .before .a in
     let actor-at = c .before .before .before .before .before .before .before .before .before .actor-at in
     let args = c .before .before .before .before .before .before .before .before .before .before .before .before .args in
-    c .ending .ensures ∙ sym (people-both (args .s .now) (args .n) (args .p) _ _ (sym (actor-at .ensures) ∙ a .given .1) _ _ (sym (actor-at2 .ensures) ∙ c .before .before .b .given .1))
+    c .ending .ensures ∙ sym (people-both (args .s .now) (args .n) (args .p) _ _ (sym (actor-at .ensures) ∙ a .given .1) _ _
+    (sym (actor-at2 .ensures) ∙ c .before .before .b .given .1))
 
 pub people-spec : {M : Type 1} → statement M
 people-spec =

@@ -40,8 +40,14 @@ returns : tie.Need-returns
 returns c =
     let decide = c .before .before .before .before .decide in
     let args = c .before .before .before .before .before .before .before .before .args in
-    let q = sym (decide .ensures) ∙ c .before .before .r .given .1 in
-    (c .refused .ensures ∙ sym (answer-fails _ _ q), (sym (parents-kept _ (args .h) (args .parents .now) _ q), sym (headers-kept _ (args .bytes .now) (args .headers .now) _ q)))
+    let q = sym (decide .ensures) ∙ c .before .before .r .given .1 in (
+      c .refused .ensures ∙ sym (answer-fails _ _ q),
+      (
+        sym (parents-kept _ (args .h) (args .parents .now) _ q),
+        sym
+            (headers-kept _ (args .bytes .now) (args .headers .now) _ q),
+      ),
+    )
 
 same-length : tie.Need-same-length
 same-length c = search needs
@@ -57,8 +63,15 @@ returns-2 c =
     let decide = c .before .before .before .before .before .before .before .before .before .before .before .before .decide in
     let args = c .before .before .before .before .before .before .before .before .before .before .before .before .before .before .before .before .args in
     let q = sym (decide .ensures) ∙ f .given .1 in
-    let k = outcome-fits _ _ _ _ _ q in
-    (c .done .ensures ∙ sym (answer-whole _ _ q), (fill-parents .ensures ∙ sym (parents-done _ (args .h) (args .parents .now) _ q (k .parents-room)), fill-headers .ensures ∙ sym (headers-done _ (args .bytes .now) (args .headers .now) _ q (k .headers-are) (k .headers-room))))
+    let k = outcome-fits _ _ _ _ _ q in (
+      c .done .ensures ∙ sym (answer-whole _ _ q),
+      (
+        fill-parents .ensures ∙ sym
+            (parents-done _ (args .h) (args .parents .now) _ q (k .parents-room)),
+        fill-headers .ensures ∙ sym
+            (headers-done _ (args .bytes .now) (args .headers .now) _ q (k .headers-are) (k .headers-room)),
+      ),
+    )
 
 pub read-commit-spec : {M : Type 1} → statement M
 read-commit-spec =

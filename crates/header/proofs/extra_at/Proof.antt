@@ -27,7 +27,8 @@ returns-3 c =
     let find-byte2 = c .before .before .before .find-byte2 in
     let find-byte = c .before .before .before .before .find-byte in
     let args = c .before .before .before .before .before .before .args in
-    sym (extra-open (args .s .now) (args .at) _ _ (find-byte .ensures) (find-byte2 .ensures) (c .before .before .if1 .left) (c .before .if2 .left) (c .if3 .taken))
+    sym (extra-open (args .s .now) (args .at) _ _ (find-byte .ensures) (find-byte2 .ensures) (c .before .before .if1 .left) (c .before .if2 .left)
+    (c .if3 .taken))
 
 add-value : tie.Need-add-value
 add-value c = search needs
@@ -45,7 +46,8 @@ returns-4 c =
     let find-byte2 = c .before .before .before .before .before .find-byte2 in
     let find-byte = c .before .before .before .before .before .before .find-byte in
     let args = c .before .before .before .before .before .before .before .before .args in
-    sym (extra-folded (args .s .now) (args .at) _ _ (find-byte .ensures) (find-byte2 .ensures) (if1 .left) (if2 .left) (c .before .before .if3 .left) _ (c .before .fold-end .ensures) (c .if4 .taken))
+    sym (extra-folded (args .s .now) (args .at) _ _ (find-byte .ensures) (find-byte2 .ensures) (if1 .left) (if2 .left) (c .before .before .if3 .left) _
+    (c .before .fold-end .ensures) (c .if4 .taken))
 
 returns-5 : tie.Need-returns-5
 returns-5 c =
@@ -54,7 +56,8 @@ returns-5 c =
     let find-byte2 = c .before .before .before .before .before .find-byte2 in
     let find-byte = c .before .before .before .before .before .before .find-byte in
     let args = c .before .before .before .before .before .before .before .before .args in
-    sym (extra-line (args .s .now) (args .at) _ _ (find-byte .ensures) (find-byte2 .ensures) (if1 .left) (if2 .left) (c .before .before .if3 .left) _ (c .before .fold-end .ensures) (c .if4 .left))
+    sym (extra-line (args .s .now) (args .at) _ _ (find-byte .ensures) (find-byte2 .ensures) (if1 .left) (if2 .left) (c .before .before .if3 .left) _
+    (c .before .fold-end .ensures) (c .if4 .left))
 
 pub extra-at-spec : {M : Type 1} → statement M
 extra-at-spec =

@@ -40,7 +40,8 @@ returns-2 c =
     let loop-test = c .before .before .before .before .loop-test in
     let loop = c .before .before .before .before .before .loop in
     let a = c .before .before .before .before .before .before .before .args in
-    sym (loop .inv ∙ fold-open (a .start) (a .s .now) (loop .at) (loop-test .taken) (c .before .before .if1 .left) _ (c .before .find-byte .ensures) (c .if2 .taken))
+    sym (loop .inv ∙ fold-open (a .start) (a .s .now) (loop .at) (loop-test .taken) (c .before .before .if1 .left) _ (c .before .find-byte .ensures)
+    (c .if2 .taken))
 
 add-at : tie.Need-add-at Inv-loop μ-loop
 add-at c = search needs

@@ -46,14 +46,30 @@ unfolding hexValue
 returns-6 c =
     let args = c .before .before .before .before .before .before .args in
     let b = args .b in
-    simp (le-leb 48 b (omega arith), lt-leb b 57 (omega arith), le-leb 65 b (omega arith), lt-leb b 70 (omega arith), le-leb 97 b (omega arith), le-leb b 102 (omega arith))
+    simp (
+      le-leb 48 b (omega arith),
+      lt-leb b 57 (omega arith),
+      le-leb 65 b (omega arith),
+      lt-leb b 70 (omega arith),
+      le-leb 97 b
+          (omega arith),
+      le-leb b 102 (omega arith),
+    )
 
 returns-7 : tie.Need-returns-7
 unfolding hexValue
 returns-7 c =
     let args = c .before .before .before .before .before .before .args in
     let b = args .b in
-    simp (le-leb 48 b (omega arith), lt-leb b 57 (omega arith), le-leb 65 b (omega arith), lt-leb b 70 (omega arith), le-leb 97 b (omega arith), lt-leb b 102 (omega arith))
+    simp (
+      le-leb 48 b (omega arith),
+      lt-leb b 57 (omega arith),
+      le-leb 65 b (omega arith),
+      lt-leb b 70 (omega arith),
+      le-leb 97 b
+          (omega arith),
+      lt-leb b 102 (omega arith),
+    )
 
 pub hex-digit-spec : {M : Type 1} → statement M
 hex-digit-spec =

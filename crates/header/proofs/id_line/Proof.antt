@@ -21,7 +21,8 @@ id-from-requires c κs = search needs
 returns : tie.Need-returns
 returns c =
     let args = c .before .before .before .before .before .args in
-    c .id-from .ensures ∙ sym (id-line-is (args .word .now) (args .h) (args .s .now) (args .at) (sym (c .before .before .word-at .ensures) ∙ c .before .if1 .taken))
+    c .id-from .ensures ∙ sym (id-line-is (args .word .now) (args .h) (args .s .now) (args .at)
+    (sym (c .before .before .word-at .ensures) ∙ c .before .if1 .taken))
 
 returns-2 : tie.Need-returns-2
 returns-2 c =

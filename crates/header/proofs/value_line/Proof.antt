@@ -22,7 +22,8 @@ returns : tie.Need-returns
 returns c =
     let word-at = c .before .before .before .word-at in
     let a = c .before .before .before .before .before .before .args in
-    sym (line-value (a .word .now) (a .s .now) (a .at) (sym (word-at .ensures) ∙ c .before .before .if1 .taken) _ (c .before .find-byte .ensures) (c .if2 .taken))
+    sym (line-value (a .word .now) (a .s .now) (a .at) (sym (word-at .ensures) ∙ c .before .before .if1 .taken) _ (c .before .find-byte .ensures)
+    (c .if2 .taken))
 
 returns-2 : tie.Need-returns-2
 returns-2 c =

@@ -11,7 +11,8 @@ use Rattle.unfold.specs.Unfold.{plainOf, plainFrom}
 use Rattle.unfold.proofs.Laws.{plain-end, plain-skip, plain-keep, sets-keep}
 
 abbrev Inv-loop : tie.InvT-loop
-Inv-loop mark v out₀ prev₀ i₀ n₀ out prev i n = (i ≤ length v) × (length out ≡ length out₀) × (n + length (plainFrom mark prev (drop i v)) ≤ length out₀) × (sets out₀ 0 (plainOf mark v) ≡ sets out n (plainFrom mark prev (drop i v)))
+Inv-loop mark v out₀ prev₀ i₀ n₀ out prev i n = (i ≤ length v) × (length out ≡ length out₀) ×
+    (n + length (plainFrom mark prev (drop i v)) ≤ length out₀) × (sets out₀ 0 (plainOf mark v) ≡ sets out n (plainFrom mark prev (drop i v)))
 
 abbrev μ-loop : tie.MeasureT-loop
 μ-loop mark v out₀ prev₀ i₀ n₀ out prev i n = length v - i
@@ -79,7 +80,8 @@ same-length c = c .before .loop .inv .1
 returns : tie.Need-returns Inv-loop μ-loop
 returns c =
     let args = c .before .before .before .before .args in
-    sym (c .before .loop .inv .3 ∙ ap (sets (c .before .loop .out) (c .before .loop .n)) (plain-end (args .mark) (c .before .loop .prev) (args .v .now) (c .before .loop .i) (c .loop-test .left)))
+    sym (c .before .loop .inv .3 ∙ ap (sets (c .before .loop .out) (c .before .loop .n))
+    (plain-end (args .mark) (c .before .loop .prev) (args .v .now) (c .before .loop .i) (c .loop-test .left)))
 
 pub plain-into-spec : {M : Type 1} → statement M
 plain-into-spec =

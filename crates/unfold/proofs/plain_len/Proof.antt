@@ -36,7 +36,8 @@ loop-again c =
     let loop-test = c .before .before .before .loop-test in
     let loop = c .before .before .before .before .loop in
     let args = c .before .before .before .before .before .before .args in
-    let w = ap length (plain-skip (args .mark) (loop .prev) (args .v .now) (loop .i) (loop-test .taken) (sym (c .before .before .skip .ensures) ∙ c .before .if1 .taken)) in
+    let w = ap length (plain-skip (args .mark) (loop .prev) (args .v .now) (loop .i) (loop-test .taken)
+    (sym (c .before .before .skip .ensures) ∙ c .before .if1 .taken)) in
     (omega arith, omega arith, omega (arith, w, loop .inv .2))
 
 shared-slice-read-prev-2 : tie.Need-shared-slice-read-prev-2 Inv-loop μ-loop
@@ -56,7 +57,8 @@ loop-again-2 c =
     let loop-test = c .before .before .before .loop-test in
     let loop = c .before .before .before .before .loop in
     let args = c .before .before .before .before .before .before .args in
-    let w = ap length (plain-keep (args .mark) (loop .prev) (args .v .now) (loop .i) (loop-test .taken) (sym (c .before .before .skip .ensures) ∙ c .before .if1 .left)) in
+    let w = ap length (plain-keep (args .mark) (loop .prev) (args .v .now) (loop .i) (loop-test .taken)
+    (sym (c .before .before .skip .ensures) ∙ c .before .if1 .left)) in
     (omega arith, omega (arith, loop .inv .1), omega (arith, w, loop .inv .2))
 
 returns : tie.Need-returns Inv-loop μ-loop

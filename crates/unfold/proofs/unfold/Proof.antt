@@ -5,8 +5,10 @@ use Rattle.unfold.proofs.unfold.Tie as tie
 use mathlib.Core.Path.{sym, _∙_}
 use native.Mathlib.Omega.{arith}
 use lib.ListN.{length}
-use Rattle.header.proofs.Laws.{well-parts}
-use Rattle.unfold.proofs.Laws.{gate-told, plan-shut, plan-record, plan-form, plan-short, plan-stores, answer-refuses, after-refuses, answer-stores, after-stores}
+use Prim.Native.Nat.{ℕ}
+use Rattle.ground.specs.Verdict.{sizeGate}
+use Rattle.header.proofs.Laws.{told, well-parts}
+use Rattle.unfold.proofs.Laws.{plan-shut, plan-record, plan-form, plan-short, plan-stores, answer-refuses, after-refuses, answer-stores, after-stores}
 
 longer-requires : tie.Need-longer-requires
 longer-requires c κs = search needs
@@ -47,8 +49,9 @@ returns c =
     let sizes = c .before .before .before .before .before .before .before .before .before .sizes in
     let longer = c .before .before .before .before .before .before .before .before .before .before .longer in
     let args = c .before .before .before .before .before .before .before .before .before .before .before .before .before .args in
-    let g = gate-told _ _ _ _ (longer .ensures) (sizes .ensures) (enum-told .given .1) in
-    let p = plan-short (args .bytes .now) (args .x) (length (args .out .now)) g (sym (well-formed .ensures) ∙ if1 .taken) (sym (has-form .ensures) ∙ c .before .before .if2 .taken) _ (c .before .plain-len .ensures) (c .if3 .taken) in
+    let g = told (λ (k : ℕ). sizeGate k 0) (longer .ensures) (sizes .ensures) (enum-told .given .1) in
+    let p = plan-short (args .bytes .now) (args .x) (length (args .out .now)) g (sym (well-formed .ensures) ∙ if1 .taken)
+    (sym (has-form .ensures) ∙ c .before .before .if2 .taken) _ (c .before .plain-len .ensures) (c .if3 .taken) in
     (sym (answer-refuses _ (args .out .now) _ p), sym (after-refuses _ (args .out .now) _ p))
 
 plain-into-requires : tie.Need-plain-into-requires
@@ -69,9 +72,13 @@ returns-2 c =
     let sizes = c .before .before .before .before .before .before .before .before .before .before .before .before .before .sizes in
     let longer = c .before .before .before .before .before .before .before .before .before .before .before .before .before .before .longer in
     let args = c .before .before .before .before .before .before .before .before .before .before .before .before .before .before .before .before .before .args in
-    let g = gate-told _ _ _ _ (longer .ensures) (sizes .ensures) (enum-told .given .1) in
-    let p = plan-stores (args .bytes .now) (args .x) (length (args .out .now)) g (sym (well-formed .ensures) ∙ if1 .taken) (sym (has-form .ensures) ∙ if2 .taken) _ (plain-len .ensures) (if3 .left) in
-    (sym (answer-stores _ (args .out .now) _ p _ (plain-len .ensures)), c .before .before .plain-into .ensures ∙ sym (after-stores _ (args .out .now) _ p (omega (arith, plain-len .ensures, if3 .left))))
+    let g = told (λ (k : ℕ). sizeGate k 0) (longer .ensures) (sizes .ensures) (enum-told .given .1) in
+    let p = plan-stores (args .bytes .now) (args .x) (length (args .out .now)) g (sym (well-formed .ensures) ∙ if1 .taken)
+    (sym (has-form .ensures) ∙ if2 .taken) _ (plain-len .ensures) (if3 .left) in (
+      sym (answer-stores _ (args .out .now) _ p _ (plain-len .ensures)),
+      c .before .before .plain-into .ensures ∙ sym
+          (after-stores _ (args .out .now) _ p (omega (arith, plain-len .ensures, if3 .left))),
+    )
 
 returns-3 : tie.Need-returns-3
 returns-3 c =
@@ -81,8 +88,9 @@ returns-3 c =
     let sizes = c .before .before .before .before .before .before .before .sizes in
     let longer = c .before .before .before .before .before .before .before .before .longer in
     let args = c .before .before .before .before .before .before .before .before .before .before .before .args in
-    let g = gate-told _ _ _ _ (longer .ensures) (sizes .ensures) (enum-told .given .1) in
-    let p = plan-form (args .bytes .now) (args .x) (length (args .out .now)) g (sym (well-formed .ensures) ∙ if1 .taken) (sym (c .before .has-form .ensures) ∙ c .if2 .left) in
+    let g = told (λ (k : ℕ). sizeGate k 0) (longer .ensures) (sizes .ensures) (enum-told .given .1) in
+    let p = plan-form (args .bytes .now) (args .x) (length (args .out .now)) g (sym (well-formed .ensures) ∙ if1 .taken)
+    (sym (c .before .has-form .ensures) ∙ c .if2 .left) in
     (sym (answer-refuses _ (args .out .now) _ p), sym (after-refuses _ (args .out .now) _ p))
 
 returns-4 : tie.Need-returns-4
@@ -90,7 +98,7 @@ returns-4 c =
     let sizes = c .before .before .before .sizes in
     let longer = c .before .before .before .before .longer in
     let args = c .before .before .before .before .before .before .before .args in
-    let g = gate-told _ _ _ _ (longer .ensures) (sizes .ensures) (c .before .verdict .given .1) in
+    let g = told (λ (k : ℕ). sizeGate k 0) (longer .ensures) (sizes .ensures) (c .before .verdict .given .1) in
     let p = plan-shut (args .bytes .now) (args .x) (length (args .out .now)) _ g in
     (sym (answer-refuses _ (args .out .now) _ p), sym (after-refuses _ (args .out .now) _ p))
 
@@ -99,7 +107,7 @@ returns-5 c =
     let sizes = c .before .before .before .before .sizes in
     let longer = c .before .before .before .before .before .longer in
     let args = c .before .before .before .before .before .before .before .before .args in
-    let g = gate-told _ _ _ _ (longer .ensures) (sizes .ensures) (c .before .before .enum-told .given .1) in
+    let g = told (λ (k : ℕ). sizeGate k 0) (longer .ensures) (sizes .ensures) (c .before .before .enum-told .given .1) in
     let p = plan-record (args .bytes .now) (args .x) (length (args .out .now)) g (sym (c .before .well-formed .ensures) ∙ c .if1 .left) in
     (sym (answer-refuses _ (args .out .now) _ p), sym (after-refuses _ (args .out .now) _ p))
 

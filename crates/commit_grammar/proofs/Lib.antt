@@ -1,0 +1,9 @@
+pub mod Pieces
+pub mod Folded
+pub mod Headers
+pub mod Parents
+pub mod Encodings
+pub mod Fields
+pub mod Refusals
+pub mod Theorems
+pub mod Unfolded
