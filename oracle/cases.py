@@ -1,0 +1,534 @@
+#!/usr/bin/env python3
+"""Makes cases, asks the Rust (./answer) and paper.py, compares the two, and writes trees.list and commits.list.
+
+    ./cases.py              writes the two lists and prints what is in them
+    ./cases.py --many N     runs N random cases of each kind and the long exhaustive ones, and writes nothing
+                            (a third word is another seed)
+    ./cases.py --read       reads the two lists back and holds every case against the paper and the Rust once more
+
+The seed is fixed, so the lists come out the same every time. Any difference between the Rust and the paper stops
+the run and shows the smallest case that has it. The list format: README.md and lists.py. What a case is: calls.py.
+"""
+import collections
+import itertools
+import random
+import sys
+
+import git_objects
+import paper
+from calls import (CALLS, again, commit_reading, commit_writing, compare, encoded, lookup, loose_header, mode_asked, mode_from_number,
+                   mode_text, name_order, tree_reading, tree_writing, unfold)
+from lists import list_path, read_list
+
+HUGE = [2**64 - 1, 2**64 - 20, 2**63, 2**32, 65536]
+BAD_H = [0, 1, 19, 21, 31, 33, 40, 64, 2**32 + 20, 2**64 - 1]
+rnd = random.Random(20)
+
+# ---------------------------------------------------------------- making cases: helpers
+
+def words(letters, longest):
+    """All words over the letters, up to a length."""
+    for n in range(longest + 1):
+        for word in itertools.product(letters, repeat=n):
+            yield bytes(word)
+
+
+def chance(percent):
+    return rnd.randrange(100) < percent
+
+
+def some(letters, low, high):
+    return bytes(rnd.choice(letters) for _ in range(rnd.randint(low, high)))
+
+
+def some_h():
+    return rnd.choice(BAD_H) if chance(3) else rnd.choice([20, 20, 32])
+
+
+def around(needed, unit=1):
+    """A room: exactly full, one short, and others."""
+    return max(0, rnd.choice([needed * unit] * 6 + [needed * unit - 1, needed * unit - 1, needed * unit - unit, needed * unit + unit - 1,
+                                                   needed * unit + 1, needed * unit + 2 * unit, 0]))
+
+
+def damaged(b):
+    """A byte changed, a cut, something inserted, something doubled, something taken out."""
+    at, to = sorted((rnd.randint(0, len(b)), rnd.randint(0, len(b))))
+    letter = bytes([rnd.choice(b"\0\n /.0478<>a\xff" if chance(80) else range(256))])
+    if at < len(b) and chance(40):
+        return b[:at] + letter + b[at + 1:]
+    return rnd.choice([b[:at], b[:len(b) - 1], b[:at] + letter + b[at:], b[:to] + b[at:], b[:at] + b[to:], b + letter, b[1:]])
+
+
+def spoiled(numbers, length):
+    """A list of numbers with one made wrong, or with a piece of a record more or less at its end."""
+    numbers = list(numbers)
+    if numbers and chance(75):
+        numbers[rnd.randrange(len(numbers))] = rnd.choice(HUGE + [length, length + 1, length - 1 if length else 0, 0, 2, rnd.randint(0, length)])
+        return numbers
+    return rnd.choice([numbers + [0] * rnd.randint(1, 3), numbers[:-1], numbers + [2**64 - 1], numbers[1:]])
+
+
+# ---------------------------------------------------------------- making cases: trees
+
+FIVE = [text for text, _word in paper.KINDS]
+ODD = [b"040000", b"100664", b"0", b"", b"7777777", b"1", b"140755", b"200000", b"0000000", b"00000000", b"100600", b"120777", b"8", b"40755",
+       b"0040000", b"170000", b"060000", b"20000", b"10644", b"0100644", b"100645", b"1006440", b"140000", b"240000", b"1240000"]
+NAMES = [b"a", b"b", b"ab", b"a.b", b"a0", b"a-", b"a b", b"A", b"abc", b"z", b"\xff", b"\x01", b"a\n", b"git", b".gitx", b".g", b"...", b".a", b"c", b"d", b"e1"]
+REFUSED = [b"", b".", b"..", b".git", b"a/b", b"/", b"a/", b"/a"]
+
+
+def ids(h):
+    """H bytes, now and then with a NUL, a space or digits at the front."""
+    return rnd.choice([b"", b"\0", b" ", b"100644 a", b"40000 a\0"]).ljust(h, rnd.choice([b"\x11", b"\x22", b"\0", b" ", b"7", b"\xff"]))
+
+
+def some_entries(h, most):
+    """(mode text, name, id) sorted by the order: mostly what the strict reader accepts, else with one thing wrong."""
+    names = rnd.sample(NAMES, rnd.randint(0, most))
+    entries = [(rnd.choice(FIVE), name, ids(h)) for name in names]
+    key = lambda e: e[1] + (b"/" if e[0] == b"40000" else b"")           # good enough: the paper says what is sorted
+    entries.sort(key=key)
+    if entries and chance(55):
+        i, way = rnd.randrange(len(entries)), rnd.randrange(6)
+        mode, name, id = entries[i]
+        if way == 0:
+            entries[i] = (rnd.choice(ODD), name, id)
+        elif way == 1:
+            entries[i] = (mode, rnd.choice(REFUSED), id)
+        elif way == 2:
+            entries.insert(i, (rnd.choice(FIVE), name, id))
+        elif way == 3:
+            rnd.shuffle(entries)
+        elif way == 4:
+            entries[i] = (rnd.choice(ODD), rnd.choice(NAMES + REFUSED), id)
+        else:
+            entries = [(rnd.choice(FIVE + ODD), n, x) for _m, n, x in entries]
+    return entries
+
+
+def some_tree(h, most=5):
+    return b"".join(mode + b" " + name + b"\0" + id for mode, name, id in some_entries(h, most))
+
+
+def random_mode_text():
+    digits = some(b"01234567", 0, 9)
+    text = rnd.choice([digits, rnd.choice(FIVE + ODD)]) + rnd.choice([b" ", b" ", b" ", b"", b"  "]) + some(b"a 0\0", 0, 4)
+    return mode_text(damaged(text) if chance(30) else text)
+
+
+def random_mode_asked():
+    top = rnd.choice([0, 4, 8, 10, 12, 14, 15, rnd.randrange(16)])
+    return mode_asked(top * 4096 + rnd.choice([0o100, 0o644, 0o755, 0o4000, rnd.randrange(4096), rnd.randrange(4096)]))
+
+
+def random_mode_from_number():
+    n = rnd.choice([16384, 40960, 57344, 49152, 32768, 33188, 0o300644, 0o200000, 2**31, 2**32 - 1, rnd.randrange(2**32), rnd.randrange(2**17)])
+    return mode_from_number(n ^ (1 << rnd.randrange(32)) if chance(40) else n)
+
+
+def random_name_order():
+    a = some(b"ab./0-\0\xff", 0, 4)
+    b = rnd.choice([some(b"ab./0-\0\xff", 0, 4), a + some(b"./0-\0\xff", 0, 2), a, a[:-1]])
+    return name_order(a, chance(50), b, chance(50))
+
+
+def random_tree_reading():
+    h = some_h()
+    object = some_tree(h if h in (20, 32) else 20)
+    if chance(35):
+        object = damaged(object)
+    if chance(4):
+        h = 52 - h if h in (20, 32) else h          # read with the other length
+    n = paper.tree_read(h, object, 4 * len(object), False)[0][2]
+    return tree_reading(h, object, around(n, 4))
+
+
+def some_records(h, most):
+    """Bytes with records into them: an object that was read, or names and one id that all records share."""
+    if chance(40):
+        object = some_tree(h)
+        return object, paper.tree_read(h, object, 4 * len(object), False)[1]
+    names = rnd.sample([bytes([x]) for x in range(97, 123)] + NAMES[2:], rnd.randint(0, most))
+    if chance(20):
+        names.append(rnd.choice(REFUSED + [b"a\0b", b"\0", b"\0c", b"b\0"]))
+    bytes_, records = ids(h), []
+    for name in names:
+        mode = rnd.choice([16384, 33188, 33261, 40960, 57344, 49152, 0, 49645, 65535, rnd.randrange(65536)])
+        records.append([mode, len(bytes_), len(bytes_) + len(name), 0])
+        bytes_ += name
+    key = lambda r: bytes_[r[1]:r[2]] + (b"/" if paper.is_tree(r[0]) else b"")
+    records.sort(key=key)
+    if chance(10):
+        rnd.shuffle(records)
+    return bytes_, [n for r in records for n in r]
+
+
+def random_lookup():
+    h = some_h()
+    object, numbers = some_records(h if h in (20, 32) else 20, 20)
+    records = paper.by(4, numbers)
+    name, is_tree = rnd.choice(NAMES + [b"m", b"q", b"", b"a/b"]), chance(30)
+    if records and chance(75):
+        r = rnd.choice(records)
+        name, is_tree = object[r[1]:r[2]], paper.is_tree(r[0])
+        if chance(20):
+            is_tree = not is_tree
+        if chance(15):
+            name = rnd.choice([name + b"0", name[:-1], name + b".", name + b"/"])
+    if chance(15):
+        numbers = spoiled(numbers, len(object))
+    return lookup(h, object, numbers, name, is_tree)
+
+
+def random_tree_writing():
+    h = some_h()
+    bytes_, numbers = some_records(h if h in (20, 32) else 20, 6)
+    if chance(22):
+        numbers = spoiled(numbers, len(bytes_))
+    if chance(5) and len(bytes_) > h:
+        bytes_ = bytes_[:-1]
+    return tree_writing(h, bytes_, numbers, around(paper.tree_size(h, bytes_, numbers)[2]))
+
+
+def random_loose_header():
+    size = rnd.choice([0, 2**64 - 1, 2**63, 10**rnd.randrange(20), 10**rnd.randrange(20) - 1, rnd.randrange(2**rnd.randint(1, 64))])
+    kind = rnd.choice([1, 2, 3, 4] * 6 + [0, 5, 6, 255, 256, 257, 2**32 + 1, 2**64 - 1])
+    return loose_header(kind, size, around(len(paper.loose_header(kind, size, 28)[1])))
+
+
+# ---------------------------------------------------------------- making cases: commits
+
+def some_id(h, spoil=0):
+    """2H hex digits of one or of both cases; spoiled ones are one longer, one shorter or have another letter."""
+    digits = some(rnd.choice([b"0123456789abcdef", b"1", b"0123456789abcdefABCDEF"]), 2 * h, 2 * h)
+    if chance(spoil):
+        at = rnd.randrange(2 * h)
+        return rnd.choice([digits[1:], digits + b"a", digits[:at] + rnd.choice([b"g", b"/", b":", b"@", b"G", b"`", b" ", b"\n", b"\xff"]) + digits[at + 1:]])
+    return digits
+
+
+def some_actor(spoil=0):
+    name, address, time = rnd.choice([b"a", b"A B", b"a  b", b"\xff", b"a,.", b"x\ty"]), rnd.choice([b"b", b"a@b", b"\xff", b"."]), some(b"0123456789", 1, 10)
+    zone = rnd.choice([b"+0000", b"-0000", b"+1459", b"-1400", b"+0930", b"-0759"])
+    parts = [name, b" <", address, b"> ", time, b" ", zone]
+    if chance(spoil):
+        i = rnd.randrange(len(parts))
+        parts[i] = rnd.choice([[b"", b" a", b"a ", b"a<", b"a>", b"\0", b" "], [b"<", b"  <", b"<<", b" "], [b"", b"a b", b"<", b">", b"\0", b" "],
+                               [b">", b">  ", b" ", b">> "], [b"", b"12345678901", b"-1", b"1a", b" "], [b"", b"  ", b"\t"],
+                               [b"+1500", b"+0060", b"0000", b"+000", b"+00000", b"*0000", b"+0a00", b"+00 0", b"+9900", b"-1460", b""]][i])
+    return b"".join(parts)
+
+
+def some_header():
+    name = rnd.choice([b"k", b"gpgsig", b"parent", b"encoding", b"\xff", b"a\0", b"mergetag"])
+    value = rnd.choice([b"", b"v", b" ", b"v w", b"a\n b", b"\n ", b"a\n \n b", b"a\n  b", b"\n b\n c", b"-\n \n \n e", b"v\r", b" \n x"])
+    return name + b" " + value + b"\n"
+
+
+def commit_text(h, spoil=0):
+    """A commit line by line; spoiled ones have a line wrong, missing, doubled or out of place."""
+    one = spoil and rnd.randrange(6)
+    lines = [b"tree " + some_id(h, spoil if one == 0 else 0) + b"\n"]
+    lines += [b"parent " + some_id(h, spoil if one == 1 else 0) + b"\n" for _ in range(rnd.choice([0, 0, 1, 1, 2, 3]))]
+    lines += [b"author " + some_actor(spoil if one == 2 else 0) + b"\n", b"committer " + some_actor(spoil if one == 3 else 0) + b"\n"]
+    lines += [b"encoding " + rnd.choice([b"x", b"UTF-8", b"", b" ", b"a b"]) + b"\n"] * rnd.choice([0, 0, 0, 1, 1, 2])
+    lines += [some_header() for _ in range(rnd.choice([0, 0, 1, 1, 2, 3]))]
+    if one == 4 and chance(spoil):
+        i = rnd.randrange(len(lines))
+        lines[i] = rnd.choice([b"", lines[i] * 2, lines[i][:-1], lines[i].replace(b" ", b"", 1), lines[i].replace(b" ", b"  ", 1),
+                               lines[i].capitalize(), b" " + lines[i], b"\n", lines[i] + b" c\n", lines[i] + b" c"])
+    if one == 5 and chance(spoil):
+        rnd.shuffle(lines)
+    blank = rnd.choice([b"\n"] * 20 + [b"", b" \n", b"x"])
+    return b"".join(lines) + blank + rnd.choice([b"", b"m", b"m\n", b"\n", b" x\n\ny"])
+
+
+def random_commit_reading():
+    h = some_h()
+    object = commit_text(h if h in (20, 32) else 20, rnd.choice([0, 0, 90]))
+    if chance(18):
+        object = damaged(object)
+    if chance(2):
+        h = 52 - h if h in (20, 32) else h
+    _out, _ranges, parents, headers = paper.commit_read(h, object, len(object), 5 * len(object))
+    return commit_reading(h, object, around(len(parents)), around(len(headers) // 5, 5))
+
+
+def random_unfold():
+    value = some(b"ab", 0, 3) + b"\n" + b"".join(b" " + some(b"a \0", 0, 3) + b"\n" for _ in range(rnd.randint(0, 3)))
+    if chance(35):
+        value = damaged(value)
+    before, after = some(b"k \n", 0, 3), some(b"k \n", 0, 2)
+    bytes_ = before + value + after
+    record = [0, rnd.randint(0, len(before)), len(before), len(before) + len(value), 1 if chance(75) else 0]
+    if chance(15):
+        record = (spoiled(record, len(bytes_)) + [0] * 5)[:5]
+    return unfold(bytes_, tuple(record), around(len(paper.unfold(bytes_, tuple(record), len(bytes_))[1])))
+
+
+def random_commit_writing():
+    h = some_h()
+    width = h if h in (20, 32) else 20
+    if chance(30):                          # a commit that was read
+        bytes_ = commit_text(width)
+        (n, _p, _f), ranges, parents, numbers = paper.commit_read(width, bytes_, len(bytes_), 5 * len(bytes_))
+        if n:
+            return random_commit_writing()
+    else:                                   # pieces, laid one after the other
+        bytes_ = b""
+
+        def lay(piece):
+            nonlocal bytes_
+            start = len(bytes_)
+            bytes_ += piece
+            return [start, len(bytes_)]
+        tree = lay(some_id(width, 6))[0]
+        parents = [lay(some_id(width, 6))[0] if chance(40) else tree for _ in range(rnd.choice([0, 0, 1, 2]))]
+        author = lay(rnd.choice([b"a <b> 1 +0000", b"", b"x", b"a\nb"]))
+        committer = rnd.choice([author, lay(some(b"c \n", 0, 3))])
+        encoding = [rnd.choice([0, 0, 1, 1, 1])] + lay(rnd.choice([b"x", b"UTF-8", b"U V", b"", b"\n", b"a\nb", b"a\n"]))
+        numbers = []
+        for _ in range(rnd.choice([0, 1, 1, 2, 3])):
+            folded = chance(40)
+            value = b"".join(some(b"a ", 0, 2) + b"\n" + b" " * folded for _ in range(rnd.randint(0, 3))) + some(b"b", 0, 1)
+            if folded and chance(92):
+                value = b"a\n" + b"".join(b" " + some(b"a ", 0, 2) + b"\n" for _ in range(rnd.randint(1, 3)))
+            numbers += lay(rnd.choice([b"k", b"", b"key", b"a b"])) + lay(value) + [int(folded)]
+        message = lay(some(b"m\n ", 0, 4))
+        ranges = (tree, *author, *committer, *encoding, *message)
+    if chance(12):
+        ranges = tuple(spoiled(ranges, len(bytes_)) + [0] * 10)[:10]
+    if chance(8):
+        numbers = spoiled(numbers, len(bytes_))
+    if chance(5):
+        parents = spoiled(parents, len(bytes_))
+    if chance(4):
+        bytes_ = bytes_[:-1]
+    return commit_writing(h, bytes_, parents, numbers, ranges, around(paper.commit_size(h, bytes_, parents, numbers, ranges)[2]))
+
+
+# ---------------------------------------------------------------- exhaustive cases and the document's own
+
+O = b"100644 a\0" + b"\x11" * 20 + b"40000 b\0" + b"\x22" * 20
+TOP = b"tree " + b"1" * 40 + b"\n"
+PEOPLE = b"author a <b> 1 +0000\ncommitter a <b> 1 +0000\n"
+
+
+def edits(value):
+    """All values one edit away: a byte left out, put in or changed."""
+    for at in range(len(value) + 1):
+        yield value[:at] + value[at + 1:]
+        for letter in b"a 1<>+\0\n":
+            yield value[:at] + bytes([letter]) + value[at:]
+            yield value[:at] + bytes([letter]) + value[at + 1:]
+
+
+def exhaustive(long):
+    """Everything short; longer with --many."""
+    for text in words(b"047 8" if long else b"07 8\0", 7 if long else 4):
+        yield mode_text(text)
+    for text in [b"100644 ", b"40000 ", b"040000 ", b"140755 ", b"040755 ", b"0000000 x", b"00000000 x", b"0 abcd e", b"0 abc de", b" abc", b" 12345 x", b"200000 "]:
+        yield mode_text(text)
+    for digits in range(0, 10):             # every number of digits, with and without a space, and spaces at bytes 5, 6, 7
+        for tail in (b"", b" ", b"  ", b" x", b"x", b" x y", b"   "):
+            for letter in b"0147":
+                yield mode_text(bytes([letter]) * digits + tail)
+    for start in (b"1000", b"0400", b"4   "):  # bytes 4 to 7
+        for tail in itertools.product((b" ", b"0", b"x"), repeat=4):
+            for n in range(5, 9):
+                yield mode_text((start + b"".join(tail))[:n])
+    for mode in range(0, 65536) if long else sorted(t * 4096 + x for t in range(16) for x in
+                                                   [0, 1, 7, 8, 63, 64, 65, 127, 128, 0o600, 0o644, 0o664, 0o700, 0o755, 0o777, 0o1000, 0o2000, 0o4000, 0o4755, 4032, 4095]):
+        yield mode_asked(mode)
+    for bit in range(32):
+        for n in (16384, 40960, 57344, 32768, 33188, 0):
+            yield mode_from_number(n ^ (1 << bit))
+            yield mode_from_number(n | (1 << bit))
+    for n in (0, 16384, 40960, 57344, 0o300644, 0o200000, 2**32 - 1):
+        yield mode_from_number(n)
+    names = list(words(b"a./0\0", 3 if long else 2))
+    for a, b in itertools.product(names, names):
+        for x, y in itertools.product((False, True), (False, True)):
+            yield name_order(a, x, b, y)
+
+    # The document's object O, cut at every length, and with every byte made a space, a NUL, a slash or an eight.
+    for n in range(len(O) + 1):
+        yield tree_reading(20, O[:n], 8)
+        for letter in b" \0/8" if long or n < 10 or n in range(28, 38) else b"":
+            yield tree_reading(20, O[:n] + bytes([letter]) + O[n + 1:], 8)
+    for room in range(12):
+        yield tree_reading(20, O, room)
+    for h in BAD_H + [20, 32]:
+        for object in (b"", O, b"8"):
+            yield tree_reading(h, object, 8)
+            yield lookup(h, object, [], b"a", False)
+            yield lookup(h, object, [33188, 7, 8, 9], b"a", False)
+            yield tree_writing(h, object, [], 0)
+            yield tree_writing(h, object, [33188, 7, 8, 9], 50)
+    # P14, and every mode that the writer treats apart.
+    for mode in (0, 1, 16384, 16385, 16877, 32768, 33188, 49152, 49645, 53247, 53248, 57344, 65535, 65536):
+        yield tree_writing(20, b"abc" + b" " * 20, [mode, 0, 3, 3], 32)
+    # Lookups in listings of every length up to 20: every index, and every gap.
+    for n in range(0, 40 if long else 21):
+        bytes_ = b"\x11" * 20 + bytes(range(98, 98 + 2 * n, 2))
+        numbers = [x for i in range(n) for x in (33188, 20 + i, 21 + i, 0)]
+        for letter in range(97, 98 + 2 * n) if long or n in (0, 1, 2, 3, 4, 7, 8, 15, 16, 20) else (97, 97 + n, 98 + 2 * n):
+            yield lookup(20, bytes_, numbers, bytes([letter]), False)
+    for kind in range(6):
+        for size in (0, 9, 10, 2**63, 2**64 - 1):
+            for room in (0, 1, 6, 7, 8, 9, 10, 27, 28, 29):
+                yield loose_header(kind, size, room)
+
+    for value in words(b"a \n", 8 if long else 5):
+        yield unfold(value, (0, 0, 0, len(value), 1), len(value))
+    for after in words(b"a \n", 8 if long else 4):
+        yield commit_reading(20, TOP + PEOPLE + after, 0, 10)
+    for first, n, tail in itertools.product((b"k v\n", b"k \n"), range(4), (b"", b" ", b" c", b"k", b"k ", b"k v", b"\n", b"\nm")):
+        yield commit_reading(20, TOP + PEOPLE + first + b" b\n" * n + tail, 0, 10)
+    for value in words(b"a\n", 8 if long else 4):
+        bytes_ = b"1" * 40 + value
+        yield commit_writing(20, bytes_, [], [0, 1, 40, len(bytes_), 0], (0, 0, 1, 0, 1, 0, 0, 0, 0, 0), 200)
+        yield commit_writing(20, bytes_, [], [], (0, 0, 1, 0, 1, 1, 40, len(bytes_), 0, 0), 200)
+    # Every byte in the place of a hex digit, read and handed over.
+    for letter in range(256):
+        digits = b"1" * 39 + bytes([letter])
+        if long or letter in b"/0189:@AFGZ`afgz \n\0\xff":
+            yield commit_reading(20, b"tree " + digits + b"\n" + PEOPLE + b"\n", 0, 0)
+            yield commit_reading(20, TOP + b"parent " + digits + b"\n" + PEOPLE + b"\n", 1, 0)
+        yield commit_writing(20, digits, [], [], (0, 0, 0, 0, 0, 0, 0, 0, 0, 0), 200)
+    # Every actor value one edit away from a good one (two edits with --many).
+    near = list(edits(b"ab <c> 12 +0159"))
+    for value in itertools.chain(near, *map(edits, near[::1 if long else len(near)])):
+        yield commit_reading(20, TOP + b"author " + value + b"\ncommitter a <b> 1 +0000\n\n", 0, 0)
+    for value in near[::1 if long else 4]:
+        yield commit_reading(20, TOP + b"author a <b> 1 +0000\ncommitter " + value + b"\n\n", 0, 0)
+    for digits in range(13):
+        yield commit_reading(20, TOP + b"author a <b> " + b"9" * digits + b" +0000\ncommitter a <b> 1 +0000\n\n", 0, 0)
+    for hour, minute in itertools.product(range(100) if long else (0, 9, 10, 14, 15, 20, 99), range(100) if long else (0, 9, 59, 60, 99)):
+        yield commit_reading(20, TOP + b"author a <b> 1 -%02d%02d\ncommitter a <b> 1 +0000\n\n" % (hour, minute), 0, 0)
+    # Long ones: lengths and counts of more than one LEB128 byte.
+    names = [b"%04d" % i for i in range(150)]
+    object = b"".join(b"100644 " + name + b"\0" + b"\x11" * 20 for name in names)
+    numbers = paper.tree_read(20, object, 4 * len(names), True)[1]
+    for room in (600, 599):
+        yield tree_reading(20, object, room)
+    for name in (b"0000", b"0074", b"0075", b"0149", b"0150", b"", b"00745"):
+        yield lookup(20, object, numbers, name, False)
+    yield tree_writing(20, object, numbers, len(object))
+    yield tree_reading(32, b"40000 " + b"n" * 4096 + b"\0" + b"\x11" * 32, 4)
+    yield commit_reading(20, TOP + (b"parent " + b"a" * 40 + b"\n") * 140 + PEOPLE + b"\n", 140, 0)
+    yield commit_reading(20, TOP + (b"parent " + b"a" * 40 + b"\n") * 140 + PEOPLE + b"\n", 139, 0)
+    long_headers = TOP + PEOPLE + b"k v\n" * 70 + b"k a\n b\n" * 70 + b"\n" + b"m" * 300
+    yield commit_reading(20, long_headers, 0, 700)
+    yield commit_reading(20, long_headers, 0, 699)
+    _out, ranges, parents, numbers = paper.commit_read(20, long_headers, 0, 700)
+    yield commit_writing(20, long_headers, parents * 140, numbers, ranges, len(long_headers))
+    if long:                                # every byte of O and of a commit, changed to every other
+        for n, letter in itertools.product(range(len(O)), range(256)):
+            yield tree_reading(20, O[:n] + bytes([letter]) + O[n + 1:], 8)
+        small = TOP + b"parent " + b"a" * 40 + b"\n" + PEOPLE + b"encoding x\nk v\nj a\n b\n\nm"
+        for n, letter in itertools.product(range(len(small)), range(256)):
+            yield commit_reading(20, small[:n] + bytes([letter]) + small[n + 1:], 1, 10)
+    whole = TOP + PEOPLE + b"encoding x\nk v\nj a\n b\n\nm"
+    for n in range(len(whole) + 1) if long else range(0, len(whole) + 1, 3):
+        yield commit_reading(20, whole[:n], 0, 10)
+    for h in BAD_H + [20, 32]:
+        yield commit_reading(h, whole, 0, 10)
+        yield commit_writing(h, b"1" * 64, [], [], (0, 0, 1, 0, 1, 0, 0, 0, 0, 0), 200)
+
+
+def from_git():
+    """Git's own trees and commits: read, looked up, and written back as they were."""
+    for h in (20, 32):
+        for kind, object in git_objects.objects(h):
+            if kind == "tree":
+                numbers = paper.tree_read(h, object, 400, True)[1]
+                yield tree_reading(h, object, len(numbers))
+                yield tree_writing(h, object, numbers, len(object))
+                for r in paper.by(4, numbers):
+                    yield lookup(h, object, numbers, object[r[1]:r[2]], paper.is_tree(r[0]))
+                    yield lookup(h, object, numbers, object[r[1]:r[2]] + b"-", paper.is_tree(r[0]))
+            else:
+                _out, ranges, parents, numbers = paper.commit_read(h, object, 10, 50)
+                yield commit_reading(h, object, len(parents), len(numbers))
+                yield commit_writing(h, object, parents, numbers, ranges, len(object))
+                for record in paper.by(5, numbers):
+                    yield unfold(object, record, len(object))
+
+
+# ---------------------------------------------------------------- running
+
+# Random cases of each call in the lists.
+RANDOM = [(random_mode_text, 2200), (random_mode_asked, 1400), (random_mode_from_number, 900), (random_name_order, 1500),
+          (random_tree_reading, 3000), (random_lookup, 2400), (random_tree_writing, 2600), (random_loose_header, 700),
+          (random_commit_reading, 2700), (random_unfold, 2200), (random_commit_writing, 2200)]
+
+
+class Tally:
+    """How many cases of each call, how many of them the Rust answered, and how often each number came."""
+    def __init__(self):
+        self.cases, self.compared, self.numbers = collections.Counter(), collections.Counter(), collections.defaultdict(collections.Counter)
+
+    def compare(self, cases):
+        """Hold the cases against the Rust, and count them."""
+        compare(cases)
+        for case in cases:
+            key = case.file, case.call
+            self.cases[key] += 1
+            self.compared[key] += case.question is not None
+            self.numbers[key].update(case.numbers)
+
+    def show(self):
+        for key, name in CALLS.items():
+            numbers = " ".join(f"{n}:{k}" for n, k in sorted(self.numbers[key].items()))
+            print(f"{key[0]:8}{key[1]:2} {name:20}{self.cases[key]:9} cases, {self.compared[key]:9} compared with the Rust   {numbers}")
+        print(f"together {sum(self.cases.values())} cases, {sum(self.compared.values())} compared with the Rust, no difference")
+
+
+def many(n):
+    """Run and compare, in batches; write nothing."""
+    tally = Tally()
+    random_ones = (make() for make, _share in RANDOM for _ in range(n))
+    cases = itertools.chain(exhaustive(long=True), from_git(), random_ones)
+    while batch := list(itertools.islice(cases, 20000)):
+        tally.compare(batch)
+    tally.show()
+
+
+def read_back():
+    """Every case of the lists: the same fields must come out again."""
+    tally = Tally()
+    for file in ("trees", "commits"):
+        cases = []
+        for call, goes_in, comes_out in read_list(file):
+            cases.append(again(file, call, goes_in))
+            assert cases[-1].comes_out == comes_out, (call, goes_in, comes_out)
+        tally.compare(cases)
+    tally.show()
+
+
+def write_lists():
+    """No case twice, and call after call."""
+    tally, made = Tally(), {key: {} for key in CALLS}
+    for case in itertools.chain(exhaustive(long=False), from_git(), (make() for make, share in RANDOM for _ in range(share))):
+        goes_in, comes_out = encoded(case)
+        made[case.file, case.call].setdefault(goes_in, (comes_out, case))
+    for cases in made.values():
+        tally.compare([case for _comes_out, case in cases.values()])
+    for file in ("trees", "commits"):
+        content = [goes_in + comes_out for key, cases in made.items() if key[0] == file for goes_in, (comes_out, _case) in cases.items()]
+        with open(list_path(file), "wb") as out:
+            out.write(b"".join(content))
+        print(f"{file}.list: {len(b''.join(content))} bytes, {len(content)} cases")
+    tally.show()
+
+
+if __name__ == "__main__":
+    if sys.argv[1:2] == ["--many"]:
+        rnd.seed(int(sys.argv[3]) if sys.argv[3:] else 20)
+        many(int(sys.argv[2]))
+    elif sys.argv[1:] == ["--read"]:
+        read_back()
+    else:
+        write_lists()

@@ -1,0 +1,79 @@
+"""The format of trees.list and commits.list, and where they stand; README.md says it in words."""
+import os
+
+HERE = os.path.dirname(os.path.abspath(__file__))
+
+
+def list_path(file):
+    """The lists are the data of the program that replays them."""
+    return os.path.join(HERE, "..", "crates", "replay", "data", file + ".list")
+
+
+
+def number(n):
+    """Unsigned LEB128."""
+    out = bytearray()
+    while n >= 128:
+        out.append(n % 128 + 128)
+        n //= 128
+    out.append(n)
+    return bytes(out)
+
+
+# The fields of each call, in and out: n a number, b bytes, l a list of numbers, r a room in bytes, m one in numbers.
+SHAPES = {("trees", 1): ("b", "nnn"), ("trees", 2): ("n", "nnnbb"), ("trees", 3): ("n", "nn"), ("trees", 4): ("bnbn", "n"),
+          ("trees", 5): ("nbm", "nnnlnnn"), ("trees", 6): ("nblbn", "nnnn"), ("trees", 7): ("nblr", "nnnnnnb"), ("trees", 8): ("nnr", "nnnb"),
+          ("commits", 1): ("nbmm", "nnn" + "n" * 10 + "ll"), ("commits", 2): ("bnnnnnr", "nnnb"), ("commits", 3): ("nbll" + "n" * 10 + "r", "nnnnnnb")}
+
+# A program that replays the lists needs no larger buffers than these.
+MOST_BYTES, MOST_NUMBERS = 8192, 1024
+
+
+def fields(shape, values):
+    """The values, one after the other, as the list has them."""
+    assert len(shape) == len(values)
+    out = b""
+    for kind, x in zip(shape, values):
+        if kind == "b":
+            assert len(x) <= MOST_BYTES
+            out += number(len(x)) + x
+        elif kind == "l":
+            assert len(x) <= MOST_NUMBERS
+            out += number(len(x)) + b"".join(map(number, x))
+        else:
+            assert kind == "n" or x <= {"r": MOST_BYTES, "m": MOST_NUMBERS}[kind]
+            out += number(int(x))
+    return out
+
+
+def read_list(file):
+    """The cases of a list, read back: (call, fields in, fields out)."""
+    with open(list_path(file), "rb") as f:
+        content = f.read()
+    at = 0
+
+    def one():
+        nonlocal at
+        n = shift = 0
+        while True:
+            byte = content[at]
+            at += 1
+            n += (byte % 128) << shift
+            shift += 7
+            if byte < 128:
+                return n
+
+    def one_field(shape):
+        nonlocal at
+        n = one()
+        if shape in "nrm":
+            return n
+        if shape == "l":
+            return [one() for _ in range(n)]
+        at += n
+        return content[at - n:at]
+
+    while at < len(content):
+        call = content[at]
+        at += 1
+        yield call, *[[one_field(x) for x in shape] for shape in SHAPES[file, call]]

@@ -1,0 +1,501 @@
+"""docs/01-scope.md ("the document") read a second time, in plain Python.
+
+Written from the document's text and not from the Rust, so that the two can be held against each other.
+Every public call gives a tuple of numbers, with lists or bytes where the call fills something.
+All memory lent is given by its size alone: what is filled on success is returned, and a refusal fills nothing.
+"""
+
+MAX_BYTES = 1_073_741_824      # "any lent byte buffer at most"
+MAX_RECORDS = 1_048_576        # "any list at most"
+
+# "The numbers"
+DONE, BAD_H, OVER, UNREADABLE, FEW_RECORDS, BAD_MODE_TEXT, BAD_NAME, NOT_AFTER = range(8)
+SHORT_OUTPUT, NUL_IN_NAME, BAD_RECORD, FIELD, ACTOR, EMPTY_ENCODING, LF_ENCODING, NOT_THERE = range(8, 16)
+NOT_ACCEPTABLE = 23
+
+SPACE, LF, NUL, SLASH = 32, 10, 0, 47
+OCTAL, DIGITS, HEX = b"01234567", b"0123456789", b"0123456789abcdefABCDEF"
+
+# "the five written modes and their kind words stand in one small table"
+KINDS = [(b"40000", b"tree"), (b"100644", b"blob"), (b"100755", b"exe"), (b"120000", b"link"), (b"160000", b"commit")]
+TREE, BLOB, EXE, LINK, COMMIT = range(5)
+
+# "The header words"
+WORDS = [b"tree", b"parent", b"author", b"committer", b"encoding"]
+
+
+def all_in(part, letters):
+    return all(b in letters for b in part)
+
+
+# ---------------------------------------------------------------- Modes
+
+def mode_text(text):
+    """Modes, "Reading": (number, mode, where the rest begins)."""
+    refused = (UNREADABLE, 0, 0)
+    if len(text) == 0:
+        return refused
+    if text[6:7] == b" " and text[5:6] != b" ":
+        digits, rest = text[:6], 7
+        if not all_in(digits, OCTAL):
+            return refused
+    elif SPACE in text[:8]:
+        digits = text[:text.index(SPACE)]
+        rest = len(digits) + 1
+        if not all_in(digits, OCTAL):
+            return refused
+    else:                                   # no space among the first eight: seven digits and nothing else, or refused
+        digits, rest = text, 1
+        if len(digits) > 7 or not all_in(digits, OCTAL):
+            return refused
+    mode = 0
+    for digit in digits:
+        mode = (mode * 8 + digit - 48) % 65536
+    if mode == 16384 and text[0:1] == b"0":
+        mode = 49152
+    return DONE, mode, rest
+
+
+def mode_value(mode):
+    """Modes, "Value"."""
+    return 16384 if mode // 4096 == 49152 // 4096 else mode
+
+
+def mode_written(mode):
+    """Modes, "Writing"."""
+    if mode == 0:
+        return b"0"
+    text = b"%06o" % mode
+    if text[1:2] == b"4":
+        return text[1:] if text[0:1] == b"0" else b"0" + text[1:]
+    return text
+
+
+def mode_kind(mode):
+    """Modes, "Kind": the top four bits of the value say file, link or tree, anything else is commit."""
+    value = mode_value(mode)
+    top = value // 4096
+    if top == 0o100000 // 4096:
+        return EXE if value // 64 % 2 == 1 else BLOB      # the owner's execute bit
+    if top == 0o120000 // 4096:
+        return LINK
+    return TREE if top == 0o040000 // 4096 else COMMIT
+
+
+def is_tree(mode):
+    return mode_kind(mode) == TREE
+
+
+def mode_asked(mode):
+    """Modes, the questions kept with the type. `is_commit` denies what is a commit by default only (mode 0)."""
+    kind = mode_kind(mode)
+    questions = [kind == TREE, mode_value(mode) // 4096 == 0o160000 // 4096, kind == LINK, kind != TREE,
+                 kind in (BLOB, EXE), kind == EXE, kind in (BLOB, EXE, LINK)]
+    total = sum(2 ** i for i, yes in enumerate(questions) if yes)
+    return mode_value(mode), kind, total, mode_written(mode), KINDS[kind][1]
+
+
+def mode_from_number(n):
+    """Modes, "From a 32-bit number": (number, mode)."""
+    if n in (16384, 40960, 57344) or n // 32768 % 2 == 1:
+        return DONE, n % 65536
+    return NOT_ACCEPTABLE, 0
+
+
+# ---------------------------------------------------------------- Order
+
+def order(a, a_tree, b, b_tree):
+    """Order: -1, 0 or 1."""
+    common = min(len(a), len(b))
+    if a[:common] != b[:common]:
+        return -1 if a[:common] < b[:common] else 1
+
+    def next_byte(name, tree):
+        if len(name) > common:
+            return name[common]
+        return SLASH if tree else -1        # "or nothing, which is lowest"
+    x, y = next_byte(a, a_tree), next_byte(b, b_tree)
+    return (x > y) - (x < y)
+
+
+# ---------------------------------------------------------------- Entries, the two readers
+
+def bad_h(h):
+    return h not in (20, 32)
+
+
+def over(buffers=(), records=()):
+    """Bounds: sizes of the byte buffers and record counts of the lists of a call."""
+    return any(n > MAX_BYTES for n in buffers) or any(n > MAX_RECORDS for n in records)
+
+
+def entry_at(object, at, h):
+    """Entries: the record of the entry at `at` and the place after it, or None."""
+    number, mode, rest = mode_text(object[at:at + 8])     # eight bytes settle a mode text
+    if number != DONE:
+        return None
+    name = at + rest
+    name_end = object.find(b"\0", name)
+    if name_end < 0 or name_end + 1 + h > len(object):
+        return None
+    return (mode, name, name_end, name_end + 1), name_end + 1 + h
+
+
+def permitted(name):
+    """Strict reader: "non-empty, free of NUL and `/`, and is not `.`, `..` or `.git`"."""
+    return len(name) > 0 and NUL not in name and SLASH not in name and name not in (b".", b"..", b".git")
+
+
+def tree_read(h, object, room, strict):
+    """Entries and Strict reader; "Order. Reading". `room` is in numbers. (number, place, count), records (flat)."""
+    lent = room // 4
+    if bad_h(h):
+        return (BAD_H, 0, 0), []
+    if over([len(object)], [lent]):
+        return (OVER, 0, 0), []
+    at, records, before = 0, [], None
+    while at < len(object):
+        if len(records) == MAX_RECORDS:
+            return (OVER, 0, 0), []
+        entry = entry_at(object, at, h)
+        if entry is None:
+            return (UNREADABLE, at, 0), []
+        (mode, name, name_end, id), after = entry
+        now = (object[name:name_end], is_tree(mode))
+        if strict:
+            if object[at:name - 1] not in [text for text, _word in KINDS]:
+                return (BAD_MODE_TEXT, at, 0), []
+            if not permitted(now[0]):
+                return (BAD_NAME, at, 0), []
+            if before is not None and order(*before, *now) != -1:
+                return (NOT_AFTER, at, 0), []
+        before = now
+        records.append((mode, name, name_end, id))
+        at = after
+    if len(records) > lent:
+        return (FEW_RECORDS, len(records), 0), []
+    return (DONE, 0, len(records)), [n for record in records for n in record]
+
+
+def by(width, numbers):
+    """A flat list as records: "a rest too short is no record"."""
+    return [tuple(numbers[i:i + width]) for i in range(0, len(numbers) - width + 1, width)]
+
+
+def forward(start, end, bytes):
+    """A range that runs forward inside the bytes."""
+    return start <= end <= len(bytes)
+
+
+def entry_well_formed(record, bytes, h):
+    """Entries: "It is well formed when ..."."""
+    mode, name, name_end, id = record
+    return mode <= 65535 and forward(name, name_end, bytes) and id + h <= len(bytes)
+
+
+# ---------------------------------------------------------------- Lookup
+
+def lookup(h, object, numbers, name, tree):
+    """Lookup: (number, place, index, compared)."""
+    records = by(4, numbers)
+    if bad_h(h):
+        return BAD_H, 0, 0, 0
+    if over([len(object), len(name)], [len(records)]):
+        return OVER, 0, 0, 0
+    low, high, compared = 0, len(records), 0
+    while low < high:
+        middle = low + (high - low) // 2
+        record = records[middle]
+        if not entry_well_formed(record, object, h):
+            return BAD_RECORD, middle, 0, 0
+        compared += 1
+        answer = order(object[record[1]:record[2]], is_tree(record[0]), name, tree)
+        if answer == 0:
+            return DONE, 0, middle, compared
+        if answer < 0:
+            low = middle + 1
+        else:
+            high = middle
+    return NOT_THERE, 0, 0, compared
+
+
+# ---------------------------------------------------------------- Tree writing
+
+def entry_written(record, bytes, h):
+    """Tree writing: "Mode text, space, name, NUL, id"."""
+    mode, name, name_end, id = record
+    return mode_written(mode) + b" " + bytes[name:name_end] + b"\0" + bytes[id:id + h]
+
+
+def tree_size(h, bytes, numbers):
+    """Tree writing: "Sizes, asked alone, refuse only 1, 2 and 10": (number, place, count)."""
+    records = by(4, numbers)
+    if bad_h(h):
+        return BAD_H, 0, 0
+    if over([len(bytes)], [len(records)]):
+        return OVER, 0, 0
+    for index, record in enumerate(records):
+        if not entry_well_formed(record, bytes, h):
+            return BAD_RECORD, index, 0
+    return DONE, 0, sum(len(entry_written(record, bytes, h)) for record in records)
+
+
+def tree_write(h, bytes, numbers, room):
+    """Tree writing; "Order. Writing": (number, place, count), bytes written."""
+    records = by(4, numbers)
+    if bad_h(h):
+        return (BAD_H, 0, 0), b""
+    if over([len(bytes), room], [len(records)]):
+        return (OVER, 0, 0), b""
+    for index, record in enumerate(records):
+        if not entry_well_formed(record, bytes, h):
+            return (BAD_RECORD, index, 0), b""
+        if NUL in bytes[record[1]:record[2]]:
+            return (NUL_IN_NAME, index, 0), b""
+    written = b"".join(entry_written(record, bytes, h) for record in records)
+    return output(written, room)
+
+
+def output(written, room):
+    """The numbers, 8: "lent output too short", place "bytes needed"."""
+    if len(written) > room:
+        return (SHORT_OUTPUT, len(written), 0), b""
+    return (DONE, 0, len(written)), written
+
+
+def loose_header(kind, size, room):
+    """Commit writing, `loose_header`: (number, place, count), bytes written. It has no 2."""
+    words = {1: b"commit", 2: b"tree", 3: b"blob", 4: b"tag"}
+    if kind not in words:
+        return (NOT_ACCEPTABLE, 0, 0), b""
+    return output(words[kind] + b" %d\0" % size, room)
+
+
+# ---------------------------------------------------------------- Headers
+
+def line(object, at, word):
+    """Headers: word, one space, value up to LF. (value start, value end, place after), or None."""
+    start = at + len(word) + 1
+    if object[at:start] != word + b" ":
+        return None
+    end = object.find(b"\n", start)
+    return None if end < 0 else (start, end, end + 1)
+
+
+def id_line(object, at, word, h):
+    """Headers: "Ids are 2H hex digits of either case"."""
+    found = line(object, at, word)
+    if found is None:
+        return None
+    start, end, _after = found
+    return found if end - start == 2 * h and all_in(object[start:end], HEX) else None
+
+
+def is_actor(value):
+    """Domain, "Actor form", part by part from the left."""
+    name, bracket, rest = value.partition(b" <")           # the name has no `<`, so the first `<` ends it
+    address, close, rest = rest.partition(b"> ")
+    time, gap, zone = rest.partition(b" ")
+    if not (bracket and close and gap):
+        return False
+    if name == b"" or name.startswith(b" ") or name.endswith(b" ") or any(b in b"<>\0\n" for b in name):
+        return False
+    if address == b"" or any(b in b"<>\0\n " for b in address):
+        return False
+    if not 1 <= len(time) <= 10 or not all_in(time, DIGITS):
+        return False
+    if len(zone) != 5 or zone[0] not in b"+-" or not all_in(zone[1:], DIGITS):
+        return False
+    return int(zone[1:3]) <= 14 and int(zone[3:5]) <= 59
+
+
+def extra_header(object, at):
+    """Headers, extra header at `at`: (five numbers, place after), or None. "Tried first as folded, then as one line"."""
+    first_lf = object.find(b"\n", at)
+    if first_lf < 0:
+        return None
+    name_end = object.find(b" ", at, first_lf)              # "one or more bytes up to a space, with no LF"
+    if name_end <= at:
+        return None
+    value, after = name_end + 1, first_lf + 1
+    while object[after:after + 1] == b" ":
+        lf = object.find(b"\n", after)
+        if lf < 0:                                          # a continuation without its LF: not folded
+            after = first_lf + 1
+            break
+        after = lf + 1
+    if after > first_lf + 1:
+        return (at, name_end, value, after, 1), after
+    return (at, name_end, value, first_lf, 0), first_lf + 1
+
+
+def commit_read(h, object, parents_room, headers_room):
+    """Headers; "Order. Commit reading". (number, place, field), ten numbers (tree .. message end), parents, headers."""
+    def refused(number, place=0, field=0):
+        return (number, place, field), (0,) * 10, [], []
+    lent_headers = headers_room // 5
+    if bad_h(h):
+        return refused(BAD_H)
+    if over([len(object)], [parents_room, lent_headers]):
+        return refused(OVER)
+
+    tree = id_line(object, 0, b"tree", h)
+    if tree is None:
+        return refused(FIELD, 0, 1)
+    at, parents = tree[2], []
+    while (parent := id_line(object, at, b"parent", h)) is not None:
+        parents.append(parent[0])
+        at = parent[2]
+
+    people = []
+    for field, word in ((2, b"author"), (3, b"committer")):
+        person = line(object, at, word)
+        if person is None:
+            return refused(FIELD, at, field)
+        if not is_actor(object[person[0]:person[1]]):
+            return refused(ACTOR, at)
+        people += person[:2]
+        at = person[2]
+
+    encoding = line(object, at, b"encoding")
+    if encoding is None:
+        coded = (0, 0, 0)
+    else:
+        coded, at = (1, encoding[0], encoding[1]), encoding[2]
+
+    headers = []
+    while (header := extra_header(object, at)) is not None:
+        headers.append(header[0])
+        at = header[1]
+    if object[at:at + 1] != b"\n":
+        return refused(FIELD, at, 4)
+
+    if len(parents) > parents_room:
+        return refused(FEW_RECORDS, len(parents))
+    if len(headers) > lent_headers:
+        return refused(FEW_RECORDS, len(headers))
+    ranges = (tree[0], *people, *coded, at + 1, len(object))
+    return (DONE, 0, 0), ranges, parents, [n for header in headers for n in header]
+
+
+def is_folded(value):
+    """The numbers, 10, "handed over as folded": a first line and one or more lines led by a space, each with its LF."""
+    if not value.endswith(b"\n"):
+        return False
+    lines = value[:-1].split(b"\n")
+    return len(lines) > 1 and all(line.startswith(b" ") for line in lines[1:])
+
+
+def unfolded(value):
+    """Headers: "A folded value keeps its last LF and loses one space per continuation"."""
+    return value.replace(b"\n ", b"\n")
+
+
+def header_well_formed(record, bytes):
+    """Headers: "well formed when both ranges run forward inside and the mark is 0 or 1"; with mark 1 also folded."""
+    name, name_end, value, value_end, mark = record
+    if not (forward(name, name_end, bytes) and forward(value, value_end, bytes) and mark in (0, 1)):
+        return False
+    return mark == 0 or is_folded(bytes[value:value_end])
+
+
+def unfold(bytes, record, room):
+    """Headers, unfolding: "refuses 2, 10 at 0, 8". (number, place, count), bytes written."""
+    if over([len(bytes), room]):
+        return (OVER, 0, 0), b""
+    if not header_well_formed(record, bytes):
+        return (BAD_RECORD, 0, 0), b""
+    value = bytes[record[2]:record[3]]
+    return output(unfolded(value) if record[4] == 1 else value, room)
+
+
+# ---------------------------------------------------------------- Commit writing
+
+def header_written(record, bytes):
+    """Commit writing: an unfolded value is folded, "a folded one is copied"."""
+    name, name_end, value, value_end, mark = record
+    text = bytes[value:value_end]
+    if mark == 0:
+        ends = text.endswith(b"\n")
+        text = (text[:-1] if ends else text).replace(b"\n", b"\n ") + b"\n"
+    return bytes[name:name_end] + b" " + text
+
+
+def commit_written(h, bytes, parents, headers, ranges):
+    """Commit writing: the bytes as they would be, also where 13 or 14 will refuse them."""
+    tree, author, author_end, committer, committer_end, mark, encoding, encoding_end, message, message_end = ranges
+    lines = [b"tree " + bytes[tree:tree + 2 * h].lower()]
+    lines += [b"parent " + bytes[p:p + 2 * h].lower() for p in parents]
+    lines += [b"author " + bytes[author:author_end], b"committer " + bytes[committer:committer_end]]
+    if mark == 1:
+        lines.append(b"encoding " + bytes[encoding:encoding_end])
+    text = b"".join(line + b"\n" for line in lines)
+    return text + b"".join(header_written(r, bytes) for r in headers) + b"\n" + bytes[message:message_end]
+
+
+def commit_refusal(h, bytes, parents, headers, ranges, room):
+    """ "Order. Writing": 1, 2, then 10 at the first record that is not well formed, in the order given there; or None."""
+    if bad_h(h):
+        return BAD_H, 0, 0
+    if over([len(bytes), room], [len(parents), len(headers)]):
+        return OVER, 0, 0
+    tree, author, author_end, committer, committer_end, mark, encoding, encoding_end, message, message_end = ranges
+    good = [id + 2 * h <= len(bytes) and all_in(bytes[id:id + 2 * h], HEX) for id in [tree] + parents]
+    good += [forward(author, author_end, bytes), forward(committer, committer_end, bytes)]
+    good += [mark == 0 or mark == 1 and forward(encoding, encoding_end, bytes)]
+    good += [header_well_formed(record, bytes) for record in headers]
+    good += [forward(message, message_end, bytes)]
+    return (BAD_RECORD, good.index(False), 0) if False in good else None
+
+
+def commit_size(h, bytes, parents, numbers, ranges):
+    """Tree writing, "Sizes, asked alone": (number, place, count)."""
+    headers = by(5, numbers)
+    refusal = commit_refusal(h, bytes, parents, headers, ranges, 0)
+    return refusal or (DONE, 0, len(commit_written(h, bytes, parents, headers, ranges)))
+
+
+def commit_write(h, bytes, parents, numbers, ranges, room):
+    """Commit writing: 1, 2, 10, "then 13, 14, 8". (number, place, count), bytes written."""
+    headers = by(5, numbers)
+    refusal = commit_refusal(h, bytes, parents, headers, ranges, room)
+    if refusal:
+        return refusal, b""
+    if ranges[5] == 1:
+        encoding = bytes[ranges[6]:ranges[7]]
+        if encoding == b"":
+            return (EMPTY_ENCODING, 0, 0), b""
+        if LF in encoding:
+            return (LF_ENCODING, 0, 0), b""
+    return output(commit_written(h, bytes, parents, headers, ranges), room)
+
+
+# ---------------------------------------------------------------- "Examples"
+
+def examples():
+    """P1 to P14 and the two that are also run."""
+    o = b"100644 a\0" + b"\x11" * 20 + b"40000 b\0" + b"\x22" * 20
+    mode = lambda text: mode_text(text)[:2]
+    assert mode(b"100644 ") == (0, 33188) and mode_kind(33188) == BLOB                                        # P1
+    assert mode(b"40000 ") == (0, 16384) and mode(b"040000 ") == (0, 49152)                                    # P2
+    assert mode_value(16384) == mode_value(49152) == 16384
+    assert mode(b"140755 ") == (0, 49645) and mode_written(49645) == b"040755"                                 # P3
+    assert mode(b"040755 ") == (0, 16877) and mode_written(16877) == b"40755"
+    assert mode(b"0000000 x")[0] == 0 and mode(b"00000000 x")[0] == 3                                          # P4
+    assert mode(b"0 abcd e")[0] == 3 and mode(b"0 abc de") == (0, 0)                                           # P5
+    assert mode(b" abc") == (0, 0) and mode(b" 12345 x")[0] == 3                                               # P6
+    assert mode(b"200000 ") == (0, 0) and mode_written(0) == b"0"                                              # P7
+    ascending = [(b"a", False), (b"a.b", False), (b"a", True), (b"a0", False)]
+    assert all(order(*x, *y) == -1 for x, y in zip(ascending, ascending[1:]))                                  # P8
+    assert order(b"a", True, b"a/b", False) == 0                                                               # P9
+    assert all(tree_read(20, b"", 0, strict) == ((0, 0, 0), []) for strict in (False, True))                   # P10
+    (number, _place, count), records = tree_read(20, o, 8, True)
+    assert len(o) == 57 and (number, count) == (0, 2) and tree_write(20, o, records, 57) == ((0, 0, 57), o)    # P11
+    assert tree_read(20, o[:-1], 8, False)[0] == (3, 29, 0)                                                    # P12
+    assert header_written((0, 1, 1, 5, 0), b"ka\nb\n") == b"k a\n b\n"                                         # P13
+    answer, written = tree_write(20, b"abc" + b" " * 20, [0, 0, 3, 3], 26)
+    assert answer == (0, 0, 26) and tree_read(20, written, 4, False)[0] == (3, 0, 0)                           # P14
+    assert mode_from_number(0o300644) == (0, 33188) and mode_from_number(0o200000) == (23, 0)
+
+
+examples()
