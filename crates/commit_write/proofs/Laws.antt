@@ -1,0 +1,453 @@
+-- Laws of the bytes of a commit and of the answers, which the proofs of the functions cite. Assumes nothing.
+use native.Mathlib.Nat.{suc-mul}
+use native.Mathlib.Numerals.{add-one}
+use native.Mathlib.Omega.{arith}
+use Prim.Native.Nat.{ℕ, zero, suc, _+_, _-_, _*_, _/_, _<_, _≤_}
+use mathlib.Core.Path.{_≡_, refl, ap, sym, _∙_}
+use mathlib.Core.Bool.{Bool, true, false, _&&_, not}
+use mathlib.Core.List.{List, [], _∷_, _++_, map}
+use mathlib.Core.Logic.{⊎-elim}
+use lib.Dec.{eqb, leb}
+use lib.ListN.{length, getD, take, drop, set, length-append, length-map, length-take, length-drop, length-set, drop-of-length-le}
+use lib.Seq.{sets, drop-cons, append-snoc}
+use borrow.Author.Tests.{eq-eqb, ne-eqb, le-leb, lt-leb}
+use Rattle.ground.specs.Basics.{pick, part}
+use Rattle.ground.specs.Verdict.{verdict, counted, refused, mostBytes, mostRecords}
+use Rattle.ground.specs.Scan.{countTo, freeOf}
+use Rattle.ground.specs.declared.Verdict.{Verdict}
+use Rattle.ground.specs.declared.Answer.{Answer}
+use Rattle.ground.proofs.Laws.{equal, is-false, id-small, free-whole, whole-free, sets-append}
+use Rattle.output.specs.Output.{fitted}
+use Rattle.output.proofs.Laws.{sets-ended, fitted-bad}
+use Rattle.header.specs.Words.{treeWord, parentWord, authorWord, committerWord, encodingWord}
+use Rattle.header.specs.Record.{width, headerAt, nameOf, valueOf}
+use Rattle.header.specs.declared.HeaderRecord.{HeaderRecord}
+use Rattle.header.specs.declared.CommitParts.{CommitParts}
+use Rattle.commit_grammar.specs.Grammar.{Encoding, absent, given, line, parentsBytes, encodingBytes}
+use Rattle.commit_grammar.specs.Named.{idNamed, headerNamed, recordsFrom}
+use Rattle.commit_grammar.proofs.Pieces.{part-length, line-length}
+use Rattle.commit_check.specs.Check.{headersOf, ranged, idFits, encodingFits, headerFits, passing, checked}
+use Rattle.commit_check.proofs.Laws.{Sound, checked-sound, sound-checked, pass-first, records-length, id-inside, range-parts, encoding-one, header-well, records-end, records-more}
+use Rattle.commit_write.specs.Fold.{foldRest, foldValue}
+use Rattle.commit_write.specs.Written.{lowerDigit, lowerHex, headerWritten, headersWritten, commitWritten}
+use Rattle.commit_write.specs.Write.{encodingNamed, written, measured, encodingRefusal, encoded, commitAnswer}
+
+-- ---- a hex digit
+
+module _ (b : ℕ) where
+  pub digit-low : b < 65 → lowerDigit b ≡ b
+  unfolding lowerDigit
+  digit-low p = simp (lt-leb 65 b p)
+
+  pub digit-high : 70 < b → lowerDigit b ≡ b
+  unfolding lowerDigit
+  digit-high p = simp (le-leb 65 b (omega arith), lt-leb b 70 p)
+
+  pub digit-letter : 65 ≤ b → b ≤ 70 → lowerDigit b ≡ b + 32
+  unfolding lowerDigit
+  digit-letter p q = simp (le-leb 65 b p, le-leb b 70 q)
+
+-- ---- pieces stored one after another
+
+-- after storing a piece at a place: what the output holds, and the place past it
+pub record Put (l : List ℕ) (at : ℕ) (p m : List ℕ) (to : ℕ) : Type 0 where
+  pub holds : m ≡ sets l at p
+  pub past : to ≡ at + length p
+
+pub put-then : {l : List ℕ} {at : ℕ} {p m : List ℕ} {to : ℕ} {q r : List ℕ} {next : ℕ} → Put l at p m to → Put m to q r next → Put l at (p ++ q) r next
+put-then {l} {at} {p} {m} {to} {q} {r} {next} a b =
+    record {
+      holds = b .holds ∙ rw (a .holds, a .past) (sym (sets-append l at p q));
+      past = omega (arith, length-append p q, a .past, b .past);
+    }
+
+pub put-two : (l : List ℕ) (at a b : ℕ) (m r : List ℕ) → m ≡ set l at a → r ≡ set m (at + 1) b → r ≡ sets l at (a ∷ b ∷ [])
+put-two l at a b m r e f = f ∙ rw (e, add-one at)
+
+-- a walk that stores a whole piece by piece: what is left to store from a place on
+pub record Left (l : List ℕ) (at : ℕ) (whole m : List ℕ) (to : ℕ) (rest : List ℕ) : Type 0 where
+  pub holds : sets l at whole ≡ sets m to rest
+  pub past : at + length whole ≡ to + length rest
+
+pub left-all : (l : List ℕ) (at : ℕ) (whole : List ℕ) → Left l at whole l at whole
+left-all l at whole = record { holds = refl; past = refl }
+
+pub left-next : {l : List ℕ} {at : ℕ} {whole m : List ℕ} {to : ℕ} {rest : List ℕ} (p q n : List ℕ) (next : ℕ) → Left l at whole m to rest → rest ≡ p ++ q → n ≡ sets m to p
+    → next ≡ to + length p → Left l at whole n next q
+left-next {l} {at} {whole} {m} {to} {rest} p q n next k e f g =
+    record {
+      holds = k .holds ∙ rw (e, f, g) (sets-append m to p q);
+      past = omega (arith, k .past, ap length e, length-append p q, g);
+    }
+
+pub left-none : {l : List ℕ} {at : ℕ} {whole m : List ℕ} {to : ℕ} {rest : List ℕ} → Left l at whole m to rest → rest ≡ [] → (to ≡ at + length whole) × (m ≡ sets l at whole)
+left-none {l} {at} {whole} {m} {to} {rest} k e =
+    (omega (arith, k .past, ap length e), sym (k .holds ∙ ap (sets m to) e))
+
+-- ---- digits from a place on
+
+module _ (d : List ℕ) (i : ℕ) where
+  pub digits-end : length d ≤ i → lowerHex (drop i d) ≡ []
+  digits-end p = rw (drop-of-length-le d {i = i} p)
+
+  pub digits-more : i < length d → lowerHex (drop i d) ≡ lowerDigit (getD d i 0) ∷ lowerHex (drop (i + 1) d)
+  digits-more p = rw (add-one i, drop-cons d i 0 p)
+
+-- ---- a line: word and space, value and LF
+
+pub line-pieces : (w v : List ℕ) → (w ++ 32 ∷ []) ++ (v ++ 10 ∷ []) ≡ line w v
+line-pieces w v = append-snoc w 32 (v ++ 10 ∷ [])
+
+pub line-put : (l m r w v : List ℕ) (at from end : ℕ) → from ≡ at + length w + 1 → end ≡ from + length v + 1
+    → m ≡ sets l at (w ++ 32 ∷ []) → r ≡ sets m from (v ++ 10 ∷ []) → Put l at (line w v) r end
+line-put l m r w v at from end p q e f =
+    let a : from ≡ at + length (w ++ 32 ∷ []) = omega (arith, length-append w (32 ∷ [])) in
+    let b : end ≡ from + length (v ++ 10 ∷ []) = omega (arith, length-append v (10 ∷ [])) in
+    let x : Put l at (w ++ 32 ∷ []) m from = record { holds = e; past = a } in
+    let y : Put m from (v ++ 10 ∷ []) r end = record { holds = f; past = b } in
+    let k : Put l at ((w ++ 32 ∷ []) ++ (v ++ 10 ∷ [])) r end = put-then x y in
+    rw (line-pieces w v) at k
+
+-- the same of an id: its digits, then LF
+pub id-put : (l m n r w d : List ℕ) (at from last end : ℕ) → from ≡ at + length w + 1 → last ≡ from + length d → end ≡ last + 1
+    → m ≡ sets l at (w ++ 32 ∷ []) → n ≡ sets m from (lowerHex d) → r ≡ set n last 10 → Put l at (line w (lowerHex d)) r end
+id-put l m n r w d at from last end p q z e f g =
+    let a : last ≡ from + length (lowerHex d) = omega (arith, length-map d lowerDigit) in
+    line-put l m r w (lowerHex d) at from end p (omega (arith, a)) e (g ∙ rw (f, a) (sym (sets-ended m from (lowerHex d) 10)))
+
+-- ---- a value from a place on, prev the byte before it
+
+module _ (prev : ℕ) (v : List ℕ) (i : ℕ) where
+  pub fold-done : length v ≤ i → prev ≡ 10 → foldRest prev (drop i v) ≡ []
+  unfolding foldRest
+  fold-done p e = rw (drop-of-length-le v {i = i} p) (simp (eq-eqb prev 10 e))
+
+  pub fold-last : length v ≤ i → (prev ≡ 10 → ⊥) → foldRest prev (drop i v) ≡ 10 ∷ []
+  unfolding foldRest
+  fold-last p e = rw (drop-of-length-le v {i = i} p) (simp (ne-eqb prev 10 e))
+
+  module _ (p : i < length v) where
+    pub fold-space : prev ≡ 10 → foldRest prev (drop i v) ≡ 32 ∷ getD v i 0 ∷ foldRest (getD v i 0) (drop (i + 1) v)
+    unfolding foldRest
+    fold-space e = rw (add-one i, drop-cons v i 0 p) (simp (eq-eqb prev 10 e))
+
+    pub fold-on : (prev ≡ 10 → ⊥) → foldRest prev (drop i v) ≡ getD v i 0 ∷ foldRest (getD v i 0) (drop (i + 1) v)
+    unfolding foldRest
+    fold-on e = rw (add-one i, drop-cons v i 0 p) (simp (ne-eqb prev 10 e))
+
+-- a space a byte and an LF at most
+rest-le : (prev : ℕ) (v : List ℕ) → length (foldRest prev v) ≤ 2 * length v + 1
+unfolding foldRest
+rest-le prev [] = go (eqb prev 10)
+  where
+    go : (t : Bool) → length {A = ℕ} (pick t [] (10 ∷ [])) ≤ 1
+    go true = omega arith
+    go false = omega arith
+rest-le prev (b ∷ bs) = go (eqb prev 10) (rest-le b bs)
+  where
+    go : (t : Bool) → length (foldRest b bs) ≤ 2 * length bs + 1 → length (pick t (32 ∷ b ∷ foldRest b bs) (b ∷ foldRest b bs)) ≤ 2 * suc (length bs) + 1
+    go true ih = omega arith
+    go false ih = omega arith
+
+pub fold-le : (v : List ℕ) → length (foldValue v) ≤ 2 * length v + 1
+unfolding foldValue
+fold-le v = rest-le 0 v
+
+-- ---- a header
+
+module _ (bytes : List ℕ) (x : HeaderRecord) where
+  pub header-folded : x .mark ≡ 1 → headerWritten (headerNamed bytes x) ≡ (nameOf bytes x ++ 32 ∷ []) ++ valueOf bytes x
+  unfolding headerWritten
+  header-folded e = simp (eq-eqb (x .mark) 1 e) (sym (append-snoc (nameOf bytes x) 32 (valueOf bytes x)))
+
+  pub header-plain : (x .mark ≡ 1 → ⊥) → headerWritten (headerNamed bytes x) ≡ (nameOf bytes x ++ 32 ∷ []) ++ foldValue (valueOf bytes x)
+  unfolding headerWritten
+  header-plain e = simp (ne-eqb (x .mark) 1 e) (sym (append-snoc (nameOf bytes x) 32 (foldValue (valueOf bytes x))))
+
+  pub name-length : headerFits bytes x ≡ true → length (nameOf bytes x) ≡ x .«name_end» - x .«name_start»
+  name-length f = let w = header-well bytes x f in part-length bytes (x .«name_start») (x .«name_end») (w .name-forward) (w .name-inside)
+
+  pub value-length : headerFits bytes x ≡ true → length (valueOf bytes x) ≡ x .«value_end» - x .«value_start»
+  value-length f = let w = header-well bytes x f in part-length bytes (x .«value_start») (x .«value_end») (w .value-forward) (w .value-inside)
+
+  -- so no sum of sizes leaves 64 bits
+  pub header-le : headerFits bytes x ≡ true → length bytes ≤ mostBytes → length (headerWritten (headerNamed bytes x)) ≤ 3221225474
+  unfolding headerWritten
+  header-le f p =
+      go (eqb (x .mark) 1) (length-append (nameOf bytes x) (32 ∷ pick (eqb (x .mark) 1) (valueOf bytes x) (foldValue (valueOf bytes x))))
+    where
+      go : (t : Bool) → length (nameOf bytes x ++ 32 ∷ pick t (valueOf bytes x) (foldValue (valueOf bytes x)))
+              ≡ length (nameOf bytes x) + suc (length (pick t (valueOf bytes x) (foldValue (valueOf bytes x))))
+          → length (nameOf bytes x ++ 32 ∷ pick t (valueOf bytes x) (foldValue (valueOf bytes x))) ≤ 3221225474
+      go true q = let w = header-well bytes x f in omega (arith, q, name-length f, value-length f, w)
+      go false q = let w = header-well bytes x f in omega (arith, q, name-length f, value-length f, w, fold-le (valueOf bytes x))
+
+  -- stored: name and space, then the value, folded or not
+  module _ (f : headerFits bytes x ≡ true) (l m r : List ℕ) (at value end : ℕ) (p : value ≡ at + (x .«name_end» - x .«name_start») + 1)
+      (e : m ≡ sets l at (nameOf bytes x ++ 32 ∷ [])) where
+    name-put : Put l at (nameOf bytes x ++ 32 ∷ []) m value
+    name-put = record { holds = e; past = omega (arith, length-append (nameOf bytes x) (32 ∷ []), name-length f) }
+
+    pub folded-put : x .mark ≡ 1 → r ≡ sets m value (valueOf bytes x) → end ≡ value + (x .«value_end» - x .«value_start») → Put l at (headerWritten (headerNamed bytes x)) r end
+    folded-put k g q =
+        let y : Put m value (valueOf bytes x) r end = record { holds = g; past = omega (arith, value-length f) } in
+        rw (header-folded k) (put-then name-put y)
+
+    pub plain-put : (x .mark ≡ 1 → ⊥) → r ≡ sets m value (foldValue (valueOf bytes x)) → end ≡ value + length (foldValue (valueOf bytes x))
+        → Put l at (headerWritten (headerNamed bytes x)) r end
+    plain-put k g q =
+        let y : Put m value (foldValue (valueOf bytes x)) r end = record { holds = g; past = q } in
+        rw (header-plain k) (put-then name-put y)
+
+-- ---- the parents from an index on
+
+module _ (h : ℕ) (bytes parents : List ℕ) (i : ℕ) where
+  pub parents-none : length parents ≤ i → parentsBytes (map lowerHex (map (idNamed h bytes) (drop i parents))) ≡ []
+  unfolding parentsBytes
+  parents-none p = rw (drop-of-length-le parents {i = i} p)
+
+  pub parents-next : i < length parents
+      → parentsBytes (map lowerHex (map (idNamed h bytes) (drop i parents)))
+      ≡ line parentWord (lowerHex (idNamed h bytes (getD parents i 0))) ++ parentsBytes (map lowerHex (map (idNamed h bytes) (drop (i + 1) parents)))
+  unfolding parentsBytes
+  parents-next p = rw (add-one i, drop-cons parents i 0 p)
+
+-- an id has 2H digits
+pub id-length : (h : ℕ) (bytes : List ℕ) (at : ℕ) → idFits h bytes at ≡ true → length (idNamed h bytes at) ≡ 2 * h
+id-length h bytes at f = part-length bytes at (at + 2 * h) (omega arith) (id-inside h bytes at f) ∙ omega arith
+
+pub id-line-le : (h : ℕ) (bytes : List ℕ) (at : ℕ) → h ≤ 32 → idFits h bytes at ≡ true → length (line parentWord (lowerHex (idNamed h bytes at))) ≤ 72
+id-line-le h bytes at p f =
+    omega (arith, line-length parentWord (lowerHex (idNamed h bytes at)), length-map (idNamed h bytes at) lowerDigit, id-length h bytes at f)
+
+pub parents-le : (h : ℕ) (bytes ps : List ℕ) → h ≤ 32 → passing (map (idFits h bytes) ps) ≡ length ps
+    → length (parentsBytes (map lowerHex (map (idNamed h bytes) ps))) ≤ length ps * 72
+unfolding parentsBytes
+parents-le h bytes [] p e = omega arith
+parents-le h bytes (x ∷ ps) p e =
+    let k = pass-first (idFits h bytes x) (map (idFits h bytes) ps) (e ∙ ap suc (sym (length-map ps (idFits h bytes)))) in
+    omega (
+      arith,
+      length-append (line parentWord (lowerHex (idNamed h bytes x))) (parentsBytes (map lowerHex (map (idNamed h bytes) ps))),
+      id-line-le h bytes x p (k .0),
+      parents-le h bytes ps p (k .1 ∙ length-map ps (idFits h bytes)),
+      suc-mul (length ps) 72,
+    )
+
+-- ---- the headers from an index on, n in all
+
+module _ (bytes headers : List ℕ) (n i : ℕ) where
+  pub headers-none : n ≤ i → headersWritten (map (headerNamed bytes) (recordsFrom i (n - i) headers)) ≡ []
+  unfolding headersWritten
+  headers-none p = rw (records-end headers n i p)
+
+  pub headers-next : i < n → (x : HeaderRecord) → x ≡ headerAt headers i
+      → headersWritten (map (headerNamed bytes) (recordsFrom i (n - i) headers))
+      ≡ headerWritten (headerNamed bytes x) ++ headersWritten (map (headerNamed bytes) (recordsFrom (i + 1) (n - (i + 1)) headers))
+  unfolding headersWritten
+  headers-next p x q = rw (records-more headers n i p, ← q)
+
+pub headers-le : (bytes : List ℕ) (xs : List HeaderRecord) → length bytes ≤ mostBytes → passing (map (headerFits bytes) xs) ≡ length xs
+    → length (headersWritten (map (headerNamed bytes) xs)) ≤ length xs * 3221225474
+unfolding headersWritten
+headers-le bytes [] p e = omega arith
+headers-le bytes (x ∷ xs) p e =
+    let k = pass-first (headerFits bytes x) (map (headerFits bytes) xs) (e ∙ ap suc (sym (length-map xs (headerFits bytes)))) in
+    omega (
+      arith,
+      length-append (headerWritten (headerNamed bytes x)) (headersWritten (map (headerNamed bytes) xs)),
+      header-le bytes x (k .0) p,
+      headers-le bytes xs p (k .1 ∙ length-map xs (headerFits bytes)),
+      suc-mul (length xs) 3221225474,
+    )
+
+-- ---- the encoding
+
+module _ (bytes : List ℕ) (p : CommitParts) where
+  pub encoding-given : p .encoding ≡ 1 → encodingNamed bytes p ≡ given (part (p .«encoding_start») (p .«encoding_end») bytes)
+  encoding-given e = rw (eq-eqb (p .encoding) 1 e)
+
+  pub encoding-absent : (p .encoding ≡ 1 → ⊥) → encodingNamed bytes p ≡ absent
+  encoding-absent e = rw (ne-eqb (p .encoding) 1 e)
+
+  -- with mark 1 its range is one
+  pub encoding-range : encodingFits (length bytes) p ≡ true → p .encoding ≡ 1 → (p .«encoding_start» ≤ p .«encoding_end») × (p .«encoding_end» ≤ length bytes)
+  encoding-range f e = range-parts (p .«encoding_start») (p .«encoding_end») (length bytes) (sym (encoding-one (length bytes) p e) ∙ f)
+
+-- ---- what refuses an encoding
+
+fault-some : (v : List ℕ) → (length v ≡ 0 → ⊥) → encodingRefusal (given v) ≡ pick (freeOf 10 v) 0 14
+unfolding encodingRefusal
+fault-some [] n = absurd (n refl)
+fault-some (b ∷ bs) n = refl
+
+fault-nothing : (v : List ℕ) → length v ≡ 0 → encodingRefusal (given v) ≡ 13
+unfolding encodingRefusal
+fault-nothing [] n = refl
+fault-nothing (b ∷ bs) n = absurd (omega arith)
+
+module _ (bytes : List ℕ) (p : CommitParts) where
+  pub fault-absent : (p .encoding ≡ 1 → ⊥) → encodingRefusal (encodingNamed bytes p) ≡ 0
+  unfolding encodingRefusal
+  fault-absent e = rw (encoding-absent bytes p e)
+
+  module _ (f : encodingFits (length bytes) p ≡ true) (e : p .encoding ≡ 1) where
+    abbrev value : List ℕ
+    value = part (p .«encoding_start») (p .«encoding_end») bytes
+
+    value-long : length value ≡ p .«encoding_end» - p .«encoding_start»
+    value-long = let r = encoding-range bytes p f e in part-length bytes (p .«encoding_start») (p .«encoding_end») (r .0) (r .1)
+
+    pub fault-empty : p .«encoding_end» ≡ p .«encoding_start» → encodingRefusal (encodingNamed bytes p) ≡ 13
+    fault-empty z = rw (encoding-given bytes p e) (fault-nothing value (omega (arith, value-long)))
+
+    module _ (z : p .«encoding_end» ≡ p .«encoding_start» → ⊥) where
+      some : encodingRefusal (encodingNamed bytes p) ≡ pick (freeOf 10 value) 0 14
+      some = rw (encoding-given bytes p e) (fault-some value (λ q. z (omega (arith, value-long, encoding-range bytes p f e))))
+
+      pub fault-none : countTo 10 value ≡ p .«encoding_end» - p .«encoding_start» → encodingRefusal (encodingNamed bytes p) ≡ 0
+      fault-none c = some ∙ rw (free-whole 10 value (c ∙ sym value-long))
+
+      pub fault-lf : (countTo 10 value ≡ p .«encoding_end» - p .«encoding_start» → ⊥) → encodingRefusal (encodingNamed bytes p) ≡ 14
+      fault-lf c = some ∙ rw (is-false (freeOf 10 value) (λ q. c (whole-free 10 value q ∙ value-long)))
+
+-- ---- the whole
+
+-- what each part of a commit that passes takes, so that no sum leaves 64 bits, and where its parts lie
+pub record Sizes (h : ℕ) (bytes : List ℕ) (p : CommitParts) (parents headers : List ℕ) : Type 0 where
+  pub id-small : h ≤ 32
+  pub bytes-most : length bytes ≤ mostBytes
+  pub parents-most : length parents ≤ mostRecords
+  pub headers-most : length headers / width ≤ mostRecords
+  pub tree-inside : p .tree + 2 * h ≤ length bytes
+  pub tree-long : length (idNamed h bytes (p .tree)) ≡ 2 * h
+  pub tree-size : length (line treeWord (lowerHex (idNamed h bytes (p .tree)))) ≤ 70
+  pub parents-size : length (parentsBytes (map lowerHex (map (idNamed h bytes) parents))) ≤ length parents * 72
+  pub author-range : (p .«author_start» ≤ p .«author_end») × (p .«author_end» ≤ length bytes)
+  pub author-long : length (part (p .«author_start») (p .«author_end») bytes) ≤ mostBytes
+  pub author-size : length (line authorWord (part (p .«author_start») (p .«author_end») bytes)) ≤ 1073741832
+  pub committer-range : (p .«committer_start» ≤ p .«committer_end») × (p .«committer_end» ≤ length bytes)
+  pub committer-long : length (part (p .«committer_start») (p .«committer_end») bytes) ≤ mostBytes
+  pub committer-size : length (line committerWord (part (p .«committer_start») (p .«committer_end») bytes)) ≤ 1073741835
+  pub encoding-size : length (encodingBytes (encodingNamed bytes p)) ≤ 1073741834
+  pub headers-size : length (headersWritten (map (headerNamed bytes) (headersOf headers))) ≤ (length headers / width) * 3221225474
+  pub message-range : (p .«message_start» ≤ p .«message_end») × (p .«message_end» ≤ length bytes)
+  pub message-long : length (part (p .«message_start») (p .«message_end») bytes) ≡ p .«message_end» - p .«message_start»
+
+part-le : (bytes : List ℕ) (from to : ℕ) → ranged from to (length bytes) ≡ true → length bytes ≤ mostBytes → length (part from to bytes) ≤ mostBytes
+part-le bytes from to r m = let k = range-parts from to (length bytes) r in omega (arith, k, part-length bytes from to (k .0) (k .1))
+
+encoding-le : (bytes : List ℕ) (p : CommitParts) → encodingFits (length bytes) p ≡ true → length bytes ≤ mostBytes → length (encodingBytes (encodingNamed bytes p)) ≤ 1073741834
+unfolding encodingBytes
+encoding-le bytes p f m =
+    ⊎-elim
+    (λ e. let r = encoding-range bytes p f e in
+     let v = part (p .«encoding_start») (p .«encoding_end») bytes in
+     rw (encoding-given bytes p e) (omega (arith, r, line-length encodingWord v, part-length bytes (p .«encoding_start») (p .«encoding_end») (r .0) (r .1))))
+    (λ e. rw (encoding-absent bytes p e) (omega arith))
+    (equal (p .encoding) 1)
+
+pub sizes : (h : ℕ) (bytes : List ℕ) (p : CommitParts) (parents headers : List ℕ) (room : ℕ) → Sound h bytes p parents headers room → Sizes h bytes p parents headers
+sizes h bytes p parents headers room s =
+    let small = id-small h (s .id-length) .1 in
+    let a = part (p .«author_start») (p .«author_end») bytes in
+    let c = part (p .«committer_start») (p .«committer_end») bytes in
+    let al = part-le bytes (p .«author_start») (p .«author_end») (s .author) (s .bytes-most) in
+    let cl = part-le bytes (p .«committer_start») (p .«committer_end») (s .committer) (s .bytes-most) in
+    let m = range-parts (p .«message_start») (p .«message_end») (length bytes) (s .message) in
+    let t = id-length h bytes (p .tree) (s .tree) in
+    let n = records-length 0 (length headers / width) headers in
+    record {
+      id-small = small;
+      bytes-most = s .bytes-most;
+      parents-most = s .parents-most;
+      headers-most = s .headers-most;
+      tree-inside = id-inside h bytes (p .tree) (s .tree);
+      tree-long = t;
+      tree-size = omega (arith, line-length treeWord (lowerHex (idNamed h bytes (p .tree))), length-map (idNamed h bytes (p .tree)) lowerDigit, t, small);
+      parents-size = parents-le h bytes parents small (s .parents-pass);
+      author-range = range-parts (p .«author_start») (p .«author_end») (length bytes) (s .author);
+      author-long = al;
+      author-size = omega (arith, line-length authorWord a, al);
+      committer-range = range-parts (p .«committer_start») (p .«committer_end») (length bytes) (s .committer);
+      committer-long = cl;
+      committer-size = omega (arith, line-length committerWord c, cl);
+      encoding-size = encoding-le bytes p (s .encoding) (s .bytes-most);
+      headers-size = rw n at (headers-le bytes (headersOf headers) (s .bytes-most) (s .headers-pass ∙ sym n));
+      message-range = m;
+      message-long = part-length bytes (p .«message_start») (p .«message_end») (m .0) (m .1);
+    }
+
+-- what a store promises, as a piece that was put
+pub put-of : (l : List ℕ) (at : ℕ) (p m : List ℕ) (to : ℕ) → to ≡ at + length p → m ≡ sets l at p → Put l at p m to
+put-of l at p m to q e = record { holds = e; past = q }
+
+-- the pieces in turn are the commit
+pub commit-put : (h : ℕ) (bytes : List ℕ) (p : CommitParts) (parents headers : List ℕ) (l l1 l2 l3 l4 l5 l6 l7 l8 : List ℕ) (a b c d e f g : ℕ)
+    → Put l 0 (line treeWord (lowerHex (idNamed h bytes (p .tree)))) l1 a
+    → Put l1 a (parentsBytes (map lowerHex (map (idNamed h bytes) parents))) l2 b
+    → Put l2 b (line authorWord (part (p .«author_start») (p .«author_end») bytes)) l3 c
+    → Put l3 c (line committerWord (part (p .«committer_start») (p .«committer_end») bytes)) l4 d
+    → Put l4 d (encodingBytes (encodingNamed bytes p)) l5 e
+    → Put l5 e (headersWritten (map (headerNamed bytes) (headersOf headers))) l6 f
+    → Put l6 f (10 ∷ []) l7 (f + 1)
+    → Put l7 (f + 1) (part (p .«message_start») (p .«message_end») bytes) l8 g
+    → Put l 0 (written h bytes p parents headers) l8 g
+unfolding commitWritten
+commit-put h bytes p parents headers l l1 l2 l3 l4 l5 l6 l7 l8 a b c d e f g x1 x2 x3 x4 x5 x6 x7 x8 =
+    put-then x1 (put-then x2 (put-then x3 (put-then x4 (put-then x5 (put-then x6 (put-then x7 x8))))))
+
+-- ---- the answers
+
+module _ (h : ℕ) (bytes : List ℕ) (p : CommitParts) (parents headers : List ℕ) (room : ℕ) where
+  pub measured-bad : (checked h bytes p parents headers room .number ≡ 0 → ⊥) → measured h bytes p parents headers room ≡ refused (checked h bytes p parents headers room)
+  unfolding measured
+  measured-bad z = simp (ne-eqb (checked h bytes p parents headers room .number) 0 z)
+
+  pub measured-fine : checked h bytes p parents headers room .number ≡ 0 → measured h bytes p parents headers room ≡ counted (length (written h bytes p parents headers))
+  unfolding measured
+  measured-fine z = simp (eq-eqb (checked h bytes p parents headers room .number) 0 z)
+
+  -- a measure that is done: nothing was refused
+  pub measured-checked : measured h bytes p parents headers room .verdict .number ≡ 0 → checked h bytes p parents headers room .number ≡ 0
+  measured-checked z =
+      ⊎-elim (λ e. e) (λ n. absurd (n (ap (λ (a : Answer). a .verdict .number) (sym (measured-bad n)) ∙ z))) (equal (checked h bytes p parents headers room .number) 0)
+
+  pub measured-length : measured h bytes p parents headers room .verdict .number ≡ 0 → measured h bytes p parents headers room .count ≡ length (written h bytes p parents headers)
+  measured-length z = ap (λ (a : Answer). a .count) (measured-fine (measured-checked z))
+
+  -- with less room nothing else is refused
+  pub checked-less : checked h bytes p parents headers room .number ≡ 0 → checked h bytes p parents headers 0 .number ≡ 0
+  checked-less z =
+      let s = checked-sound h bytes p parents headers room z in
+      ap (λ (v : Verdict). v .number)
+      (sound-checked h bytes p parents headers 0
+      (record {
+        id-length = s .id-length;
+        bytes-most = s .bytes-most;
+        room-most = omega arith;
+        parents-most = s .parents-most;
+        headers-most = s .headers-most;
+        tree = s .tree;
+        parents-pass = s .parents-pass;
+        author = s .author;
+        committer = s .committer;
+        encoding = s .encoding;
+        headers-pass = s .headers-pass;
+        message = s .message;
+      }))
+
+  pub answer-bad : (measured h bytes p parents headers room .verdict .number ≡ 0 → ⊥) → commitAnswer h bytes p parents headers room ≡ measured h bytes p parents headers room
+  unfolding commitAnswer encoded
+  answer-bad z = simp (ne-eqb (measured h bytes p parents headers room .verdict .number) 0 z) (fitted-bad room (measured h bytes p parents headers room) z)
+
+  module _ (z : measured h bytes p parents headers room .verdict .number ≡ 0) where
+    pub answer-fault : (encodingRefusal (encodingNamed bytes p) ≡ 0 → ⊥) → commitAnswer h bytes p parents headers room ≡ refused (verdict (encodingRefusal (encodingNamed bytes p)) 0)
+    unfolding commitAnswer encoded
+    answer-fault n =
+        let k : ℕ = encodingRefusal (encodingNamed bytes p) in
+        rw (eq-eqb (measured h bytes p parents headers room .verdict .number) 0 z, ne-eqb k 0 n) (fitted-bad room (refused (verdict k 0)) n)
+
+    pub answer-fits : encodingRefusal (encodingNamed bytes p) ≡ 0 → commitAnswer h bytes p parents headers room ≡ fitted room (measured h bytes p parents headers room)
+    unfolding commitAnswer encoded
+    answer-fits n = rw (eq-eqb (measured h bytes p parents headers room .verdict .number) 0 z, eq-eqb (encodingRefusal (encodingNamed bytes p)) 0 n)

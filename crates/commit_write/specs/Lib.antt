@@ -1,0 +1,4 @@
+pub mod Fold
+pub mod Written
+pub mod Write
+pub mod Examples

@@ -1,0 +1,317 @@
+// A commit written from its parts, and its size (docs/FORMAT.md, "Commit writing"). Follows commit/write.rs and encode.rs.
+// One walk serves both: it stores what has room and gives the place past it, so with no room it measures.
+ghost use mathlib.Core.Path.{_≡_};
+ghost use mathlib.Core.Bool.{true};
+ghost use mathlib.Core.List.{map};
+ghost use Prim.Native.Nat.{_+_, _*_, _/_, _<_, _≤_};
+ghost use lib.ListN.{length, set};
+ghost use lib.Seq.{sets};
+ghost use Rattle.ground.specs.Verdict.{mostBytes, mostRecords, stored};
+ghost use Rattle.header.specs.Record.{width};
+ghost use Rattle.commit_grammar.specs.Grammar.{line, parentsBytes, encodingBytes};
+ghost use Rattle.commit_grammar.specs.Named.{idNamed, headerNamed};
+ghost use Rattle.commit_check.specs.Check.{headersOf, idFits, encodingFits, headerFits, passing, checked};
+ghost use Rattle.commit_write.specs.Fold.{foldValue};
+ghost use Rattle.commit_write.specs.Written.{lowerDigit, lowerHex, headerWritten, headersWritten};
+ghost use Rattle.commit_write.specs.Write.{encodingNamed, written, encodingRefusal, measured, commitSize, commitAnswer};
+use commit_check::check_commit;
+use ground::Answer;
+use ground::Verdict;
+use ground::count_to;
+use header::CommitParts;
+use header::HEADER_WIDTH;
+use header::HeaderRecord;
+use header::header_at;
+use output::fit;
+use output::put;
+use output::put_ended;
+
+// A hex digit in lower case.
+fn lower(b: u8) -> u8
+    ensures { λ r. ⌜ r ≡ lowerDigit b ⌝ }
+{
+    if b < 65 {
+        return b;
+    }
+    if 70 < b {
+        return b;
+    }
+    b + 32
+}
+
+// Stores a byte where it has room.
+fn put_byte(out: &mut [u8], at: usize, b: u8)
+    ensures { λ _. ⌜ now (out .exit) ≡ set (now (out .entry)) at b ⌝ }
+{
+    if at < out.len() {
+        out[at] = b;
+    }
+}
+
+// Stores the digits of an id in lower case.
+fn put_digits(out: &mut [u8], at: usize, digits: &[u8])
+    requires { ⌜ at + length (now digits) < 18446744073709551616 ⌝ }
+    ensures { λ _. ⌜ now (out .exit) ≡ sets (now (out .entry)) at (lowerHex (now (digits .entry))) ⌝ }
+{
+    let mut i = 0;
+    while i < digits.len() {
+        let to = at + i;
+        put_byte(out, to, lower(digits[i]));
+        i += 1;
+    }
+}
+
+// Stores the line of an id.
+fn put_id_line(out: &mut [u8], at: usize, word: &[u8], digits: &[u8]) -> usize
+    requires { ⌜ at + (length (now word) + length (now digits) + 2) < 18446744073709551616 ⌝ }
+    ensures { λ r. ⌜ r ≡ at + length (line (now (word .entry)) (lowerHex (now (digits .entry)))) ⌝ }
+    ensures { λ _. ⌜ now (out .exit) ≡ sets (now (out .entry)) at (line (now (word .entry)) (lowerHex (now (digits .entry)))) ⌝ }
+{
+    let from = at + word.len() + 1;
+    let end = from + digits.len();
+    put_ended(out, at, word, 32);
+    put_digits(out, from, digits);
+    put_byte(out, end, 10);
+    end + 1
+}
+
+// Stores the line of a value.
+fn put_line(out: &mut [u8], at: usize, word: &[u8], value: &[u8]) -> usize
+    requires { ⌜ at + (length (now word) + length (now value) + 2) < 18446744073709551616 ⌝ }
+    ensures { λ r. ⌜ r ≡ at + length (line (now (word .entry)) (now (value .entry))) ⌝ }
+    ensures { λ _. ⌜ now (out .exit) ≡ sets (now (out .entry)) at (line (now (word .entry)) (now (value .entry))) ⌝ }
+{
+    let from = at + word.len() + 1;
+    let end = from + value.len();
+    put_ended(out, at, word, 32);
+    put_ended(out, from, value, 10);
+    end + 1
+}
+
+// Stores a value with a space before each line but the first, and an LF at the end.
+fn put_folded(out: &mut [u8], at: usize, v: &[u8]) -> usize
+    requires { ⌜ at + (2 * length (now v) + 1) < 18446744073709551616 ⌝ }
+    ensures { λ r. ⌜ r ≡ at + length (foldValue (now (v .entry))) ⌝ }
+    ensures { λ _. ⌜ now (out .exit) ≡ sets (now (out .entry)) at (foldValue (now (v .entry))) ⌝ }
+{
+    let mut to = at;
+    let mut prev: u8 = 0;
+    let mut i = 0;
+    while i < v.len() {
+        if prev == 10 {
+            put_byte(out, to, 32);
+            prev = v[i];
+            put_byte(out, to + 1, prev);
+            to += 2;
+            i += 1;
+            continue;
+        }
+        prev = v[i];
+        put_byte(out, to, prev);
+        to += 1;
+        i += 1;
+    }
+    if prev == 10 {
+        return to;
+    }
+    put_byte(out, to, 10);
+    to + 1
+}
+
+// Stores a header: a folded value as it stands.
+fn put_header(out: &mut [u8], at: usize, bytes: &[u8], x: HeaderRecord) -> usize
+    requires { ⌜ headerFits (now bytes) x ≡ true ⌝ }
+    requires { ⌜ (length (now bytes) ≤ mostBytes) × (at + 3221225474 < 18446744073709551616) ⌝ }
+    ensures { λ r. ⌜ r ≡ at + length (headerWritten (headerNamed (now (bytes .entry)) x)) ⌝ }
+    ensures { λ _. ⌜ now (out .exit) ≡ sets (now (out .entry)) at (headerWritten (headerNamed (now (bytes .entry)) x)) ⌝ }
+{
+    let start = x.name_start;
+    let end = x.name_end;
+    let from = x.value_start;
+    let to = x.value_end;
+    let value = at + (end - start) + 1;
+    put_ended(out, at, &bytes[start..end], 32);
+    if x.mark == 1 {
+        put(out, value, &bytes[from..to]);
+        return value + (to - from);
+    }
+    put_folded(out, value, &bytes[from..to])
+}
+
+// Stores the lines of all parents.
+fn put_parents(out: &mut [u8], at: usize, bytes: &[u8], h: usize, parents: &[usize]) -> usize
+    requires { ⌜ passing (map (idFits h (now bytes)) (now parents)) ≡ length (now parents) ⌝ }
+    requires { ⌜ (h ≤ 32) × (at + length (now parents) * 72 < 18446744073709551616) ⌝ }
+    ensures { λ r. ⌜ r ≡ at + length (parentsBytes (map lowerHex (map (idNamed h (now (bytes .entry))) (now (parents .entry))))) ⌝ }
+    ensures { λ _. ⌜ now (out .exit) ≡ sets (now (out .entry)) at (parentsBytes (map lowerHex (map (idNamed h (now (bytes .entry))) (now (parents .entry))))) ⌝ }
+{
+    let mut to = at;
+    let mut i = 0;
+    while i < parents.len() {
+        let from = parents[i];
+        let end = from + 2 * h;
+        to = put_id_line(out, to, b"parent", &bytes[from..end]);
+        i += 1;
+    }
+    to
+}
+
+// Stores all headers.
+fn put_headers(out: &mut [u8], at: usize, bytes: &[u8], headers: &[usize]) -> usize
+    requires { ⌜ passing (map (headerFits (now bytes)) (headersOf (now headers))) ≡ length (now headers) / width ⌝ }
+    requires { ⌜ (length (now bytes) ≤ mostBytes) × (at + (length (now headers) / width) * 3221225474 < 18446744073709551616) ⌝ }
+    ensures { λ r. ⌜ r ≡ at + length (headersWritten (map (headerNamed (now (bytes .entry))) (headersOf (now (headers .entry))))) ⌝ }
+    ensures { λ _. ⌜ now (out .exit) ≡ sets (now (out .entry)) at (headersWritten (map (headerNamed (now (bytes .entry))) (headersOf (now (headers .entry))))) ⌝ }
+{
+    let n = headers.len() / HEADER_WIDTH;
+    let mut to = at;
+    let mut i = 0;
+    while i < n {
+        let x = header_at(headers, i);
+        to = put_header(out, to, bytes, x);
+        i += 1;
+    }
+    to
+}
+
+// Stores the line of the encoding, if there is one.
+fn put_encoding(out: &mut [u8], at: usize, bytes: &[u8], p: CommitParts) -> usize
+    requires { ⌜ encodingFits (length (now bytes)) p ≡ true ⌝ }
+    requires { ⌜ (length (now bytes) ≤ mostBytes) × (at + 1073741834 < 18446744073709551616) ⌝ }
+    ensures { λ r. ⌜ r ≡ at + length (encodingBytes (encodingNamed (now (bytes .entry)) p)) ⌝ }
+    ensures { λ _. ⌜ now (out .exit) ≡ sets (now (out .entry)) at (encodingBytes (encodingNamed (now (bytes .entry)) p)) ⌝ }
+{
+    if p.encoding == 1 {
+        let from = p.encoding_start;
+        let to = p.encoding_end;
+        return put_line(out, at, b"encoding", &bytes[from..to]);
+    }
+    at
+}
+
+// Stores a commit at the front, as far as there is room, and gives its length.
+fn put_commit(
+    out: &mut [u8],
+    bytes: &[u8],
+    h: usize,
+    parts: CommitParts,
+    parents: &[usize],
+    headers: &[usize],
+) -> usize
+    requires { ⌜ checked h (now bytes) parts (now parents) (now headers) 0 .number ≡ 0 ⌝ }
+    ensures { λ r. ⌜ r ≡ length (written h (now (bytes .entry)) parts (now (parents .entry)) (now (headers .entry))) ⌝ }
+    ensures { λ _. ⌜ now (out .exit) ≡ sets (now (out .entry)) 0 (written h (now (bytes .entry)) parts (now (parents .entry)) (now (headers .entry))) ⌝ }
+{
+    let tree = parts.tree;
+    let tree_end = tree + 2 * h;
+    let author = parts.author_start;
+    let author_end = parts.author_end;
+    let committer = parts.committer_start;
+    let committer_end = parts.committer_end;
+    let message = parts.message_start;
+    let message_end = parts.message_end;
+    let a = put_id_line(out, 0, b"tree", &bytes[tree..tree_end]);
+    let b = put_parents(out, a, bytes, h, parents);
+    let c = put_line(out, b, b"author", &bytes[author..author_end]);
+    let d = put_line(out, c, b"committer", &bytes[committer..committer_end]);
+    let e = put_encoding(out, d, bytes, parts);
+    let f = put_headers(out, e, bytes, headers);
+    put_byte(out, f, 10);
+    put(out, f + 1, &bytes[message..message_end]);
+    f + 1 + (message_end - message)
+}
+
+// The number that refuses an encoding, or 0.
+fn encoding_fault(bytes: &[u8], p: CommitParts) -> usize
+    requires { ⌜ encodingFits (length (now bytes)) p ≡ true ⌝ }
+    ensures { λ r. ⌜ r ≡ encodingRefusal (encodingNamed (now (bytes .entry)) p) ⌝ }
+{
+    if p.encoding == 1 {
+        let from = p.encoding_start;
+        let to = p.encoding_end;
+        if to == from {
+            return 13;
+        }
+        if count_to(&bytes[from..to], 10) == to - from {
+            return 0;
+        }
+        return 14;
+    }
+    0
+}
+
+// The size, or refusal 1, 2 or 10, where so much room is lent.
+fn measure(
+    bytes: &[u8],
+    h: usize,
+    parts: CommitParts,
+    parents: &[usize],
+    headers: &[usize],
+    room: usize,
+) -> Answer
+    ensures { λ r. ⌜ r ≡ measured h (now (bytes .entry)) parts (now (parents .entry)) (now (headers .entry)) room ⌝ }
+{
+    let verdict = check_commit(bytes, h, parts, parents, headers, room);
+    let number = verdict.number;
+    if number != 0 {
+        return Answer { verdict, count: 0 };
+    }
+    let mut none = [0u8; 0];
+    let count = put_commit(&mut none, bytes, h, parts, parents, headers);
+    Answer {
+        verdict: Verdict {
+            number: 0,
+            place: 0,
+        },
+        count,
+    }
+}
+
+// The size of the commit that the parts and the lent lists name.
+pub fn commit_size(
+    bytes: &[u8],
+    h: usize,
+    parts: CommitParts,
+    parents: &[usize],
+    headers: &[usize],
+) -> Answer
+    ensures { λ r. ⌜ r ≡ commitSize h (now (bytes .entry)) parts (now (parents .entry)) (now (headers .entry)) ⌝ }
+{
+    measure(bytes, h, parts, parents, headers, 0)
+}
+
+// Writes the commit that the parts and the lent lists name.
+pub fn write_commit(
+    bytes: &[u8],
+    h: usize,
+    parts: CommitParts,
+    parents: &[usize],
+    headers: &[usize],
+    out: &mut [u8],
+) -> Answer
+    ensures { λ r. ⌜ r ≡ commitAnswer h (now (bytes .entry)) parts (now (parents .entry)) (now (headers .entry)) (length (now (out .entry))) ⌝ }
+    ensures { λ _. ⌜ now (out .exit) ≡ stored (commitAnswer h (now (bytes .entry)) parts (now (parents .entry)) (now (headers .entry)) (length (now (out .entry))) .verdict) (written h (now (bytes .entry)) parts (now (parents .entry)) (now (headers .entry))) (now (out .entry)) ⌝ }
+{
+    let a = measure(bytes, h, parts, parents, headers, out.len());
+    let refusal = a.verdict.number;
+    if refusal != 0 {
+        return a;
+    }
+    let fault = encoding_fault(bytes, parts);
+    if fault != 0 {
+        return Answer {
+            verdict: Verdict {
+                number: fault,
+                place: 0,
+            },
+            count: 0,
+        };
+    }
+    let answer = fit(out.len(), a);
+    let short = answer.verdict.number;
+    if short != 0 {
+        return answer;
+    }
+    put_commit(out, bytes, h, parts, parents, headers);
+    answer
+}

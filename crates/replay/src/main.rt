@@ -1,0 +1,184 @@
+// Replays the cases of trees.list and commits.list, which stand in the current folder: what the Rust, Git's own objects and the paper answered
+// (oracle/README.md), held against what the library answers. A line for each call says how many cases there are and how many agree.
+mod cases;
+mod commits;
+mod trees;
+
+use cases::Mark;
+use commits::commit_case;
+use ground::byte_at;
+use libc::SEEK_SET;
+use libc::STDOUT_FILENO;
+use trees::tree_case;
+ghost use Prim.Native.Nat.{_<_};
+
+// Every case is shorter than a window, and no list has more cases.
+const WINDOW: usize = 40960;
+
+const MOST_CASES: usize = 1048576;
+
+// The counts: a place for each call and place 0 for all; how many of them agree stands so much further on.
+const AGREE: usize = 16;
+
+// How many differences are said one by one.
+const SAID: usize = 5;
+
+fn say(s: &[u8]) {
+    io::write_all(STDOUT_FILENO, s);
+}
+
+fn say_number(n: usize) {
+    io::print_decimal(STDOUT_FILENO, n as u64);
+}
+
+fn count_at(counts: &[usize], i: usize) -> usize {
+    if i < counts.len() { counts[i] } else { 0 }
+}
+
+// One more at a place of the counts.
+fn bump(counts: &mut [usize], i: usize) {
+    if i < counts.len() {
+        counts[i] = std::num::wrapping_add_usize(counts[i], 1);
+    }
+}
+
+// How many cases differ.
+fn differing(counts: &[usize]) -> usize {
+    std::num::wrapping_sub_usize(count_at(counts, 0), count_at(counts, AGREE))
+}
+
+// The calls of trees.list have the places 1 to 8, those of commits.list 9 to 11.
+fn place(trees: bool, call: usize) -> usize
+    ensures { λ r. ⌜ r < 16 ⌝ }
+{
+    if trees {
+        if call <= 8 {
+            return call;
+        }
+        return 15;
+    }
+    if call <= 3 {
+        return 8 + call;
+    }
+    15
+}
+
+fn count_case(good: bool, at: usize, counts: &mut [usize])
+    requires { ⌜ at < 16 ⌝ }
+{
+    bump(counts, 0);
+    bump(counts, at);
+    if good {
+        bump(counts, AGREE);
+        bump(counts, AGREE + at);
+    }
+}
+
+// A case that differs: its index in its list, from 0 on, and its call.
+fn say_difference(trees: bool, index: usize, call: usize) {
+    if trees {
+        say(b"differs: trees.list case ");
+    } else {
+        say(b"differs: commits.list case ");
+    }
+    say_number(index);
+    say(b" call ");
+    say_number(call);
+    say(b"\n");
+}
+
+fn one_case(trees: bool, call: usize, s: &[u8]) -> Mark {
+    if trees {
+        return tree_case(call, s);
+    }
+    commit_case(call, s)
+}
+
+// The case at a place of a list: how many bytes it has; 0 where the list ends, or has a call that there is not.
+fn replay_case(fd: i32, trees: bool, at: usize, index: usize, counts: &mut [usize]) -> usize {
+    let mut s = [0u8; WINDOW];
+    libc::lseek(fd, (at % 1099511627776) as i64, SEEK_SET);
+    let n = io::read_full(fd, &mut s);
+    if n == 0 {
+        return 0;
+    }
+    let call = byte_at(&s, 0) as usize;
+    let m = one_case(trees, call, &s);
+    let good = m.good && m.at <= n;
+    count_case(good, place(trees, call), counts);
+    if !good {
+        if differing(counts) <= SAID {
+            say_difference(trees, index, call);
+        }
+    }
+    m.at
+}
+
+fn replay(fd: i32, trees: bool, counts: &mut [usize]) {
+    let mut at: usize = 0;
+    let mut index: usize = 0;
+    while index < MOST_CASES {
+        let length = replay_case(fd, trees, at, index, counts);
+        if length == 0 {
+            return;
+        }
+        at = std::num::wrapping_add_usize(at, length);
+        index += 1;
+    }
+}
+
+fn replay_list(name: &[u8], trees: bool, counts: &mut [usize]) -> bool {
+    let fd = os::open_read(name);
+    if fd < 0 {
+        os::fail(name);
+        return false;
+    }
+    replay(fd, trees, counts);
+    libc::close(fd);
+    true
+}
+
+fn line(name: &[u8], counts: &[usize], at: usize)
+    requires { ⌜ at < 16 ⌝ }
+{
+    say(name);
+    say(b" ");
+    say_number(count_at(counts, at));
+    say(b" agree ");
+    say_number(count_at(counts, AGREE + at));
+    say(b"\n");
+}
+
+fn report_trees(counts: &[usize]) {
+    line(b"mode text", counts, 1);
+    line(b"mode asked", counts, 2);
+    line(b"mode from a number", counts, 3);
+    line(b"name order", counts, 4);
+    line(b"tree reading", counts, 5);
+    line(b"lookup", counts, 6);
+    line(b"tree writing", counts, 7);
+    line(b"loose header", counts, 8);
+}
+
+fn report_commits(counts: &[usize]) {
+    line(b"commit reading", counts, 9);
+    line(b"unfold", counts, 10);
+    line(b"commit writing", counts, 11);
+}
+
+fn main() {
+    let mut counts = [0usize; 32];
+    if !replay_list(b"trees.list", true, &mut counts) {
+        return;
+    }
+    if !replay_list(b"commits.list", false, &mut counts) {
+        return;
+    }
+    report_trees(&counts);
+    report_commits(&counts);
+    say(b"cases ");
+    say_number(count_at(&counts, 0));
+    say(b", differ ");
+    say_number(differing(&counts));
+    say(b"\n");
+}
