@@ -2,13 +2,13 @@
 use native.Mathlib.Nat.{suc-mul}
 use native.Mathlib.Numerals.{add-one}
 use native.Mathlib.Omega.{arith}
-use Prim.Native.Nat.{ℕ, zero, suc, _+_, _-_, _*_, _/_, _<_, _≤_}
+use Prim.Native.Nat.{ℕ, suc, _+_, _-_, _*_, _/_, _<_, _≤_}
 use mathlib.Core.Path.{_≡_, refl, ap, sym, _∙_}
-use mathlib.Core.Bool.{Bool, true, false, _&&_, not}
+use mathlib.Core.Bool.{Bool, true, false}
 use mathlib.Core.List.{List, [], _∷_, _++_, map}
 use mathlib.Core.Logic.{⊎-elim}
-use lib.Dec.{eqb, leb}
-use lib.ListN.{length, getD, take, drop, set, length-append, length-map, length-take, length-drop, length-set, drop-of-length-le}
+use lib.Dec.{eqb}
+use lib.ListN.{length, getD, drop, set, length-append, length-map, drop-of-length-le}
 use lib.Seq.{sets, drop-cons, append-snoc}
 use borrow.Author.Tests.{eq-eqb, ne-eqb, le-leb, lt-leb}
 use Rattle.ground.specs.Basics.{pick, part}
@@ -23,7 +23,7 @@ use Rattle.header.specs.Words.{treeWord, parentWord, authorWord, committerWord,
 use Rattle.header.specs.Record.{width, headerAt, nameOf, valueOf}
 use Rattle.header.specs.declared.HeaderRecord.{HeaderRecord}
 use Rattle.header.specs.declared.CommitParts.{CommitParts}
-use Rattle.commit_grammar.specs.Grammar.{Encoding, absent, given, line, parentsBytes, encodingBytes}
+use Rattle.commit_grammar.specs.Grammar.{absent, given, line, parentsBytes, encodingBytes}
 use Rattle.commit_grammar.specs.Named.{idNamed, headerNamed, recordsFrom}
 use Rattle.commit_grammar.proofs.Pieces.{part-length, line-length}
 use Rattle.commit_check.specs.Check.{headersOf, ranged, idFits, encodingFits, headerFits, passing, checked}
@@ -177,7 +177,7 @@ module _ (bytes : List ℕ) (x : HeaderRecord) where
       go (eqb (x .mark) 1) (length-append (nameOf bytes x) (32 ∷ pick (eqb (x .mark) 1) (valueOf bytes x) (foldValue (valueOf bytes x))))
     where
       go : (t : Bool) → length (nameOf bytes x ++ 32 ∷ pick t (valueOf bytes x) (foldValue (valueOf bytes x)))
-              ≡ length (nameOf bytes x) + suc (length (pick t (valueOf bytes x) (foldValue (valueOf bytes x))))
+          ≡ length (nameOf bytes x) + suc (length (pick t (valueOf bytes x) (foldValue (valueOf bytes x))))
           → length (nameOf bytes x ++ 32 ∷ pick t (valueOf bytes x) (foldValue (valueOf bytes x))) ≤ 3221225474
       go true q = let w = header-well bytes x f in omega (arith, q, name-length f, value-length f, w)
       go false q = let w = header-well bytes x f in omega (arith, q, name-length f, value-length f, w, fold-le (valueOf bytes x))
@@ -342,8 +342,8 @@ unfolding encodingBytes
 encoding-le bytes p f m =
     ⊎-elim
     (λ e. let r = encoding-range bytes p f e in
-     let v = part (p .«encoding_start») (p .«encoding_end») bytes in
-     rw (encoding-given bytes p e) (omega (arith, r, line-length encodingWord v, part-length bytes (p .«encoding_start») (p .«encoding_end») (r .0) (r .1))))
+    let v = part (p .«encoding_start») (p .«encoding_end») bytes in
+    rw (encoding-given bytes p e) (omega (arith, r, line-length encodingWord v, part-length bytes (p .«encoding_start») (p .«encoding_end») (r .0) (r .1))))
     (λ e. rw (encoding-absent bytes p e) (omega arith))
     (equal (p .encoding) 1)
 

@@ -1,9 +1,6 @@
+-- `commit_check::count_headers` meets its contract. Assumes nothing.
 use Rattle.commit_check.proofs.count_headers.Statement.{statement}
 use Rattle.commit_check.proofs.count_headers.Tie as tie
-use Rattle.commit_check.proofs.count_headers.Reads as reads
-use Rattle.commit_check.proofs.count_headers.Lts as lts
-use Rattle.commit_check.proofs.is_header.Reads as is-header-reads
-use Rattle.header.proofs.header_at.Reads as header-at-reads
 use Rattle.commit_check.proofs.Laws.{heads-end, heads-bad, heads-more}
 use Rattle.commit_check.specs.Check.{passing, headerFits, headersOf}
 use Rattle.commit_grammar.specs.Named.{recordsFrom}
@@ -22,37 +19,39 @@ Inv-loop bytes headers n i₀ i = (i ≤ n) × (n ≡ length headers / width) ×
 abbrev μ-loop : tie.MeasureT-loop
 μ-loop bytes headers n i₀ i = n - i
 
--- src/lib.rt:95:5
 loop-holds : tie.Need-loop-holds Inv-loop μ-loop
 loop-holds c = (omega arith, refl, rw sub-zero (omega arith))
 
--- src/lib.rt:96:13
 header-at-requires : tie.Need-header-at-requires Inv-loop μ-loop
 header-at-requires c κs = search needs
 
--- src/lib.rt:97:12
 is-header-requires : tie.Need-is-header-requires Inv-loop μ-loop
 is-header-requires c κs = search needs
 
--- src/lib.rt:98:13
 add-i : tie.Need-add-i Inv-loop μ-loop
 add-i c = search needs
 
--- src/lib.rt:95:5
 loop-less : tie.Need-loop-less Inv-loop μ-loop
 loop-less c = search needs
 
--- src/lib.rt:95:5
 loop-again : tie.Need-loop-again Inv-loop μ-loop
-loop-again c = (omega arith, refl, omega (arith, c .before .before .before .before .loop .inv .2, heads-more (headerFits (c .before .before .before .before .before .before .before .args .bytes .now)) (c .before .before .before .before .before .before .before .args .headers .now) (length (c .before .before .before .before .before .before .before .args .headers .now) / width) (c .before .before .before .before .loop .i) (c .before .before .before .loop-test .taken) (c .before .before .header-at .result) (c .before .before .header-at .ensures) (sym (c .before .is-header .ensures) ∙ c .if1 .taken)))
+loop-again c =
+    let header-at = c .before .before .header-at in
+    let loop = c .before .before .before .before .loop in
+    let args = c .before .before .before .before .before .before .before .args in
+    (omega arith, refl, omega (arith, loop .inv .2, heads-more (headerFits (args .bytes .now)) (args .headers .now) (length (args .headers .now) / width) (loop .i) (c .before .before .before .loop-test .taken) (header-at .result) (header-at .ensures) (sym (c .before .is-header .ensures) ∙ c .if1 .taken)))
 
--- src/lib.rt:101:9
 returns : tie.Need-returns Inv-loop μ-loop
-returns c = omega (arith, c .before .before .before .before .loop .inv .2, heads-bad (headerFits (c .before .before .before .before .before .before .before .args .bytes .now)) (c .before .before .before .before .before .before .before .args .headers .now) (length (c .before .before .before .before .before .before .before .args .headers .now) / width) (c .before .before .before .before .loop .i) (c .before .before .before .loop-test .taken) (c .before .before .header-at .result) (c .before .before .header-at .ensures) (sym (c .before .is-header .ensures) ∙ c .if1 .left))
+returns c =
+    let header-at = c .before .before .header-at in
+    let loop = c .before .before .before .before .loop in
+    let args = c .before .before .before .before .before .before .before .args in
+    omega (arith, loop .inv .2, heads-bad (headerFits (args .bytes .now)) (args .headers .now) (length (args .headers .now) / width) (loop .i) (c .before .before .before .loop-test .taken) (header-at .result) (header-at .ensures) (sym (c .before .is-header .ensures) ∙ c .if1 .left))
 
--- src/lib.rt:90:1
 returns-2 : tie.Need-returns-2 Inv-loop μ-loop
-returns-2 c = omega (arith, c .before .loop .inv .2, heads-end (headerFits (c .before .before .before .before .args .bytes .now)) (c .before .before .before .before .args .headers .now) (length (c .before .before .before .before .args .headers .now) / width) (c .before .loop .i) (c .loop-test .left))
+returns-2 c =
+    let args = c .before .before .before .before .args in
+    omega (arith, c .before .loop .inv .2, heads-end (headerFits (args .bytes .now)) (args .headers .now) (length (args .headers .now) / width) (c .before .loop .i) (c .loop-test .left))
 
 pub count-headers-spec : {M : Type 1} → statement M
 count-headers-spec =

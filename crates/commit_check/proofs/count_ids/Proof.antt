@@ -1,8 +1,6 @@
+-- `commit_check::count_ids` meets its contract. Assumes nothing.
 use Rattle.commit_check.proofs.count_ids.Statement.{statement}
 use Rattle.commit_check.proofs.count_ids.Tie as tie
-use Rattle.commit_check.proofs.count_ids.Reads as reads
-use Rattle.commit_check.proofs.count_ids.Lts as lts
-use Rattle.commit_check.proofs.is_id.Reads as is-id-reads
 use Rattle.commit_check.proofs.Laws.{run-end, run-bad, run-more}
 use Rattle.commit_check.specs.Check.{passing, idFits}
 use mathlib.Core.Path.{_≡_, sym, _∙_}
@@ -18,41 +16,40 @@ Inv-loop bytes h parents i₀ i = (i ≤ length parents) × (passing (map (idFit
 abbrev μ-loop : tie.MeasureT-loop
 μ-loop bytes h parents i₀ i = length parents - i
 
--- src/lib.rt:79:5
 loop-holds : tie.Need-loop-holds Inv-loop μ-loop
 loop-holds c = (omega arith, omega arith)
 
--- src/lib.rt:80:28
 mul-is-id : tie.Need-mul-is-id Inv-loop μ-loop
 mul-is-id c = search needs
 
--- src/lib.rt:80:28
 shared-slice-read-is-id : tie.Need-shared-slice-read-is-id Inv-loop μ-loop
 shared-slice-read-is-id c = search needs
 
--- src/lib.rt:80:12
 is-id-requires : tie.Need-is-id-requires Inv-loop μ-loop
 is-id-requires c κs = search needs
 
--- src/lib.rt:81:13
 add-i : tie.Need-add-i Inv-loop μ-loop
 add-i c = search needs
 
--- src/lib.rt:79:5
 loop-less : tie.Need-loop-less Inv-loop μ-loop
 loop-less c = search needs
 
--- src/lib.rt:79:5
 loop-again : tie.Need-loop-again Inv-loop μ-loop
-loop-again c = (omega arith, omega (arith, c .before .before .before .before .loop .inv .1, run-more (idFits (c .before .before .before .before .before .before .before .args .h) (c .before .before .before .before .before .before .before .args .bytes .now)) (c .before .before .before .before .before .before .before .args .parents .now) (c .before .before .before .before .loop .i) (c .before .before .before .loop-test .taken) (sym (c .before .is-id .ensures) ∙ c .if1 .taken)))
+loop-again c =
+    let loop = c .before .before .before .before .loop in
+    let args = c .before .before .before .before .before .before .before .args in
+    (omega arith, omega (arith, loop .inv .1, run-more (idFits (args .h) (args .bytes .now)) (args .parents .now) (loop .i) (c .before .before .before .loop-test .taken) (sym (c .before .is-id .ensures) ∙ c .if1 .taken)))
 
--- src/lib.rt:84:9
 returns : tie.Need-returns Inv-loop μ-loop
-returns c = omega (arith, c .before .before .before .before .loop .inv .1, run-bad (idFits (c .before .before .before .before .before .before .before .args .h) (c .before .before .before .before .before .before .before .args .bytes .now)) (c .before .before .before .before .before .before .before .args .parents .now) (c .before .before .before .before .loop .i) (c .before .before .before .loop-test .taken) (sym (c .before .is-id .ensures) ∙ c .if1 .left))
+returns c =
+    let loop = c .before .before .before .before .loop in
+    let args = c .before .before .before .before .before .before .before .args in
+    omega (arith, loop .inv .1, run-bad (idFits (args .h) (args .bytes .now)) (args .parents .now) (loop .i) (c .before .before .before .loop-test .taken) (sym (c .before .is-id .ensures) ∙ c .if1 .left))
 
--- src/lib.rt:75:1
 returns-2 : tie.Need-returns-2 Inv-loop μ-loop
-returns-2 c = omega (arith, c .before .loop .inv .1, run-end (idFits (c .before .before .before .before .args .h) (c .before .before .before .before .args .bytes .now)) (c .before .before .before .before .args .parents .now) (c .before .loop .i) (c .loop-test .left))
+returns-2 c =
+    let args = c .before .before .before .before .args in
+    omega (arith, c .before .loop .inv .1, run-end (idFits (args .h) (args .bytes .now)) (args .parents .now) (c .before .loop .i) (c .loop-test .left))
 
 pub count-ids-spec : {M : Type 1} → statement M
 count-ids-spec =

@@ -1,24 +1,19 @@
+-- `commit_write::lower` meets its contract. Assumes nothing.
 use borrow.Author.Needs.{needs}
 use Rattle.commit_write.proofs.lower.Statement.{statement}
 use Rattle.commit_write.proofs.lower.Tie as tie
-use Rattle.commit_write.proofs.lower.Reads as reads
-use Rattle.commit_write.proofs.lower.Lts as lts
 use Rattle.commit_write.proofs.Laws.{digit-low, digit-high, digit-letter}
 use mathlib.Core.Path.{sym}
 
--- src/lib.rt:34:9
 returns : tie.Need-returns
 returns c = sym (digit-low (c .before .args .b) (c .if1 .taken))
 
--- src/lib.rt:37:9
 returns-2 : tie.Need-returns-2
 returns-2 c = sym (digit-high (c .before .before .args .b) (c .if2 .taken))
 
--- src/lib.rt:39:5
 add-result : tie.Need-add-result
 add-result c = search needs
 
--- src/lib.rt:30:1
 returns-3 : tie.Need-returns-3
 returns-3 c = sym (digit-letter (c .before .before .args .b) (c .before .if1 .left) (c .if2 .left))
 

@@ -1,24 +1,19 @@
+-- `commit_write::put_byte` meets its contract. Assumes nothing.
 use borrow.Author.Needs.{needs}
 use Rattle.commit_write.proofs.put_byte.Statement.{statement}
 use Rattle.commit_write.proofs.put_byte.Tie as tie
-use Rattle.commit_write.proofs.put_byte.Reads as reads
-use Rattle.commit_write.proofs.put_byte.Lts as lts
 use lib.Seq.{set-out}
 use mathlib.Core.Path.{sym}
 
--- src/lib.rt:47:9
 slice-write-out : tie.Need-slice-write-out
 slice-write-out c = search needs
 
--- src/lib.rt:43:1
 same-length : tie.Need-same-length
 same-length c = search needs
 
--- src/lib.rt:43:1
 returns : tie.Need-returns
 returns c = search needs
 
--- src/lib.rt:43:1
 returns-2 : tie.Need-returns-2
 returns-2 c = sym (set-out _ _ _ (c .if1 .left))
 

@@ -1,49 +1,36 @@
+-- `commit_write::put_id_line` meets its contract. Assumes nothing.
 use borrow.Author.Needs.{needs}
 use Rattle.commit_write.proofs.put_id_line.Statement.{statement}
 use Rattle.commit_write.proofs.put_id_line.Tie as tie
-use Rattle.commit_write.proofs.put_id_line.Reads as reads
-use Rattle.commit_write.proofs.put_id_line.Lts as lts
-use Rattle.commit_write.proofs.put_byte.Reads as put-byte-reads
-use Rattle.commit_write.proofs.put_digits.Reads as put-digits-reads
-use Rattle.output.proofs.put_ended.Reads as put-ended-reads
 use Rattle.commit_write.proofs.Laws.{id-put}
 use mathlib.Core.Path.{refl}
 use Prim.Native.Nat.{_+_}
 use lib.ListN.{length}
 
--- src/lib.rt:70:16
 add-from : tie.Need-add-from
 add-from c = search needs
 
--- src/lib.rt:70:16
 add-from-2 : tie.Need-add-from-2
 add-from-2 c = search needs
 
--- src/lib.rt:71:15
 add-end : tie.Need-add-end
 add-end c = search needs
 
--- src/lib.rt:72:5
 put-ended-requires : tie.Need-put-ended-requires
 put-ended-requires c κs = search needs
 
--- src/lib.rt:73:5
 put-digits-requires : tie.Need-put-digits-requires
 put-digits-requires c κs = search needs
 
--- src/lib.rt:74:5
 put-byte-requires : tie.Need-put-byte-requires
 put-byte-requires c κs = search needs
 
--- src/lib.rt:75:5
 add-result : tie.Need-add-result
 add-result c = search needs
 
--- src/lib.rt:65:1
 same-length : tie.Need-same-length
 same-length c = search needs
 
--- src/lib.rt:65:1
 returns : tie.Need-returns
 returns c = let from = c .before .before .before .before .before .before .before .before .before .before .before .before .before .before .before .args .at + length (c .before .before .before .before .before .before .before .before .before .before .before .before .before .before .before .args .word .now) + 1 in let k = id-put _ _ _ _ (c .before .before .before .before .before .before .before .before .before .before .before .before .before .before .before .args .word .now) (c .before .before .before .before .before .before .before .before .before .before .before .before .before .before .before .args .digits .now) (c .before .before .before .before .before .before .before .before .before .before .before .before .before .before .before .args .at) from (from + length (c .before .before .before .before .before .before .before .before .before .before .before .before .before .before .before .args .digits .now)) (from + length (c .before .before .before .before .before .before .before .before .before .before .before .before .before .before .before .args .digits .now) + 1) refl refl refl (c .before .before .before .before .before .before .before .before .before .before .put-ended .ensures) (c .before .before .before .before .before .before .put-digits .ensures) (c .before .before .put-byte .ensures) in (k .past, k .holds)
 

@@ -1,46 +1,33 @@
+-- `commit_write::put_line` meets its contract. Assumes nothing.
 use borrow.Author.Needs.{needs}
 use Rattle.commit_write.proofs.put_line.Statement.{statement}
 use Rattle.commit_write.proofs.put_line.Tie as tie
-use Rattle.commit_write.proofs.put_line.Reads as reads
-use Rattle.commit_write.proofs.put_line.Lts as lts
-use Rattle.output.proofs.put_ended.Reads as put-ended-reads
 use Rattle.commit_write.proofs.Laws.{line-put}
-use mathlib.Core.Path.{_≡_, refl, ap, sym, _∙_}
-use mathlib.Core.List.{[], _∷_, _++_}
-use native.Mathlib.Omega.{arith}
-use lib.ListN.{length, length-append}
-use lib.Seq.{sets}
+use mathlib.Core.Path.{refl}
+use lib.ListN.{length}
 use Prim.Native.Nat.{_+_}
 
--- src/lib.rt:84:16
 add-from : tie.Need-add-from
 add-from c = search needs
 
--- src/lib.rt:84:16
 add-from-2 : tie.Need-add-from-2
 add-from-2 c = search needs
 
--- src/lib.rt:85:15
 add-end : tie.Need-add-end
 add-end c = search needs
 
--- src/lib.rt:86:5
 put-ended-requires : tie.Need-put-ended-requires
 put-ended-requires c κs = search needs
 
--- src/lib.rt:87:5
 put-ended-requires-2 : tie.Need-put-ended-requires-2
 put-ended-requires-2 c κs = search needs
 
--- src/lib.rt:88:5
 add-result : tie.Need-add-result
 add-result c = search needs
 
--- src/lib.rt:79:1
 same-length : tie.Need-same-length
 same-length c = search needs
 
--- src/lib.rt:79:1
 returns : tie.Need-returns
 returns c = let from = c .before .before .before .before .before .before .before .before .before .before .before .args .at + length (c .before .before .before .before .before .before .before .before .before .before .before .args .word .now) + 1 in let k = line-put _ _ _ (c .before .before .before .before .before .before .before .before .before .before .before .args .word .now) (c .before .before .before .before .before .before .before .before .before .before .before .args .value .now) (c .before .before .before .before .before .before .before .before .before .before .before .args .at) from (from + length (c .before .before .before .before .before .before .before .before .before .before .before .args .value .now) + 1) refl refl (c .before .before .before .before .before .before .put-ended .ensures) (c .before .before .put-ended2 .ensures) in (k .past, k .holds)
 

@@ -1,8 +1,6 @@
+-- `commit_write::put_parents` meets its contract. Assumes nothing.
 use Rattle.commit_write.proofs.put_parents.Statement.{statement}
 use Rattle.commit_write.proofs.put_parents.Tie as tie
-use Rattle.commit_write.proofs.put_parents.Reads as reads
-use Rattle.commit_write.proofs.put_parents.Lts as lts
-use Rattle.commit_write.proofs.put_id_line.Reads as put-id-line-reads
 use Rattle.commit_write.proofs.Laws.{Left, left-all, left-next, left-none, parents-none, parents-next, id-length, id-line-le}
 use Rattle.commit_write.specs.Written.{lowerHex}
 use Rattle.commit_check.specs.Check.{idFits, passing}
@@ -10,7 +8,7 @@ use Rattle.commit_check.proofs.Laws.{id-inside, parents-step}
 use Rattle.commit_grammar.specs.Grammar.{line, parentsBytes}
 use Rattle.commit_grammar.specs.Named.{idNamed}
 use Rattle.header.specs.Words.{parentWord}
-use mathlib.Core.Path.{_≡_, refl, ap, sym, _∙_}
+use mathlib.Core.Path.{_≡_, refl, _∙_}
 use mathlib.Core.List.{map}
 use native.Mathlib.Omega.{arith}
 use Prim.Native.Nat.{_+_, _-_, _*_, _≤_}
@@ -23,65 +21,68 @@ Inv-loop out₀ at bytes h parents to₀ i₀ t10 out to i = (i ≤ length paren
 abbrev μ-loop : tie.MeasureT-loop
 μ-loop out₀ at bytes h parents to₀ i₀ t10 out to i = length parents - i
 
--- src/lib.rt:150:5
 loop-holds : tie.Need-loop-holds Inv-loop μ-loop
 loop-holds c = (omega arith, refl, omega (arith, c .before .before .before .pre .0), omega arith, left-all _ _ _)
 
--- src/lib.rt:151:20
 mul-from : tie.Need-mul-from Inv-loop μ-loop
 mul-from c = search needs
 
--- src/lib.rt:151:20
 shared-slice-read-from : tie.Need-shared-slice-read-from Inv-loop μ-loop
 shared-slice-read-from c = search needs
 
--- src/lib.rt:152:26
 mul-end : tie.Need-mul-end Inv-loop μ-loop
-mul-end c = omega (arith, c .before .before .before .before .before .before .pre .1 .0)
+mul-end c =
+    let pre = c .before .before .before .before .before .before .pre in
+    omega (arith, pre .1 .0)
 
--- src/lib.rt:152:19
 add-end : tie.Need-add-end Inv-loop μ-loop
-add-end c = omega (arith, id-inside (c .before .before .before .before .before .before .args .h) (c .before .before .before .before .before .before .args .bytes .now) (getD (c .before .before .before .before .before .before .args .parents .now) (c .before .before .loop .i) 0) (parents-step (idFits (c .before .before .before .before .before .before .args .h) (c .before .before .before .before .before .before .args .bytes .now)) (c .before .before .before .before .before .before .args .parents .now) (c .before .before .loop .i) (c .before .loop-test .taken) (c .before .before .loop .inv .2) .0))
+add-end c =
+    let loop = c .before .before .loop in
+    let args = c .before .before .before .before .before .before .args in
+    omega (arith, id-inside (args .h) (args .bytes .now) (getD (args .parents .now) (loop .i) 0) (parents-step (idFits (args .h) (args .bytes .now)) (args .parents .now) (loop .i) (c .before .loop-test .taken) (loop .inv .2) .0))
 
--- src/lib.rt:153:35
 slice-aggregate-put-id-line : tie.Need-slice-aggregate-put-id-line Inv-loop μ-loop
 slice-aggregate-put-id-line c = search needs
 
--- src/lib.rt:153:46
 sub-put-id-line : tie.Need-sub-put-id-line Inv-loop μ-loop
 sub-put-id-line c = omega arith
 
--- src/lib.rt:153:46
 part-put-id-line-start : tie.Need-part-put-id-line-start Inv-loop μ-loop
-part-put-id-line-start c = omega (arith, id-inside (c .before .before .before .before .before .before .before .before .args .h) (c .before .before .before .before .before .before .before .before .args .bytes .now) (getD (c .before .before .before .before .before .before .before .before .args .parents .now) (c .before .before .before .before .loop .i) 0) (parents-step (idFits (c .before .before .before .before .before .before .before .before .args .h) (c .before .before .before .before .before .before .before .before .args .bytes .now)) (c .before .before .before .before .before .before .before .before .args .parents .now) (c .before .before .before .before .loop .i) (c .before .before .before .loop-test .taken) (c .before .before .before .before .loop .inv .2) .0))
+part-put-id-line-start c =
+    let loop = c .before .before .before .before .loop in
+    let args = c .before .before .before .before .before .before .before .before .args in
+    omega (arith, id-inside (args .h) (args .bytes .now) (getD (args .parents .now) (loop .i) 0) (parents-step (idFits (args .h) (args .bytes .now)) (args .parents .now) (loop .i) (c .before .before .before .loop-test .taken) (loop .inv .2) .0))
 
--- src/lib.rt:153:46
 part-put-id-line-end : tie.Need-part-put-id-line-end Inv-loop μ-loop
-part-put-id-line-end c = omega (arith, id-inside (c .before .before .before .before .before .before .before .before .args .h) (c .before .before .before .before .before .before .before .before .args .bytes .now) (getD (c .before .before .before .before .before .before .before .before .args .parents .now) (c .before .before .before .before .loop .i) 0) (parents-step (idFits (c .before .before .before .before .before .before .before .before .args .h) (c .before .before .before .before .before .before .before .before .args .bytes .now)) (c .before .before .before .before .before .before .before .before .args .parents .now) (c .before .before .before .before .loop .i) (c .before .before .before .loop-test .taken) (c .before .before .before .before .loop .inv .2) .0))
+part-put-id-line-end c =
+    let loop = c .before .before .before .before .loop in
+    let args = c .before .before .before .before .before .before .before .before .args in
+    omega (arith, id-inside (args .h) (args .bytes .now) (getD (args .parents .now) (loop .i) 0) (parents-step (idFits (args .h) (args .bytes .now)) (args .parents .now) (loop .i) (c .before .before .before .loop-test .taken) (loop .inv .2) .0))
 
--- src/lib.rt:153:9
 put-id-line-requires : tie.Need-put-id-line-requires Inv-loop μ-loop
-put-id-line-requires c κs = omega (arith, c .before .before .before .before .before .before .before .before .before .pre .1, c .before .before .before .before .before .loop .inv .3, id-length (c .before .before .before .before .before .before .before .before .before .args .h) (c .before .before .before .before .before .before .before .before .before .args .bytes .now) (getD (c .before .before .before .before .before .before .before .before .before .args .parents .now) (c .before .before .before .before .before .loop .i) 0) (parents-step (idFits (c .before .before .before .before .before .before .before .before .before .args .h) (c .before .before .before .before .before .before .before .before .before .args .bytes .now)) (c .before .before .before .before .before .before .before .before .before .args .parents .now) (c .before .before .before .before .before .loop .i) (c .before .before .before .before .loop-test .taken) (c .before .before .before .before .before .loop .inv .2) .0))
+put-id-line-requires c κs =
+    let loop-test = c .before .before .before .before .loop-test in
+    let loop = c .before .before .before .before .before .loop in
+    let args = c .before .before .before .before .before .before .before .before .before .args in
+    let pre = c .before .before .before .before .before .before .before .before .before .pre in
+    omega (arith, pre .1, loop .inv .3, id-length (args .h) (args .bytes .now) (getD (args .parents .now) (loop .i) 0) (parents-step (idFits (args .h) (args .bytes .now)) (args .parents .now) (loop .i) (loop-test .taken) (loop .inv .2) .0))
 
--- src/lib.rt:154:9
 add-i : tie.Need-add-i Inv-loop μ-loop
 add-i c = search needs
 
--- src/lib.rt:150:5
 loop-less : tie.Need-loop-less Inv-loop μ-loop
 loop-less c = search needs
 
--- src/lib.rt:150:5
 loop-again : tie.Need-loop-again Inv-loop μ-loop
 loop-again c = let s = parents-step (idFits (c .before .before .before .before .before .before .before .before .before .before .before .before .args .h) (c .before .before .before .before .before .before .before .before .before .before .before .before .args .bytes .now)) (c .before .before .before .before .before .before .before .before .before .before .before .before .args .parents .now) (c .before .before .before .before .before .before .before .before .loop .i) (c .before .before .before .before .before .before .before .loop-test .taken) (c .before .before .before .before .before .before .before .before .loop .inv .2) in (omega arith, c .before .before .put-id-line .kept .0 ∙ c .before .before .before .before .before .before .before .before .loop .inv .1, s .1, omega (arith, c .before .before .before .before .before .before .before .before .loop .inv .3, id-line-le (c .before .before .before .before .before .before .before .before .before .before .before .before .args .h) (c .before .before .before .before .before .before .before .before .before .before .before .before .args .bytes .now) (getD (c .before .before .before .before .before .before .before .before .before .before .before .before .args .parents .now) (c .before .before .before .before .before .before .before .before .loop .i) 0) (c .before .before .before .before .before .before .before .before .before .before .before .before .pre .1 .0) (s .0), c .before .before .put-id-line .ensures .0), left-next (line parentWord (lowerHex (idNamed (c .before .before .before .before .before .before .before .before .before .before .before .before .args .h) (c .before .before .before .before .before .before .before .before .before .before .before .before .args .bytes .now) (getD (c .before .before .before .before .before .before .before .before .before .before .before .before .args .parents .now) (c .before .before .before .before .before .before .before .before .loop .i) 0)))) _ _ _ (c .before .before .before .before .before .before .before .before .loop .inv .4) (parents-next (c .before .before .before .before .before .before .before .before .before .before .before .before .args .h) (c .before .before .before .before .before .before .before .before .before .before .before .before .args .bytes .now) (c .before .before .before .before .before .before .before .before .before .before .before .before .args .parents .now) (c .before .before .before .before .before .before .before .before .loop .i) (c .before .before .before .before .before .before .before .loop-test .taken)) (c .before .before .put-id-line .ensures .1) (c .before .before .put-id-line .ensures .0))
 
--- src/lib.rt:142:1
 same-length : tie.Need-same-length Inv-loop μ-loop
 same-length c = c .before .loop .inv .1
 
--- src/lib.rt:142:1
 returns : tie.Need-returns Inv-loop μ-loop
-returns c = left-none (c .before .loop .inv .4) (parents-none (c .before .before .before .before .before .args .h) (c .before .before .before .before .before .args .bytes .now) (c .before .before .before .before .before .args .parents .now) (c .before .loop .i) (c .loop-test .left))
+returns c =
+    let args = c .before .before .before .before .before .args in
+    left-none (c .before .loop .inv .4) (parents-none (args .h) (args .bytes .now) (args .parents .now) (c .before .loop .i) (c .loop-test .left))
 
 pub put-parents-spec : {M : Type 1} → statement M
 put-parents-spec =

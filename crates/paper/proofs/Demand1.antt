@@ -1,0 +1,19 @@
+-- The first demand is met. Assumes nothing.
+use Rattle.paper.specs.Demand1.{FirstDemand}
+use Rattle.paper.proofs.Modes as modes
+use Rattle.paper.proofs.Entries as entries
+use Rattle.paper.proofs.Reading as reading
+use Rattle.paper.proofs.Lookup as lookup
+use Rattle.paper.proofs.Writing as writing
+use Rattle.paper.proofs.Commits as commits
+
+pub first-demand : FirstDemand
+first-demand = record {
+  of-ground = modes.of-ground;
+  of-modes = modes.of-modes;
+  of-entries = entries.of-entries;
+  of-reading = reading.of-reading;
+  of-lookup = lookup.of-lookup;
+  of-writing = writing.of-writing;
+  of-commits = commits.of-commits;
+}

@@ -1,0 +1,59 @@
+-- The first demand of entries, and where a step leaves the cursor. Assumes nothing.
+use Prim.Native.Nat.{ℕ}
+use native.Mathlib.Omega.{arith}
+use mathlib.Core.Path.{_≡_, refl}
+use mathlib.Core.Bool.{true}
+use mathlib.Core.List.{List}
+use mathlib.Core.Logic.{_⊎_, ⊎-elim}
+use lib.Dec.{leb}
+use lib.ListN.{length, drop}
+use Rattle.ground.specs.Verdict.{verdict, fine}
+use Rattle.entry.specs.Decode.{decode, noEntry, stepOver, stepFrom, stepOf}
+use Rattle.entry.specs.declared.EntryRecord.{EntryRecord}
+use Rattle.entry.specs.declared.Cursor.{Cursor}
+use Rattle.entry.specs.declared.Decoded.{Decoded}
+use Rattle.entry.specs.declared.Decoded.the-variants.{Whole, Broken}
+use Rattle.entry.specs.declared.Step.{Step}
+use Rattle.entry.proofs.Laws.{decode-three, step-end}
+use Rattle.paper.specs.Call.{none, _and_}
+use Rattle.paper.specs.Calls.{ofStep, ofDecoded}
+use Rattle.paper.specs.Demand1.{OfEntries}
+use Rattle.paper.specs.Sentences.{CursorSentences}
+use Rattle.paper.proofs.Laws.{same, Of, done, zero, keeps-reads, keeps-stores, each-pick, each-gate}
+
+-- every way to decode: an entry, or 3 at its first byte
+each-decoded : (Q : Decoded → Type 0) → ((e : EntryRecord) (next : Cursor) → Q (Whole e next)) → (h at : ℕ) (b : List ℕ) → Q (Broken (verdict 3 at)) → Q (decode h at b)
+each-decoded Q whole h at b three = go (decode h at b) refl
+  where
+    go : (d : Decoded) → decode h at b ≡ d → Q d
+    go (Whole e next) q = whole e next
+    go (Broken v) q = rw (decode-three h at b v q) three
+
+-- every way to step: 1 or 2 with the cursor as given, nothing at the end, 3 with the cursor at the end, an entry
+each-step : (Q : Step → Type 0) (h : ℕ) (s : List ℕ) (c : Cursor) → Q (noEntry (verdict 1 0) c) → Q (noEntry (verdict 2 0) c) → Q (noEntry fine c)
+    → Q (noEntry (verdict 3 (c .at)) (record { at = length s }))
+    → ((e : EntryRecord) (next : Cursor) → Q (record { verdict = fine; found = true; entry = e; next = next })) → Q (stepOf h s c)
+unfolding stepOf stepFrom stepOver
+each-step Q h s c one two end three whole =
+    each-gate (λ g. Q (stepFrom h s c g))
+    (each-pick Q (leb (length s) (c .at)) (noEntry fine c) (stepOver (length s) (decode h (c .at) (drop (c .at) s))) end
+    (each-decoded (λ d. Q (stepOver (length s) d)) whole h (c .at) (drop (c .at) s) three))
+    one two h (length s) 0
+
+pub cursor-sentences : CursorSentences
+cursor-sentences = record {
+  as-given = λ h s c. each-step (λ x. (x .verdict .number ≡ 1) ⊎ (x .verdict .number ≡ 2) → x .next ≡ c) h s c
+      (λ e. refl) (λ e. refl) (λ e. refl) (⊎-elim (λ z. absurd (omega arith)) (λ z. absurd (omega arith)))
+      (λ e next. ⊎-elim (λ z. absurd (omega arith)) (λ z. absurd (omega arith)));
+  at-end = λ h s c. each-step (λ x. x .verdict .number ≡ 3 → x .next .at ≡ length s) h s c
+      (λ z. absurd (omega arith)) (λ z. absurd (omega arith)) (λ z. absurd (omega arith)) (λ z. refl) (λ e next z. absurd (omega arith));
+  past-end = λ h s c. step-end h s c;
+}
+
+pub of-entries : OfEntries
+of-entries = record {
+  cursor-step = keeps-reads _ _ _ _ (λ i o m. m) (λ i. each-step (Of _ ofStep) _ _ _ (zero refl refl) (zero refl refl) (done refl refl) (zero refl refl) (λ e next. done refl refl));
+  cursor-decode = keeps-reads _ _ _ _ (λ i o m. m) (λ i. each-decoded (Of _ ofDecoded) (λ e next. done refl refl) _ _ _ (zero refl refl));
+  put-entry = keeps-stores _ _ _ _ _ (λ i o m. (refl, m));
+  entry-questions = (λ i o p. same) and (λ i o p. same) and (λ i o p. same) and none;
+}

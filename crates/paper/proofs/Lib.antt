@@ -1,0 +1,9 @@
+pub mod Laws
+pub mod Modes
+pub mod Entries
+pub mod Reading
+pub mod Lookup
+pub mod Writing
+pub mod Commits
+pub mod Demand1
+pub mod Demand3

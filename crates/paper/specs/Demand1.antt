@@ -1,0 +1,63 @@
+-- The first demand, for every public function: no second answer meets its contract. Of those that refuse also: which numbers they give (docs/FORMAT.md,
+-- "Numbers"), that every refusal but 15 counts nothing, and that a refusal leaves what was lent. `proofs/Demand1.antt` proves it. Assumes nothing.
+use mathlib.Core.List.{[], _∷_}
+use Rattle.paper.specs.Call.{EachOnce, Keeps}
+use Rattle.paper.specs.Walked.{KeepsWalked}
+use Rattle.paper.specs.Calls as a
+
+-- the bounds, the scans of bytes, and the lent output
+pub record OfGround : Type 3 where
+  pub sizes : Keeps a.sizes (0 ∷ 2 ∷ [])
+  pub bounds : Keeps a.bounds (0 ∷ 1 ∷ 2 ∷ [])
+  pub scans : EachOnce a.scans
+  pub put : Keeps a.put (0 ∷ [])
+  pub put-ended : Keeps a.putEnded (0 ∷ [])
+
+-- modes from a text and from a number, and every question; the order of names
+pub record OfModes : Type 3 where
+  pub from-bytes : Keeps a.fromBytes (0 ∷ 2 ∷ 3 ∷ [])
+  pub from-number : Keeps a.fromNumber (0 ∷ 23 ∷ [])
+  pub mode-questions : EachOnce a.modeQuestions
+  pub orders : EachOnce a.orders
+
+-- entries: the cursor and the records
+pub record OfEntries : Type 3 where
+  pub cursor-step : Keeps a.cursorStep (0 ∷ 1 ∷ 2 ∷ 3 ∷ [])
+  pub cursor-decode : Keeps a.cursorDecode (0 ∷ 3 ∷ [])
+  pub put-entry : Keeps a.putEntry (0 ∷ [])
+  pub entry-questions : EachOnce a.entryQuestions
+
+-- a whole tree, plainly and strictly
+pub record OfReading : Type 3 where
+  pub read-tree : Keeps a.readTree (0 ∷ 1 ∷ 2 ∷ 3 ∷ 4 ∷ [])
+  pub read-tree-strict : Keeps a.readTreeStrict (0 ∷ 1 ∷ 2 ∷ 3 ∷ 4 ∷ 5 ∷ 6 ∷ 7 ∷ [])
+
+-- lookup, over flat numbers, over an array of records, and over a lent slice of them
+pub record OfLookup : Type 3 where
+  pub bisect-entry : Keeps a.bisectEntry (0 ∷ 1 ∷ 2 ∷ 10 ∷ 15 ∷ [])
+  pub bisect-array : Keeps a.bisectArray (0 ∷ 1 ∷ 2 ∷ 10 ∷ 15 ∷ [])
+  pub bisect-records : KeepsWalked a.bisectRecords (0 ∷ 1 ∷ 2 ∷ 10 ∷ 15 ∷ [])
+  pub lookup-steps : EachOnce a.lookupSteps
+
+-- a tree written, its size, and the header of a loose object
+pub record OfWriting : Type 3 where
+  pub tree-size : Keeps a.treeSize (0 ∷ 1 ∷ 2 ∷ 10 ∷ [])
+  pub write-tree : Keeps a.writeTree (0 ∷ 1 ∷ 2 ∷ 8 ∷ 9 ∷ 10 ∷ [])
+  pub loose-header : Keeps a.looseHeader (0 ∷ 8 ∷ 23 ∷ [])
+  pub fit : EachOnce a.fits
+
+-- commits: a header's value, a commit read, and the leaves of both
+pub record OfCommits : Type 3 where
+  pub unfold-value : Keeps a.unfoldValue (0 ∷ 2 ∷ 8 ∷ 10 ∷ [])
+  pub read-commit : Keeps a.readCommit (0 ∷ 1 ∷ 2 ∷ 4 ∷ 11 ∷ 12 ∷ [])
+  pub put-header : Keeps a.putHeader (0 ∷ [])
+  pub commit-questions : EachOnce a.commitQuestions
+
+pub record FirstDemand : Type 3 where
+  pub of-ground : OfGround
+  pub of-modes : OfModes
+  pub of-entries : OfEntries
+  pub of-reading : OfReading
+  pub of-lookup : OfLookup
+  pub of-writing : OfWriting
+  pub of-commits : OfCommits
