@@ -6,6 +6,7 @@ use Rattle.paper.proofs.Reading as reading
 use Rattle.paper.proofs.Lookup as lookup
 use Rattle.paper.proofs.Writing as writing
 use Rattle.paper.proofs.Commits as commits
+use Rattle.paper.proofs.CommitWriting as commit-writing
 
 pub first-demand : FirstDemand
 first-demand = record {
@@ -16,4 +17,5 @@ first-demand = record {
   of-lookup = lookup.of-lookup;
   of-writing = writing.of-writing;
   of-commits = commits.of-commits;
+  of-commit-writing = commit-writing.of-commit-writing;
 }

@@ -5,5 +5,6 @@ pub mod Reading
 pub mod Lookup
 pub mod Writing
 pub mod Commits
+pub mod CommitWriting
 pub mod Demand1
 pub mod Demand3

@@ -17,6 +17,7 @@ use Rattle.tree_write.specs.Write.{refusal, judged, measured, treeSize, treeAns
 use Rattle.tree_write.proofs.Done.{done-size, done-length}
 use Rattle.loose_header.specs.Header.{looseHeader, headerAnswer}
 use Rattle.loose_header.proofs.Laws.{header-most}
+use Rattle.commit_write.proofs.Done as commit
 use Rattle.paper.specs.Call.{none, _and_, Refusal}
 use Rattle.paper.specs.Calls.{ofAnswer}
 use Rattle.paper.specs.Demand1.{OfWriting}
@@ -69,7 +70,13 @@ each-header Q count other eight kind size room =
     each-pick Q (leb 1 kind && leb kind 4) (fitted room (counted (length (looseHeader kind size)))) (refused (verdict 23 0)) (each-fitted Q room _ (count _) eight) other
 
 pub size-sentences : SizeSentences
-size-sentences = record { same-size = done-size; true-size = done-length; short-header = header-most }
+size-sentences = record {
+  same-size = done-size;
+  true-size = done-length;
+  short-header = header-most;
+  same-commit-size = commit.done-size;
+  true-commit-size = commit.done-length;
+}
 
 pub of-writing : OfWriting
 of-writing = record {

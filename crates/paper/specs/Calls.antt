@@ -4,6 +4,7 @@ use mathlib.Core.List.{List, [], _∷_}
 use denote.Ref.{now}
 use Rattle.ground.specs.Basics.{pick}
 use Rattle.ground.specs.Verdict.{fine}
+use Rattle.ground.specs.declared.Verdict.{Verdict}
 use Rattle.ground.specs.declared.Answer.{Answer}
 use Rattle.ground.specs.declared.Gate.{Gate}
 use Rattle.ground.specs.declared.Gate.the-variants.{Open, Shut}
@@ -30,10 +31,15 @@ use Rattle.actor.proofs as actor
 use Rattle.header.proofs as header
 use Rattle.unfold.proofs as folded
 use Rattle.commit_read.proofs as commit
+use Rattle.commit_check.proofs as check
+use Rattle.commit_write.proofs as written
 use Rattle.paper.specs.Call.{Call, call, Input, Outcome, Answered, Said, Deed}
 use Rattle.paper.specs.Walked.{Walked}
 
 -- ---- what an answer says
+
+abbrev pub ofVerdict : Verdict → Said
+ofVerdict v = record { verdict = v; counts = [] }
 
 abbrev pub ofAnswer : Answer → Said
 ofAnswer a = record { verdict = a .verdict; counts = a .count ∷ [] }
@@ -44,13 +50,13 @@ ofMode a = record { verdict = a .verdict; counts = a .mode .internal ∷ [] }
 
 -- an open gate is 0
 abbrev pub ofGate : Gate → Said
-ofGate Open = record { verdict = fine; counts = [] }
-ofGate (Shut v) = record { verdict = v; counts = [] }
+ofGate Open = ofVerdict fine
+ofGate (Shut v) = ofVerdict v
 
 -- an entry that was read is 0
 abbrev pub ofDecoded : Decoded → Said
 ofDecoded (Whole e next) = record { verdict = fine; counts = flat e }
-ofDecoded (Broken v) = record { verdict = v; counts = [] }
+ofDecoded (Broken v) = ofVerdict v
 
 -- whether an entry was found, and its record
 abbrev pub ofStep : Step → Said
@@ -83,7 +89,7 @@ reads c said = record { call = c; before = λ i. []; after = λ i o. []; said = 
 
 -- a call that only stores, and refuses nothing
 abbrev pub stores : (c : Call) → (Input c → List ℕ) → ((i : Input c) → Outcome c i → List ℕ) → Deed
-stores c before after = record { call = c; before = λ i. before i ∷ []; after = λ i o. after i o ∷ []; said = λ i x. record { verdict = fine; counts = [] } }
+stores c before after = record { call = c; before = λ i. before i ∷ []; after = λ i o. after i o ∷ []; said = λ i x. ofVerdict fine }
 
 -- a call that counts and writes to one thing lent
 abbrev pub writes : (c : Call) → ((i : Input c) → Answered c i → Answer) → (Input c → List ℕ) → ((i : Input c) → Outcome c i → List ℕ) → Deed
@@ -227,6 +233,15 @@ readCommit =
       after = λ i o. now (o .last .1 .1 .0) ∷ now (o .last .1 .1 .1 .0) ∷ [];
       said = λ i x. ofCommit x;
     }
+
+abbrev pub checkCommit : Deed
+checkCommit = reads (call check.check_commit.Kinds.ps check.check_commit.Kinds.r check.check_commit.Reads.Post) (λ i x. ofVerdict x)
+
+abbrev pub commitSize : Deed
+commitSize = reads (call written.commit_size.Kinds.ps written.commit_size.Kinds.r written.commit_size.Reads.Post) (λ i x. ofAnswer x)
+
+abbrev pub writeCommit : Deed
+writeCommit = writes (call written.write_commit.Kinds.ps written.write_commit.Kinds.r written.write_commit.Reads.Post) (λ i x. x) (λ i. now (i .args .1 .1 .1 .1 .1 .0)) (λ i o. now (o .last .1 .1 .1 .1 .1 .0))
 
 abbrev pub commitQuestions : List Call
 commitQuestions =

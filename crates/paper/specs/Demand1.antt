@@ -53,6 +53,12 @@ pub record OfCommits : Type 3 where
   pub put-header : Keeps a.putHeader (0 ∷ [])
   pub commit-questions : EachOnce a.commitQuestions
 
+-- a commit written, its size, and the check before both
+pub record OfCommitWriting : Type 3 where
+  pub check-commit : Keeps a.checkCommit (0 ∷ 1 ∷ 2 ∷ 10 ∷ [])
+  pub commit-size : Keeps a.commitSize (0 ∷ 1 ∷ 2 ∷ 10 ∷ [])
+  pub write-commit : Keeps a.writeCommit (0 ∷ 1 ∷ 2 ∷ 8 ∷ 10 ∷ 13 ∷ 14 ∷ [])
+
 pub record FirstDemand : Type 3 where
   pub of-ground : OfGround
   pub of-modes : OfModes
@@ -61,3 +67,4 @@ pub record FirstDemand : Type 3 where
   pub of-lookup : OfLookup
   pub of-writing : OfWriting
   pub of-commits : OfCommits
+  pub of-commit-writing : OfCommitWriting

@@ -1,5 +1,6 @@
 -- The worked examples P1 to P14: one table, and one claim over it, which the definitions compute (docs/FORMAT.md, "Examples"). Assumes nothing.
 use Prim.Native.Nat.{ℕ}
+use Prim.Native.String.{String}
 use mathlib.Core.Path.{_≡_, refl}
 use mathlib.Core.Bool.{Bool, true, false}
 use mathlib.Core.List.{List, [], _∷_, _++_, map}
@@ -24,6 +25,8 @@ use Rattle.entry.specs.Decode.{decodeName, decodeMode, decode}
 use Rattle.reading.specs.Listing.{Listing, follow, plain, listing, recordsIn, flats, tally}
 use Rattle.reading.specs.Rules.{judge, textOf, cut, strictly, permitted, standsBefore, isAfter, gitRules}
 use Rattle.reading.specs.Whole.{answerOf, readAnswer, readRecords}
+use Rattle.commit_write.specs.Fold.{foldRest, foldValue}
+use Rattle.commit_write.specs.Written.{headerWritten}
 use Rattle.tree_write.specs.Write.{written, refusal, judged, measured, treeAnswer}
 
 -- an answer, by what was asked
@@ -38,11 +41,14 @@ pub data Told : Type 0 where
   has : ℕ → Told
   -- an object is read: the answer, and the entries that the returned records name
   lists : Answer → List Entry → Told
+  -- an extra header is written so
+  gives : List ℕ → Told
   -- a listing is written: the answer, and the output afterwards
   writes : Answer → List ℕ → Told
 
 -- ---- the questions
 
+-- what a mode text is
 abbrev pub text : List ℕ → Told
 text i = told (readMode i)
   where
@@ -61,10 +67,11 @@ blob n = record { name = n; tree = false }
 abbrev tree : List ℕ → Name
 tree n = record { name = n; tree = true }
 
+-- how two names compare
 abbrev pub names : Name → Name → Told
 names a b = compares (orderNumber (nameOrder (a .name) (a .tree) (b .name) (b .tree)))
 
--- ids of 20 bytes and room for two records
+-- how an object is read, with ids of 20 bytes and room for two records
 abbrev pub room : List ℕ
 room = replicate 8 0
 
@@ -80,7 +87,7 @@ plainly = listing 20
 abbrev strict : List ℕ → Listing
 strict = strictly gitRules 20
 
--- written to as much room as the listing needs
+-- how records are written, to so much room
 abbrev pub write : List ℕ → List ℕ → ℕ → Told
 write bytes records n =
     writes (treeAnswer 20 bytes records n) (stored (treeAnswer 20 bytes records n .verdict) (written 20 bytes (recordsOf records)) (replicate n 0))
@@ -97,57 +104,69 @@ entriesOfO =
     ∷ record { mode = 0o40000; name = ascii "b"; id = replicate 20 0x22 }
     ∷ []
 
+-- mode 0, `abc`, and an id that starts with a space
 abbrev pub zeroMode : List ℕ
 zeroMode = ascii "0 abc" ++ 0 ∷ 32 ∷ replicate 19 7
 
+-- two lines, each with its LF
+abbrev lines : String → String → List ℕ
+lines a b = ascii a ++ 10 ∷ (ascii b ++ 10 ∷ [])
+
 -- ---- the table
 
+-- a question, and what is told
 pub record Row : Type 0 where
   pub asked : Told
   pub answer : Told
 
+infix 90 _is_
+abbrev pub _is_ : Told → Told → Row
+q is a = record { asked = q; answer = a }
+
 unfoldable pub table : List Row
 table =
-    -- P1
-    record { asked = text (ascii "100644 "); answer = reads 33188 7 33188 Blob (ascii "100644") }
+    -- P1: a plain file
+    text (ascii "100644 ") is reads 33188 7 33188 Blob (ascii "100644")
     -- P2: one number is kept apart from the other, and both have one value
-    ∷ record { asked = text (ascii "40000 "); answer = reads 16384 6 16384 Tree (ascii "40000") }
-    ∷ record { asked = text (ascii "040000 "); answer = reads 49152 7 16384 Tree (ascii "040000") }
+    ∷ text (ascii "40000 ") is reads 16384 6 16384 Tree (ascii "40000")
+    ∷ text (ascii "040000 ") is reads 49152 7 16384 Tree (ascii "040000")
     -- P3: what is written for a mode reads as another, and that is written differently again
-    ∷ record { asked = text (ascii "140755 "); answer = reads 49645 7 16384 Tree (ascii "040755") }
-    ∷ record { asked = text (writeMode 49645 ++ ascii " "); answer = reads 16877 7 16877 Tree (ascii "40755") }
+    ∷ text (ascii "140755 ") is reads 49645 7 16384 Tree (ascii "040755")
+    ∷ text (writeMode 49645 ++ ascii " ") is reads 16877 7 16877 Tree (ascii "40755")
     -- P4: seven digits pass, eight do not
-    ∷ record { asked = text (ascii "0000000 x"); answer = reads 0 8 0 Commit (ascii "0") }
-    ∷ record { asked = text (ascii "00000000 x"); answer = refuses }
+    ∷ text (ascii "0000000 x") is reads 0 8 0 Commit (ascii "0")
+    ∷ text (ascii "00000000 x") is refuses
     -- P5: a space at byte 6 makes the first six bytes the text
-    ∷ record { asked = text (ascii "0 abcd e"); answer = refuses }
-    ∷ record { asked = text (ascii "0 abc de"); answer = reads 0 2 0 Commit (ascii "0") }
+    ∷ text (ascii "0 abcd e") is refuses
+    ∷ text (ascii "0 abc de") is reads 0 2 0 Commit (ascii "0")
     -- P6: an empty text is the number 0
-    ∷ record { asked = text (ascii " abc"); answer = reads 0 1 0 Commit (ascii "0") }
-    ∷ record { asked = text (ascii " 12345 x"); answer = refuses }
+    ∷ text (ascii " abc") is reads 0 1 0 Commit (ascii "0")
+    ∷ text (ascii " 12345 x") is refuses
     -- P7: the sum keeps 16 bits
-    ∷ record { asked = text (ascii "200000 "); answer = reads 0 7 0 Commit (ascii "0") }
+    ∷ text (ascii "200000 ") is reads 0 7 0 Commit (ascii "0")
     -- P8: four names, each below the next
-    ∷ record { asked = names (blob (ascii "a")) (blob (ascii "a.b")); answer = compares (negsuc 0) }
-    ∷ record { asked = names (blob (ascii "a.b")) (tree (ascii "a")); answer = compares (negsuc 0) }
-    ∷ record { asked = names (tree (ascii "a")) (blob (ascii "a0")); answer = compares (negsuc 0) }
+    ∷ names (blob (ascii "a")) (blob (ascii "a.b")) is compares (negsuc 0)
+    ∷ names (blob (ascii "a.b")) (tree (ascii "a")) is compares (negsuc 0)
+    ∷ names (tree (ascii "a")) (blob (ascii "a0")) is compares (negsuc 0)
     -- P9: the comparison ends at the slash
-    ∷ record { asked = names (tree (ascii "a")) (blob (ascii "a/b")); answer = compares (pos 0) }
+    ∷ names (tree (ascii "a")) (blob (ascii "a/b")) is compares (pos 0)
     -- P10: the empty object, plainly and strictly
-    ∷ record { asked = read plainly []; answer = lists (counted 0) [] }
-    ∷ record { asked = read strict []; answer = lists (counted 0) [] }
+    ∷ read plainly [] is lists (counted 0) []
+    ∷ read strict [] is lists (counted 0) []
     -- P11: O, its length, its two entries, and its rewriting from the records that were returned
-    ∷ record { asked = has (length O); answer = has 57 }
-    ∷ record { asked = read plainly O; answer = lists (counted 2) entriesOfO }
-    ∷ record { asked = read strict O; answer = lists (counted 2) entriesOfO }
-    ∷ record { asked = write O (readRecords 20 O (plainly O) room) 57; answer = writes (counted 57) O }
+    ∷ has (length O) is has 57
+    ∷ read plainly O is lists (counted 2) entriesOfO
+    ∷ read strict O is lists (counted 2) entriesOfO
+    ∷ write O (readRecords 20 O (plainly O) room) 57 is writes (counted 57) O
     -- P12: O without its last byte
-    ∷ record { asked = read plainly (take 56 O); answer = lists (refused (verdict 3 29)) [] }
+    ∷ read plainly (take 56 O) is lists (refused (verdict 3 29)) []
+    -- P13: a value of two lines is folded, and its last LF is kept
+    ∷ gives (headerWritten (record { name = ascii "k"; value = lines "a" "b"; mark = 0 })) is gives (lines "k a" " b")
     -- P14: an entry of mode 0 is written, and what was written is refused
-    ∷ record { asked = write (ascii "abc" ++ (32 ∷ replicate 19 7)) (0 ∷ 0 ∷ 3 ∷ 3 ∷ []) 26; answer = writes (counted 26) zeroMode }
-    ∷ record { asked = read plainly zeroMode; answer = lists (refused (verdict 3 0)) [] }
+    ∷ write (ascii "abc" ++ (32 ∷ replicate 19 7)) (0 ∷ 0 ∷ 3 ∷ 3 ∷ []) 26 is writes (counted 26) zeroMode
+    ∷ read plainly zeroMode is lists (refused (verdict 3 0)) []
     ∷ []
 
 pub all-hold : map (λ (r : Row). r .asked) table ≡ map (λ (r : Row). r .answer) table
-unfolding table octalFrom hasSix textLen settle restAt readMode valueOf sortOf executes kindOf isTree trimmed writeMode rows byNumber next nameOrder orderNumber idLength sizeGate gateOf stored fitted gated recordsOf wellFormed nameOf idOf entryBytes asWritten entryOf decodeName decodeMode decode follow plain recordsIn flats tally judge textOf cut permitted standsBefore isAfter gitRules answerOf refusal judged measured treeAnswer
+unfolding table foldRest foldValue headerWritten octalFrom hasSix textLen settle restAt readMode valueOf sortOf executes kindOf isTree trimmed writeMode rows byNumber next nameOrder orderNumber idLength sizeGate gateOf stored fitted gated recordsOf wellFormed nameOf idOf entryBytes asWritten entryOf decodeName decodeMode decode follow plain recordsIn flats tally judge textOf cut permitted standsBefore isAfter gitRules answerOf refusal judged measured treeAnswer
 all-hold = refl

@@ -15,6 +15,9 @@ use Rattle.lookup.specs.Halving.{mostComparisons}
 use Rattle.lookup.specs.Lookup.{lookupIn}
 use Rattle.tree_write.specs.Write.{written, treeSize, treeAnswer}
 use Rattle.loose_header.specs.Header.{looseHeader}
+use Rattle.header.specs.declared.CommitParts.{CommitParts}
+use Rattle.commit_write.specs.Write.{commitSize, commitAnswer}
+use Rattle.commit_write.specs.Write as commit
 
 -- where a step leaves the cursor ("Entries")
 pub record CursorSentences : Type 0 where
@@ -34,7 +37,7 @@ pub record LookupSentences : Type 0 where
   pub few : (h : ℕ) (object : List ℕ) (records : List EntryRecord) (name : List ℕ) (folder : Bool)
       → lookupIn h object records name folder .compared ≤ mostComparisons (length records)
 
--- sizes ("Tree writing", "Loose headers")
+-- sizes ("Tree writing", "Loose headers", "Commit writing")
 pub record SizeSentences : Type 0 where
   -- where writing a tree is done, the size asked alone is the same answer, and counts the bytes written
   pub same-size : (h : ℕ) (bytes records : List ℕ) (room : ℕ) → treeAnswer h bytes records room .verdict .number ≡ 0 → treeSize h bytes records ≡ treeAnswer h bytes records room
@@ -42,3 +45,8 @@ pub record SizeSentences : Type 0 where
       → treeAnswer h bytes records room .count ≡ length (written h bytes (recordsOf records))
   -- a loose header has at most 28 bytes
   pub short-header : (kind size : ℕ) → length (looseHeader kind size) ≤ 28
+  -- so it is with a commit
+  pub same-commit-size : (h : ℕ) (bytes : List ℕ) (p : CommitParts) (parents headers : List ℕ) (room : ℕ) → commitAnswer h bytes p parents headers room .verdict .number ≡ 0
+      → commitSize h bytes p parents headers ≡ commitAnswer h bytes p parents headers room
+  pub true-commit-size : (h : ℕ) (bytes : List ℕ) (p : CommitParts) (parents headers : List ℕ) (room : ℕ) → commitAnswer h bytes p parents headers room .verdict .number ≡ 0
+      → commitAnswer h bytes p parents headers room .count ≡ length (commit.written h bytes p parents headers)

@@ -1,0 +1,71 @@
+-- The first demand of writing commits. Assumes nothing.
+use Prim.Native.Nat.{ℕ}
+use mathlib.Core.Path.{refl}
+use mathlib.Core.Bool.{Bool, true, false, _&&_, not}
+use mathlib.Core.List.{List, [], _∷_}
+use lib.Dec.{eqb}
+use lib.ListN.{length}
+use Rattle.ground.specs.Basics.{pick}
+use Rattle.ground.specs.Scan.{freeOf}
+use Rattle.ground.specs.Verdict.{verdict, fine, counted, refused}
+use Rattle.ground.specs.declared.Verdict.{Verdict}
+use Rattle.ground.specs.declared.Answer.{Answer}
+use Rattle.header.specs.declared.CommitParts.{CommitParts}
+use Rattle.commit_grammar.specs.Grammar.{Encoding, absent, given}
+use Rattle.commit_check.specs.Check.{headersOf, tests, passing, judged, after, checked}
+use Rattle.commit_write.specs.Write.{encodingNamed, measured, encodingRefusal, encoded, commitAnswer}
+use Rattle.paper.specs.Call.{Refusal}
+use Rattle.paper.specs.Calls.{ofVerdict, ofAnswer}
+use Rattle.paper.specs.Demand1.{OfCommitWriting}
+use Rattle.paper.proofs.Laws.{Of, done, zero, keeps-reads, keeps-writes, each-pick, each-passed, each-gate, each-fitted}
+
+-- every way to check a commit: 0, 1, 2, 10
+each-checked : (P : Verdict → Type 0) → P fine → P (verdict 1 0) → P (verdict 2 0) → ((i : ℕ) → P (verdict 10 i))
+    → (h : ℕ) (bytes : List ℕ) (p : CommitParts) (parents headers : List ℕ) (room : ℕ) → P (checked h bytes p parents headers room)
+unfolding checked after judged
+each-checked P ok one two ten h bytes p parents headers room =
+    each-gate (λ g. P (after g (judged l))) (each-pick P (eqb (passing l) (length l)) fine (verdict 10 (passing l)) ok (ten (passing l))) one two h _ _
+  where
+    l : List Bool
+    l = tests h bytes p parents (headersOf headers)
+
+-- every way to hold an answer to the encoding: as it was, 13, 14
+each-encoded : (Q : Answer → Type 0) → Q (refused (verdict 13 0)) → Q (refused (verdict 14 0)) → (e : Encoding) (a : Answer) → Q a → Q (encoded e a)
+unfolding encoded encodingRefusal
+each-encoded Q thirteen fourteen e a was = go (eqb (a .verdict .number) 0) e
+  where
+    held : ℕ → Bool → Answer
+    held n b = pick (b && not (eqb n 0)) (refused (verdict n 0)) a
+
+    line : (free : Bool) → Q (held (pick free 0 14) true)
+    line true = was
+    line false = fourteen
+
+    go : (b : Bool) (e : Encoding) → Q (held (encodingRefusal e) b)
+    go false e = was
+    go true absent = was
+    go true (given []) = thirteen
+    go true (given (c ∷ cs)) = line (freeOf 10 (c ∷ cs))
+
+-- every way to write a commit: a count, 1, 2, 10, 13, 14, 8; and to ask for its size: a count, 1, 2, 10
+module _ (Q : Answer → Type 0) (count : (n : ℕ) → Q (counted n)) (one : Q (refused (verdict 1 0))) (two : Q (refused (verdict 2 0)))
+    (ten : (i : ℕ) → Q (refused (verdict 10 i))) (h : ℕ) (bytes : List ℕ) (p : CommitParts) (parents headers : List ℕ) where
+  each-measured : (room : ℕ) → Q (measured h bytes p parents headers room)
+  unfolding measured
+  each-measured room =
+      each-passed Q (checked h bytes p parents headers room) _ (count _)
+      (each-checked (λ v. Refusal v → Q (refused v)) (λ z. absurd (z refl)) (λ z. one) (λ z. two) (λ i z. ten i) h bytes p parents headers room)
+
+  each-written : Q (refused (verdict 13 0)) → Q (refused (verdict 14 0)) → ((n : ℕ) → Q (refused (verdict 8 n))) → (room : ℕ) → Q (commitAnswer h bytes p parents headers room)
+  unfolding commitAnswer
+  each-written thirteen fourteen eight room =
+      each-fitted Q room _ (each-encoded Q thirteen fourteen (encodingNamed bytes p) (measured h bytes p parents headers room) (each-measured room)) eight
+
+pub of-commit-writing : OfCommitWriting
+of-commit-writing = record {
+  check-commit = keeps-reads _ _ _ _ (λ i o m. m) (λ i. each-checked (Of _ ofVerdict) (done refl refl) (zero refl refl) (zero refl refl) (λ i. zero refl refl) _ _ _ _ _ _);
+  commit-size = keeps-reads _ _ _ _ (λ i o m. m)
+      (λ i. each-measured (Of _ ofAnswer) (λ n. done refl refl) (zero refl refl) (zero refl refl) (λ i. zero refl refl) _ _ _ _ _ _);
+  write-commit = keeps-writes _ _ _ _ _ _ _ (λ i o m. m)
+      (λ i. each-written (Of _ ofAnswer) (λ n. done refl refl) (zero refl refl) (zero refl refl) (λ i. zero refl refl) _ _ _ _ _ (zero refl refl) (zero refl refl) (λ n. zero refl refl) _);
+}

@@ -1,0 +1,28 @@
+-- `sarpukten::sarpukten_write_commit` meets its contract. Assumes nothing.
+use borrow.Author.Needs.{needs}
+use Rattle.sarpukten.proofs.sarpukten_write_commit.Statement.{statement}
+use Rattle.sarpukten.proofs.sarpukten_write_commit.Tie as tie
+use mathlib.Core.Path.{_∙_, ap}
+use lib.ListN.{length}
+use Rattle.ground.specs.Verdict.{stored}
+use Rattle.commit_write.specs.Write.{commitAnswer, written}
+use Rattle.sarpukten.proofs.Laws.{handed-with}
+
+parts-in-requires : tie.Need-parts-in-requires
+parts-in-requires c κs = search needs
+
+write-commit-requires : tie.Need-write-commit-requires
+write-commit-requires c κs = search needs
+
+hand-requires : tie.Need-hand-requires
+hand-requires c κs = search needs
+
+same-length : tie.Need-same-length
+same-length c = search needs
+
+returns : tie.Need-returns
+returns c = let a = c .before .before .before .before .before .before .before .before .before .before .before .args in let e = c .before .before .before .before .write-commit .ensures in let x = c .before .before .before .before .before .before .parts-in .ensures in handed-with (c .hand .ensures) (e .0 ∙ ap (λ p. commitAnswer (a .h) (a .bytes .now) p (a .parents .now) (a .headers .now) (length (a .out .now))) x) (e .1 ∙ ap (λ p. stored (commitAnswer (a .h) (a .bytes .now) p (a .parents .now) (a .headers .now) (length (a .out .now)) .verdict) (written (a .h) (a .bytes .now) p (a .parents .now) (a .headers .now)) (a .out .now)) x)
+
+pub sarpukten-write-commit-spec : {M : Type 1} → statement M
+sarpukten-write-commit-spec =
+    tie.close (tie.spec parts-in-requires write-commit-requires hand-requires same-length returns)
