@@ -1,3 +1,4 @@
 pub mod Folding
 pub mod Rewriting
+pub mod Fronts
 pub mod Back
