@@ -56,6 +56,11 @@ int main(int argc, char **argv)
         fprintf(stderr, "usage: loader FILE FOLDER [sha256]\n");
         return 2;
     }
+    /* A lookup answers `guest/file` as it answers `guest`. */
+    if (strchr(argv[2], '/') != NULL) {
+        fprintf(stderr, "loader: a folder's name has no slash\n");
+        return 2;
+    }
     object = read_file(argv[1], &len);
     if (object == NULL) {
         fprintf(stderr, "loader: cannot read %s\n", argv[1]);

@@ -14,8 +14,8 @@
  *   - The library keeps nothing between calls, allocates nothing, prints nothing and calls nothing but memcpy. Any thread may call it.
  *
  * What the caller owes, since C cannot show it
- *   - No pointer is NULL, not even with length 0, and each points to as many elements as its length or its array type says, all of them
- *     initialised (those of `answer` and of an output too: any value will do).
+ *   - No pointer is NULL, not even with length 0. Each is aligned for its type and points to as many elements as its length or its array
+ *     type says, all of them initialised (those of `answer` and of an output too: any value will do).
  *   - What a call may write (`answer`, and each parameter without `const`) overlaps nothing else that is passed to it, and no other thread
  *     touches it meanwhile. Nothing writes to what is passed as `const` meanwhile.
  */
@@ -150,8 +150,9 @@ size_t sarpukten_read_tree(
 size_t sarpukten_read_tree_strict(
     const uint8_t *bytes, size_t bytes_len, size_t h, size_t *records, size_t records_len, size_t answer[3]);
 
-/* The entry with a name, of a folder (true) or not, by halving: among the records of an object that was read strictly, and for a name
- * without a slash, it is found exactly where it is there. Refuses 1, 2, 10 (for a record that it compares), 15.
+/* The entry with a name, of a folder (true) or not, by halving. Among the records of an object that was read strictly, and for a name
+ * without a slash, it is found exactly where it is there; `a/b` is answered as folder `a` is. Refuses 1, 2, 10 (for a record that it
+ * compares), 15.
  * answer: number, place; the index of the record (0 on a refusal); how many records were compared (0 on a refusal other than 15). */
 size_t sarpukten_bisect_entry(
     const uint8_t *object, size_t object_len, size_t h, const size_t *records, size_t records_len, const uint8_t *name, size_t name_len,

@@ -35,6 +35,11 @@ fn main() -> ExitCode {
             return ExitCode::from(2);
         }
     };
+    // A lookup answers `guest/file` as it answers `guest`.
+    if name.as_bytes().contains(&b'/') {
+        eprintln!("loader: a folder's name has no slash");
+        return ExitCode::from(2);
+    }
     let object = match read_file(file) {
         Ok(object) => object,
         Err(e) => {

@@ -99,7 +99,8 @@ impl<'a> TreeRef<'a> {
         self.entries().nth(index)
     }
 
-    /// The entry with a name, of a folder or not, by halving. It is meant for a tree in order, as every strictly read one is.
+    /// The entry with a name, of a folder or not, by halving. It is meant for a tree in order, as every strictly read one is, and for a
+    /// name without a slash: `a/b` is answered as folder `a` is.
     pub fn bisect_entry(&self, name: &[u8], is_dir: bool) -> Option<EntryRef<'a>> {
         self.bisect_entry_counted(name, is_dir).0
     }

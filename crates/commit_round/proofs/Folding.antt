@@ -80,6 +80,10 @@ fold-unfolds first more f g n =
     record { first = first; more = more; whole = fold-lines first more f g; one-line = f; one-lines = g; some = n } in
     (w, unfolds-to-lines (foldValue (first ++ 10 ∷ plainLines more)) w)
 
+-- a folded value is written as it stands, which is what unfolding and folding it gives
+pub unfolded-folds : (v : List ℕ) → FoldedForm v → foldValue (plainOf 1 v) ≡ v
+unfolded-folds v f = ap foldValue (unfolds-to-lines v f) ∙ fold-lines (f .first) (f .more) (f .one-line) (f .one-lines) ∙ sym (f .whole)
+
 -- the last byte of a value, prev where it is empty
 abbrev pub lastOf : ℕ → List ℕ → ℕ
 lastOf prev [] = prev

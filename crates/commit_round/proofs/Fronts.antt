@@ -2,9 +2,9 @@
 -- so that an accepted commit with its ids in lower case is written as itself (`read-written`). Assumes nothing.
 use Prim.Native.Nat.{ℕ, zero, suc, _+_, _*_, _/_, _≤_}
 use mathlib.Core.Path.{_≡_, refl, ap, sym, _∙_}
-use mathlib.Core.List.{List, _++_}
+use mathlib.Core.List.{List}
 use native.Mathlib.Omega.{arith}
-use lib.ListN.{length, take, drop, length-append, length-drop}
+use lib.ListN.{length, take, drop, length-append}
 use lib.Seq.{getD-take, length-take-le}
 use Rattle.ground.specs.Verdict.{fine}
 use Rattle.header.specs.Record.{width, headerAt}
@@ -12,11 +12,9 @@ use Rattle.header.proofs.Laws.{header-is}
 use Rattle.header.specs.declared.HeaderRecord.{HeaderRecord}
 use Rattle.commit_read.specs.Headers.{heads, recordsOf, flats}
 use Rattle.commit_read.specs.Read.{commitOutcome, commitAnswer, commitParents, commitHeaders, answerIn, headersIn}
-use Rattle.commit_read.specs.declared.Found.{Found}
 use Rattle.commit_read.specs.declared.Outcome.{Outcome}
 use Rattle.commit_read.specs.declared.Outcome.the-variants.{Whole, Fails}
 use Rattle.commit_read.proofs.Laws.{outcome-fits, tally-count, flats-length}
-use Rattle.commit_grammar.specs.Grammar.{Commit}
 use Rattle.commit_grammar.specs.Named.{commitOf, recordsFrom, named}
 use Rattle.commit_grammar.proofs.Refusals.{BadOutcome, outcome-bad}
 use Rattle.commit_check.specs.Check.{headersOf}
@@ -44,7 +42,7 @@ unfolding recordsFrom
 front-from l n i zero p q = refl
 front-from l n i (suc k) p q = rw (front-record l n i (omega arith) q, front-from l n (i + 1) k (omega arith) q)
 
-front-records : (l : List ℕ) (k : ℕ) → k * width ≤ length l → headersOf (take (k * width) l) ≡ recordsFrom 0 k l
+pub front-records : (l : List ℕ) (k : ℕ) → k * width ≤ length l → headersOf (take (k * width) l) ≡ recordsFrom 0 k l
 front-records l k p =
     let z : length (take (k * width) l) / width ≡ k = rw (length-take-le (k * width) l p) (omega arith) in
     rw z (front-from l (k * width) 0 k (omega arith) p)
@@ -52,7 +50,7 @@ front-records l k p =
 -- ---- what was read
 
 -- the records that were stored are there
-headers-there : (s : List ℕ) (h : ℕ) (ps hs : List ℕ) → commitAnswer s h ps hs .verdict ≡ fine
+pub headers-there : (s : List ℕ) (h : ℕ) (ps hs : List ℕ) → commitAnswer s h ps hs .verdict ≡ fine
     → commitAnswer s h ps hs .headers * width ≤ length (commitHeaders s h ps hs)
 unfolding answerIn headersIn
 headers-there s h ps hs v = by (commitOutcome s h ps hs) refl (outcome-bad s h (length ps) (length hs / width)) v

@@ -347,7 +347,7 @@ encoding-le bytes p f m =
     (λ e. rw (encoding-absent bytes p e) (omega arith))
     (equal (p .encoding) 1)
 
-pub sizes : (h : ℕ) (bytes : List ℕ) (p : CommitParts) (parents headers : List ℕ) (room : ℕ) → Sound h bytes p parents headers room → Sizes h bytes p parents headers
+sizes : (h : ℕ) (bytes : List ℕ) (p : CommitParts) (parents headers : List ℕ) (room : ℕ) → Sound h bytes p parents headers room → Sizes h bytes p parents headers
 sizes h bytes p parents headers room s =
     let small = id-small h (s .id-length) .1 in
     let a = part (p .«author_start») (p .«author_end») bytes in
@@ -377,6 +377,9 @@ sizes h bytes p parents headers room s =
       message-range = m;
       message-long = part-length bytes (p .«message_start») (p .«message_end») (m .0) (m .1);
     }
+
+pub sizes-of : (h : ℕ) (bytes : List ℕ) (p : CommitParts) (parents headers : List ℕ) → checked h bytes p parents headers 0 .number ≡ 0 → Sizes h bytes p parents headers
+sizes-of h bytes p parents headers z = sizes h bytes p parents headers 0 (checked-sound h bytes p parents headers 0 z)
 
 -- what a store promises, as a piece that was put
 pub put-of : (l : List ℕ) (at : ℕ) (p m : List ℕ) (to : ℕ) → to ≡ at + length p → m ≡ sets l at p → Put l at p m to

@@ -12,6 +12,8 @@ use ground::same_bytes;
 use libc::STDOUT_FILENO;
 use lookup::Looked;
 use output::put;
+use record_slice::ROOM;
+use record_slice::bisect_array;
 use std::num::wrapping_add_usize;
 
 // ---- writing
@@ -136,14 +138,151 @@ fn both_readers(word: &[u8], s: &[u8], h: usize, list: &mut [usize]) {
 
 // ---- damage
 
-// Where an entry and the one after it lie in an object.
-struct Place {
-    at: usize,
-    name: usize,
-    end: usize,
-    id: usize,
-    next: usize,
-    after: usize,
+// Places that a damage may begin or end at. Of the entry: its first byte, its second, fifth and sixth, its name's first byte, second and end,
+// its id's first byte, second and last, and its end; then the end of the entry after it, and of the object.
+const FIRST: usize = 0;
+
+const SECOND: usize = 1;
+
+const FIFTH: usize = 2;
+
+const SIXTH: usize = 3;
+
+const NAME: usize = 4;
+
+const NAME_SECOND: usize = 5;
+
+const NAME_END: usize = 6;
+
+const ID: usize = 7;
+
+const ID_SECOND: usize = 8;
+
+const ID_LAST: usize = 9;
+
+const NEXT: usize = 10;
+
+const AFTER: usize = 11;
+
+const OBJECT_END: usize = 12;
+
+// A damage: from one place up to another the first `len` bytes of the piece stand instead.
+struct Damage {
+    label: [u8; 15],
+    from: usize,
+    to: usize,
+    piece: [u8; 5],
+    len: usize,
+}
+
+const DAMAGES: [Damage; 14] = [
+    Damage {
+        label: *b"last byte cut  ",
+        from: ID_LAST,
+        to: OBJECT_END,
+        piece: *b"-----",
+        len: 0,
+    },
+    Damage {
+        label: *b"id cut off     ",
+        from: ID,
+        to: OBJECT_END,
+        piece: *b"-----",
+        len: 0,
+    },
+    Damage {
+        label: *b"id lacks a byte",
+        from: ID,
+        to: ID_SECOND,
+        piece: *b"-----",
+        len: 0,
+    },
+    Damage {
+        label: *b"mode starts 8  ",
+        from: FIRST,
+        to: SECOND,
+        piece: *b"8----",
+        len: 1,
+    },
+    Damage {
+        label: *b"mode starts 7  ",
+        from: FIRST,
+        to: SECOND,
+        piece: *b"7----",
+        len: 1,
+    },
+    Damage {
+        label: *b"0 before mode  ",
+        from: FIRST,
+        to: FIRST,
+        piece: *b"0----",
+        len: 1,
+    },
+    Damage {
+        label: *b"mode ....6.    ",
+        from: FIFTH,
+        to: SIXTH,
+        piece: *b"6----",
+        len: 1,
+    },
+    Damage {
+        label: *b"name starts /  ",
+        from: NAME,
+        to: NAME_SECOND,
+        piece: *b"/----",
+        len: 1,
+    },
+    Damage {
+        label: *b"name starts NUL",
+        from: NAME,
+        to: NAME_SECOND,
+        piece: *b"\0----",
+        len: 1,
+    },
+    Damage {
+        label: *b"name empty     ",
+        from: NAME,
+        to: NAME_END,
+        piece: *b"-----",
+        len: 0,
+    },
+    Damage {
+        label: *b"name .         ",
+        from: NAME,
+        to: NAME_END,
+        piece: *b".----",
+        len: 1,
+    },
+    Damage {
+        label: *b"name ..        ",
+        from: NAME,
+        to: NAME_END,
+        piece: *b"..---",
+        len: 2,
+    },
+    Damage {
+        label: *b"name .git      ",
+        from: NAME,
+        to: NAME_END,
+        piece: *b".git-",
+        len: 4,
+    },
+    Damage {
+        label: *b"name .gita     ",
+        from: NAME,
+        to: NAME_END,
+        piece: *b".gita",
+        len: 5,
+    },
+];
+
+// After the table's kinds come an entry twice, and two entries exchanged.
+const TWICE: usize = 14;
+
+const KINDS: usize = 16;
+
+fn damage_of(kind: usize) -> Damage {
+    DAMAGES[kind % TWICE]
 }
 
 // Where the bytes of a record's entry end.
@@ -173,19 +312,26 @@ fn start_at(records: &[usize], i: usize, h: usize, len: usize) -> usize {
     end_at(records, i - 1, h, len)
 }
 
-fn place_at(records: &[usize], i: usize, h: usize, len: usize) -> Place {
+fn place_at(records: &[usize], i: usize, h: usize, len: usize) -> [usize; 13] {
     let e = entry_at(records, i);
     let at = start_at(records, i, h, len);
     let next = end_at(records, i, h, len);
     let after = end_at(records, wrapping_add_usize(i, 1), h, len);
-    Place {
+    [
         at,
-        name: e.name_start,
-        end: e.name_end,
-        id: e.id_start,
+        wrapping_add_usize(at, 1),
+        wrapping_add_usize(at, 4),
+        wrapping_add_usize(at, 5),
+        e.name_start,
+        wrapping_add_usize(e.name_start, 1),
+        e.name_end,
+        e.id_start,
+        wrapping_add_usize(e.id_start, 1),
+        std::num::wrapping_sub_usize(next, 1),
         next,
         after,
-    }
+        len,
+    ]
 }
 
 // The bytes with those from one place up to another replaced by a piece, in `out`; gives how many they are then.
@@ -201,30 +347,6 @@ fn replaced(s: &[u8], from: usize, to: usize, piece: &[u8], out: &mut [u8]) -> u
     let next = from + piece.len();
     put(out, next, &s[to..]);
     next + (s.len() - to)
-}
-
-// One byte replaced.
-fn changed(s: &[u8], at: usize, piece: &[u8], out: &mut [u8]) -> usize {
-    if s.len() <= at {
-        return 0;
-    }
-    replaced(s, at, at + 1, piece, out)
-}
-
-// The bytes up to one before a place.
-fn cut_before(s: &[u8], end: usize, out: &mut [u8]) -> usize {
-    if end == 0 {
-        return 0;
-    }
-    replaced(s, end - 1, s.len(), b"", out)
-}
-
-// The byte four past a place replaced.
-fn fifth_changed(s: &[u8], at: usize, piece: &[u8], out: &mut [u8]) -> usize {
-    if s.len() <= at {
-        return 0;
-    }
-    changed(s, at + 4, piece, out)
 }
 
 // An entry twice.
@@ -256,49 +378,40 @@ fn exchanged(s: &[u8], from: usize, mid: usize, to: usize, out: &mut [u8]) -> us
     s.len()
 }
 
-const KINDS: usize = 16;
-
 fn label(kind: usize) {
-    match kind {
-        0 => say(b"last byte cut  "),
-        1 => say(b"id cut off     "),
-        2 => say(b"id lacks a byte"),
-        3 => say(b"mode starts 8  "),
-        4 => say(b"mode starts 7  "),
-        5 => say(b"0 before mode  "),
-        6 => say(b"mode ....6.    "),
-        7 => say(b"name starts /  "),
-        8 => say(b"name starts NUL"),
-        9 => say(b"name empty     "),
-        10 => say(b"name .         "),
-        11 => say(b"name ..        "),
-        12 => say(b"name .git      "),
-        13 => say(b"name .gita     "),
-        14 => say(b"entry twice    "),
-        _ => say(b"exchanged      "),
+    if kind < TWICE {
+        let d = damage_of(kind);
+        let words = d.label;
+        say(&words);
+        return;
     }
+    whether(kind == TWICE, b"entry twice    ", b"exchanged      ");
+}
+
+// The same with only the first bytes of the piece.
+fn replaced_by(s: &[u8], from: usize, to: usize, piece: &[u8], n: usize, out: &mut [u8]) -> usize {
+    if piece.len() < n {
+        return 0;
+    }
+    replaced(s, from, to, &piece[0..n], out)
+}
+
+fn by_table(d: Damage, s: &[u8], p: [usize; 13], out: &mut [u8]) -> usize {
+    let from = d.from % 13;
+    let to = d.to % 13;
+    let piece = d.piece;
+    replaced_by(s, p[from], p[to], &piece, d.len, out)
 }
 
 // The object with one kind of damage at one entry, in `out`; gives its length.
-fn damaged(kind: usize, s: &[u8], p: Place, out: &mut [u8]) -> usize {
-    match kind {
-        0 => cut_before(s, p.next, out),
-        1 => replaced(s, p.id, s.len(), b"", out),
-        2 => changed(s, p.id, b"", out),
-        3 => changed(s, p.at, b"8", out),
-        4 => changed(s, p.at, b"7", out),
-        5 => replaced(s, p.at, p.at, b"0", out),
-        6 => fifth_changed(s, p.at, b"6", out),
-        7 => changed(s, p.name, b"/", out),
-        8 => changed(s, p.name, b"\0", out),
-        9 => replaced(s, p.name, p.end, b"", out),
-        10 => replaced(s, p.name, p.end, b".", out),
-        11 => replaced(s, p.name, p.end, b"..", out),
-        12 => replaced(s, p.name, p.end, b".git", out),
-        13 => replaced(s, p.name, p.end, b".gita", out),
-        14 => doubled(s, p.at, p.next, out),
-        _ => exchanged(s, p.at, p.next, p.after, out),
+fn damaged(kind: usize, s: &[u8], p: [usize; 13], out: &mut [u8]) -> usize {
+    if kind < TWICE {
+        return by_table(damage_of(kind), s, p, out);
     }
+    if kind == TWICE {
+        return doubled(s, p[FIRST], p[NEXT], out);
+    }
+    exchanged(s, p[FIRST], p[NEXT], p[AFTER], out)
 }
 
 // What one kind of damage did: both answers at the first entry, and all of them as a sum.
@@ -358,6 +471,11 @@ fn one_damage(
     joined(line, i, p, q)
 }
 
+// In a large object only some 32 entries are damaged, each in its own copy.
+fn is_spared(i: usize, n: usize) -> bool {
+    i % (1 + n / 32) != 0
+}
+
 fn damage_at(
     line: Line,
     kind: usize,
@@ -368,6 +486,9 @@ fn damage_at(
     out: &mut [u8],
     list: &mut [usize],
 ) -> Line {
+    if is_spared(i, records.len() / WIDTH) {
+        return line;
+    }
     let p = place_at(records, i, h, s.len());
     let len = damaged(kind, s, p, out);
     one_damage(line, i, out, len, h, list)
@@ -561,14 +682,17 @@ fn look(f: Finds, s: &[u8], h: usize, records: &[usize], i: usize) -> Finds {
     with_both(f, i, a, b)
 }
 
-fn look_for_all(s: &[u8], h: usize, records: &[usize]) -> Finds {
-    let n = records.len() / WIDTH;
-    let mut f = Finds {
+fn no_finds() -> Finds {
+    Finds {
         right: 0,
         absent: 0,
         most: 0,
         sum: 0,
-    };
+    }
+}
+
+fn look_for_all(s: &[u8], h: usize, records: &[usize], n: usize) -> Finds {
+    let mut f = no_finds();
     let mut i = 0;
     while i < n {
         f = look(f, s, h, records, i);
@@ -577,19 +701,74 @@ fn look_for_all(s: &[u8], h: usize, records: &[usize]) -> Finds {
     f
 }
 
-fn lookup_line(s: &[u8], h: usize, records: &[usize]) {
-    let f = look_for_all(s, h, records);
-    say(b"  found");
+fn finds_line(word: &[u8], f: Finds, n: usize) {
+    say(word);
     number(f.right);
     say(b" absent as the other sort");
     number(f.absent);
     say(b" most compared");
     number(f.most);
     say(b" of");
-    number(lookup::most_comparisons(records.len() / WIDTH));
+    number(lookup::most_comparisons(n));
     say(b" sum");
     number(f.sum);
     say(b"\n");
+}
+
+// The records as structs, as far as an array has room.
+fn structs_of(records: &[usize]) -> [EntryRecord; ROOM] {
+    let none = entry_at(records, records.len());
+    let mut all = [none; ROOM];
+    let mut i = 0;
+    while i < ROOM {
+        all[i] = entry_at(records, i);
+        i += 1;
+    }
+    all
+}
+
+fn look_in_structs(
+    f: Finds,
+    s: &[u8],
+    h: usize,
+    n: usize,
+    all: [EntryRecord; ROOM],
+    i: usize,
+) -> Finds {
+    let at = i % ROOM;
+    let e = all[at];
+    let from = e.name_start;
+    let to = e.name_end;
+    if to < from {
+        return f;
+    }
+    if s.len() < to {
+        return f;
+    }
+    let folder = is_folder(e);
+    let a = bisect_array(s, h, n, all, &s[from..to], folder);
+    let b = bisect_array(s, h, n, all, &s[from..to], !folder);
+    with_both(f, i, a, b)
+}
+
+fn look_for_structs(s: &[u8], h: usize, n: usize, all: [EntryRecord; ROOM]) -> Finds {
+    let mut f = no_finds();
+    let mut i = 0;
+    while i < n {
+        f = look_in_structs(f, s, h, n, all, i);
+        i += 1;
+    }
+    f
+}
+
+fn lookup_lines(s: &[u8], h: usize, records: &[usize]) {
+    let n = records.len() / WIDTH;
+    finds_line(b"  found", look_for_all(s, h, records, n), n);
+    if ROOM < n {
+        return;
+    }
+    let all = structs_of(records);
+    finds_line(b"  among structs", look_for_structs(s, h, n, all), n);
 }
 
 // ---- writing a tree
@@ -650,7 +829,7 @@ fn over_records(s: &[u8], h: usize, records: &[usize], out: &mut [u8], list: &mu
     say(b"\n");
     short_line(s, h, records.len() / WIDTH, list);
     walk_lines(s, h);
-    lookup_line(s, h, records);
+    lookup_lines(s, h, records);
     write_line(s, h, records, out);
     all_damages(s, h, records, out, list);
 }
@@ -681,7 +860,56 @@ fn load(path: &[u8], buffer: &mut [u8]) -> usize {
     n
 }
 
-fn file(path: &[u8], h: usize, buffer: &mut [u8], out: &mut [u8]) {
+// A file of data/, and the length of the ids in it.
+struct File {
+    path: [u8; 7],
+    h: usize,
+}
+
+const FILES: [File; 10] = [
+    File {
+        path: *b"empty20",
+        h: 20,
+    },
+    File {
+        path: *b"empty32",
+        h: 32,
+    },
+    File {
+        path: *b"modes20",
+        h: 20,
+    },
+    File {
+        path: *b"modes32",
+        h: 32,
+    },
+    File {
+        path: *b"names20",
+        h: 20,
+    },
+    File {
+        path: *b"names32",
+        h: 32,
+    },
+    File {
+        path: *b"twice20",
+        h: 20,
+    },
+    File {
+        path: *b"twice32",
+        h: 32,
+    },
+    File {
+        path: *b"large20",
+        h: 20,
+    },
+    File {
+        path: *b"large32",
+        h: 32,
+    },
+];
+
+fn read_object(path: &[u8], h: usize, buffer: &mut [u8], out: &mut [u8]) {
     let n = load(path, buffer);
     if buffer.len() < n {
         return;
@@ -693,17 +921,25 @@ fn file(path: &[u8], h: usize, buffer: &mut [u8], out: &mut [u8]) {
     object(&buffer[0..n], h, &mut records, out, &mut list);
 }
 
+fn file_at(i: usize) -> File {
+    FILES[i % 10]
+}
+
+fn one_file(f: File, buffer: &mut [u8], out: &mut [u8]) {
+    let path = f.path;
+    read_object(&path, f.h, buffer, out);
+}
+
+fn all_files(buffer: &mut [u8], out: &mut [u8]) {
+    let mut i = 0;
+    while i < 10 {
+        one_file(file_at(i), buffer, out);
+        i += 1;
+    }
+}
+
 fn main() {
     let mut buffer = io::large_buffer();
     let mut out = io::large_buffer();
-    file(b"empty20", 20, &mut buffer, &mut out);
-    file(b"empty32", 32, &mut buffer, &mut out);
-    file(b"modes20", 20, &mut buffer, &mut out);
-    file(b"modes32", 32, &mut buffer, &mut out);
-    file(b"names20", 20, &mut buffer, &mut out);
-    file(b"names32", 32, &mut buffer, &mut out);
-    file(b"both20", 20, &mut buffer, &mut out);
-    file(b"both32", 32, &mut buffer, &mut out);
-    file(b"many20", 20, &mut buffer, &mut out);
-    file(b"many32", 32, &mut buffer, &mut out);
+    all_files(&mut buffer, &mut out);
 }

@@ -23,7 +23,10 @@ enum-told : tie.Need-enum-told
 enum-told c = search needs
 
 count-all-requires : tie.Need-count-all-requires
-count-all-requires c κs = let o = gate-open _ _ _ (sym (c .before .before .bounds .ensures) ∙ c .enum-told .given .1) in (omega (arith, o .2, c .before .before .before .longer2 .ensures), omega (arith, o .2, c .before .before .before .longer2 .ensures))
+count-all-requires c κs =
+    let longer2 = c .before .before .before .longer2 in
+    let o = gate-open _ _ _ (sym (c .before .before .bounds .ensures) ∙ c .enum-told .given .1) in
+    (omega (arith, o .2, longer2 .ensures), omega (arith, o .2, longer2 .ensures))
 
 add-if1 : tie.Need-add-if1
 add-if1 c = search needs
@@ -33,25 +36,49 @@ add-if1-2 c = search needs
 
 returns : tie.Need-returns
 returns c =
-    let bounds = c .before .before .before .before .bounds in
-    let longer2 = c .before .before .before .before .before .longer2 in
-    let longer = c .before .before .before .before .before .before .longer in
-    let args = c .before .before .before .before .before .before .before .before .before .before .args in
+    let at-bounds1 = c .before .before .before .before in
+    let bounds1 = at-bounds1 .bounds in
+    let at-longer21 = at-bounds1 .before in
+    let longer21 = at-longer21 .longer2 in
+    let at-longer1 = at-longer21 .before in
+    let longer1 = at-longer1 .longer in
+    let at-args1 = at-longer1 .before .before .before .before in
+    let args1 = at-args1 .args in
+    let bounds = bounds1 in
+    let longer2 = longer21 in
+    let longer = longer1 in
+    let args = args1 in
     sym (checked-stop (args .h) (args .bytes .now) (args .parts) (args .parents .now) (args .headers .now) (args .room) _ _ (longer .ensures) (longer2 .ensures) (sym (bounds .ensures) ∙ c .before .before .enum-told .given .1) _ (c .before .count-all .ensures) (c .if1 .taken))
 
 returns-2 : tie.Need-returns-2
 returns-2 c =
-    let longer2 = c .before .before .before .before .longer2 in
-    let longer = c .before .before .before .before .before .longer in
-    let args = c .before .before .before .before .before .before .before .before .before .args in
-    sym (checked-shut (args .h) (args .bytes .now) (args .parts) (args .parents .now) (args .headers .now) (args .room) _ _ (longer .ensures) (longer2 .ensures) _ (sym (c .before .before .before .bounds .ensures) ∙ c .before .v .given .1))
+    let at-bounds = c .before .before .before in
+    let bounds = at-bounds .bounds in
+    let at-longer21 = at-bounds .before in
+    let longer21 = at-longer21 .longer2 in
+    let at-longer1 = at-longer21 .before in
+    let longer1 = at-longer1 .longer in
+    let at-args1 = at-longer1 .before .before .before .before in
+    let args1 = at-args1 .args in
+    let longer2 = longer21 in
+    let longer = longer1 in
+    let args = args1 in
+    sym (checked-shut (args .h) (args .bytes .now) (args .parts) (args .parents .now) (args .headers .now) (args .room) _ _ (longer .ensures) (longer2 .ensures) _ (sym (bounds .ensures) ∙ c .before .v .given .1))
 
 returns-3 : tie.Need-returns-3
 returns-3 c =
-    let bounds = c .before .before .before .before .bounds in
-    let longer2 = c .before .before .before .before .before .longer2 in
-    let longer = c .before .before .before .before .before .before .longer in
-    let args = c .before .before .before .before .before .before .before .before .before .before .args in
+    let at-bounds1 = c .before .before .before .before in
+    let bounds1 = at-bounds1 .bounds in
+    let at-longer21 = at-bounds1 .before in
+    let longer21 = at-longer21 .longer2 in
+    let at-longer1 = at-longer21 .before in
+    let longer1 = at-longer1 .longer in
+    let at-args1 = at-longer1 .before .before .before .before in
+    let args1 = at-args1 .args in
+    let bounds = bounds1 in
+    let longer2 = longer21 in
+    let longer = longer1 in
+    let args = args1 in
     sym (checked-fine (args .h) (args .bytes .now) (args .parts) (args .parents .now) (args .headers .now) (args .room) _ _ (longer .ensures) (longer2 .ensures) (sym (bounds .ensures) ∙ c .before .before .enum-told .given .1) _ (c .before .count-all .ensures) (c .if1 .left))
 
 pub check-commit-spec : {M : Type 1} → statement M

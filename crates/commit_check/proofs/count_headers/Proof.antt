@@ -36,22 +36,30 @@ loop-less c = search needs
 
 loop-again : tie.Need-loop-again Inv-loop μ-loop
 loop-again c =
+    let args1 = c .before .before .before .before .before .before .before .args in
+    let loop1 = c .before .before .before .before .loop in
+    let loop-test = c .before .before .before .loop-test in
     let header-at = c .before .before .header-at in
-    let loop = c .before .before .before .before .loop in
-    let args = c .before .before .before .before .before .before .before .args in
-    (omega arith, refl, omega (arith, loop .inv .2, heads-more (headerFits (args .bytes .now)) (args .headers .now) (length (args .headers .now) / width) (loop .i) (c .before .before .before .loop-test .taken) (header-at .result) (header-at .ensures) (sym (c .before .is-header .ensures) ∙ c .if1 .taken)))
+    let loop = loop1 in
+    let args = args1 in
+    (omega arith, refl, omega (arith, loop .inv .2, heads-more (headerFits (args .bytes .now)) (args .headers .now) (length (args .headers .now) / width) (loop .i) (loop-test .taken) (header-at .result) (header-at .ensures) (sym (c .before .is-header .ensures) ∙ c .if1 .taken)))
 
 returns : tie.Need-returns Inv-loop μ-loop
 returns c =
+    let args1 = c .before .before .before .before .before .before .before .args in
+    let loop1 = c .before .before .before .before .loop in
+    let loop-test = c .before .before .before .loop-test in
     let header-at = c .before .before .header-at in
-    let loop = c .before .before .before .before .loop in
-    let args = c .before .before .before .before .before .before .before .args in
-    omega (arith, loop .inv .2, heads-bad (headerFits (args .bytes .now)) (args .headers .now) (length (args .headers .now) / width) (loop .i) (c .before .before .before .loop-test .taken) (header-at .result) (header-at .ensures) (sym (c .before .is-header .ensures) ∙ c .if1 .left))
+    let loop = loop1 in
+    let args = args1 in
+    omega (arith, loop .inv .2, heads-bad (headerFits (args .bytes .now)) (args .headers .now) (length (args .headers .now) / width) (loop .i) (loop-test .taken) (header-at .result) (header-at .ensures) (sym (c .before .is-header .ensures) ∙ c .if1 .left))
 
 returns-2 : tie.Need-returns-2 Inv-loop μ-loop
 returns-2 c =
-    let args = c .before .before .before .before .args in
-    omega (arith, c .before .loop .inv .2, heads-end (headerFits (args .bytes .now)) (args .headers .now) (length (args .headers .now) / width) (c .before .loop .i) (c .loop-test .left))
+    let args1 = c .before .before .before .before .args in
+    let loop = c .before .loop in
+    let args = args1 in
+    omega (arith, loop .inv .2, heads-end (headerFits (args .bytes .now)) (args .headers .now) (length (args .headers .now) / width) (loop .i) (c .loop-test .left))
 
 pub count-headers-spec : {M : Type 1} → statement M
 count-headers-spec =

@@ -36,15 +36,21 @@ loop-less c = search needs
 
 loop-again : tie.Need-loop-again Inv-loop μ-loop
 loop-again c =
-    let loop = c .before .before .before .before .loop in
-    let args = c .before .before .before .before .before .before .before .args in
-    (omega arith, omega (arith, loop .inv .1, run-more (idFits (args .h) (args .bytes .now)) (args .parents .now) (loop .i) (c .before .before .before .loop-test .taken) (sym (c .before .is-id .ensures) ∙ c .if1 .taken)))
+    let args1 = c .before .before .before .before .before .before .before .args in
+    let loop1 = c .before .before .before .before .loop in
+    let loop-test = c .before .before .before .loop-test in
+    let loop = loop1 in
+    let args = args1 in
+    (omega arith, omega (arith, loop .inv .1, run-more (idFits (args .h) (args .bytes .now)) (args .parents .now) (loop .i) (loop-test .taken) (sym (c .before .is-id .ensures) ∙ c .if1 .taken)))
 
 returns : tie.Need-returns Inv-loop μ-loop
 returns c =
-    let loop = c .before .before .before .before .loop in
-    let args = c .before .before .before .before .before .before .before .args in
-    omega (arith, loop .inv .1, run-bad (idFits (args .h) (args .bytes .now)) (args .parents .now) (loop .i) (c .before .before .before .loop-test .taken) (sym (c .before .is-id .ensures) ∙ c .if1 .left))
+    let args1 = c .before .before .before .before .before .before .before .args in
+    let loop1 = c .before .before .before .before .loop in
+    let loop-test = c .before .before .before .loop-test in
+    let loop = loop1 in
+    let args = args1 in
+    omega (arith, loop .inv .1, run-bad (idFits (args .h) (args .bytes .now)) (args .parents .now) (loop .i) (loop-test .taken) (sym (c .before .is-id .ensures) ∙ c .if1 .left))
 
 returns-2 : tie.Need-returns-2 Inv-loop μ-loop
 returns-2 c =

@@ -39,8 +39,10 @@ is-hex-requires c κs = search needs
 
 returns-3 : tie.Need-returns-3
 returns-3 c =
-    let args = c .before .before .before .before .before .args in
-    c .is-hex .ensures ∙ sym (id-is (args .h) (args .bytes .now) (args .at) (omega (arith, c .before .before .if2 .left, c .before .before .before .if1 .left)))
+    let args1 = c .before .before .before .before .before .args in
+    let if1 = c .before .before .before .if1 in
+    let args = args1 in
+    c .is-hex .ensures ∙ sym (id-is (args .h) (args .bytes .now) (args .at) (omega (arith, c .before .before .if2 .left, if1 .left)))
 
 pub is-id-spec : {M : Type 1} → statement M
 is-id-spec =

@@ -41,17 +41,25 @@ sub-if3 c =
 
 returns-2 : tie.Need-returns-2
 returns-2 c =
-    let if1 = c .before .before .before .before .if1 in
-    let args = c .before .before .before .before .before .before .before .args in
-    let pre = c .before .before .before .before .before .before .before .pre in
-    sym (fault-none (args .bytes .now) (args .p) (pre) (if1 .taken) (c .before .before .before .if2 .left) (sym (c .before .count-to .ensures) ∙ c .if3 .taken))
+    let args1 = c .before .before .before .before .before .before .before .args in
+    let pre1 = c .before .before .before .before .before .before .before .pre in
+    let if11 = c .before .before .before .before .if1 in
+    let if2 = c .before .before .before .if2 in
+    let if1 = if11 in
+    let args = args1 in
+    let pre = pre1 in
+    sym (fault-none (args .bytes .now) (args .p) (pre) (if1 .taken) (if2 .left) (sym (c .before .count-to .ensures) ∙ c .if3 .taken))
 
 returns-3 : tie.Need-returns-3
 returns-3 c =
-    let if1 = c .before .before .before .before .if1 in
-    let args = c .before .before .before .before .before .before .before .args in
-    let pre = c .before .before .before .before .before .before .before .pre in
-    sym (fault-lf (args .bytes .now) (args .p) (pre) (if1 .taken) (c .before .before .before .if2 .left) (λ q. c .if3 .left (c .before .count-to .ensures ∙ q)))
+    let args1 = c .before .before .before .before .before .before .before .args in
+    let pre1 = c .before .before .before .before .before .before .before .pre in
+    let if11 = c .before .before .before .before .if1 in
+    let if2 = c .before .before .before .if2 in
+    let if1 = if11 in
+    let args = args1 in
+    let pre = pre1 in
+    sym (fault-lf (args .bytes .now) (args .p) (pre) (if1 .taken) (if2 .left) (λ q. c .if3 .left (c .before .count-to .ensures ∙ q)))
 
 returns-4 : tie.Need-returns-4
 returns-4 c =

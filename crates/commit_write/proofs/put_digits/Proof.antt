@@ -42,11 +42,20 @@ loop-less c = search needs
 
 loop-again : tie.Need-loop-again Inv-loop μ-loop
 loop-again c =
-    let put-byte = c .before .before .put-byte in
-    let loop-test = c .before .before .before .before .before .before .loop-test in
-    let loop = c .before .before .before .before .before .before .before .loop in
-    let args = c .before .before .before .before .before .before .before .before .before .before .args in
-    (omega arith, put-byte .kept .0 ∙ loop .inv .1, left-next (lowerDigit (getD (args .digits .now) (loop .i) 0) ∷ []) _ _ _ (loop .inv .2) (digits-more (args .digits .now) (loop .i) (loop-test .taken)) (put-byte .ensures ∙ rw (c .before .before .before .lower .ensures)) (omega arith))
+    let at-put-byte = c .before .before in
+    let put-byte = at-put-byte .put-byte in
+    let at-lower = at-put-byte .before in
+    let lower = at-lower .lower in
+    let at-loop-test1 = at-lower .before .before .before in
+    let loop-test1 = at-loop-test1 .loop-test in
+    let at-loop1 = at-loop-test1 .before in
+    let loop1 = at-loop1 .loop in
+    let at-args1 = at-loop1 .before .before .before in
+    let args1 = at-args1 .args in
+    let loop-test = loop-test1 in
+    let loop = loop1 in
+    let args = args1 in
+    (omega arith, put-byte .kept .0 ∙ loop .inv .1, left-next (lowerDigit (getD (args .digits .now) (loop .i) 0) ∷ []) _ _ _ (loop .inv .2) (digits-more (args .digits .now) (loop .i) (loop-test .taken)) (put-byte .ensures ∙ rw (lower .ensures)) (omega arith))
 
 same-length : tie.Need-same-length Inv-loop μ-loop
 same-length c = c .before .loop .inv .1

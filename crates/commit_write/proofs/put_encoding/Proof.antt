@@ -31,7 +31,12 @@ part-put-line-end c =
     omega (arith, encoding-range (args .bytes .now) (args .p) (pre .0) (c .before .before .if1 .taken))
 
 put-line-requires : tie.Need-put-line-requires
-put-line-requires c κs = let r = encoding-range (c .before .before .before .before .before .before .before .args .bytes .now) (c .before .before .before .before .before .before .before .args .p) (c .before .before .before .before .before .before .before .pre .0) (c .before .before .before .if1 .taken) in omega (arith, r, part-length (c .before .before .before .before .before .before .before .args .bytes .now) (c .before .before .before .before .before .before .before .args .p .«encoding_start») (c .before .before .before .before .before .before .before .args .p .«encoding_end») (r .0) (r .1))
+put-line-requires c κs =
+    let args = c .before .before .before .before .before .before .before .args in
+    let pre = c .before .before .before .before .before .before .before .pre in
+    let if1 = c .before .before .before .if1 in
+    let r = encoding-range (args .bytes .now) (args .p) (pre .0) (if1 .taken) in
+    omega (arith, r, part-length (args .bytes .now) (args .p .«encoding_start») (args .p .«encoding_end») (r .0) (r .1))
 
 same-length : tie.Need-same-length
 same-length c = search needs
@@ -39,8 +44,10 @@ same-length c = search needs
 returns : tie.Need-returns
 unfolding encodingBytes
 returns c =
-    let if1 = c .before .before .before .before .before .before .if1 in
-    let args = c .before .before .before .before .before .before .before .before .before .before .args in
+    let at-if1 = c .before .before .before .before .before .before in
+    let if1 = at-if1 .if1 in
+    let at-args = at-if1 .before .before .before .before in
+    let args = at-args .args in
     rw (encoding-given (args .bytes .now) (args .p) (if1 .taken)) (c .before .before .put-line .ensures)
 
 returns-2 : tie.Need-returns-2

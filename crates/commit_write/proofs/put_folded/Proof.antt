@@ -28,8 +28,10 @@ shared-slice-read-prev c = search needs
 
 add-put-byte : tie.Need-add-put-byte Inv-loop μ-loop
 add-put-byte c =
-    let loop = c .before .before .before .before .before .before .before .before .loop in
-    let pre = c .before .before .before .before .before .before .before .before .before .before .before .pre in
+    let at-loop = c .before .before .before .before .before .before .before .before in
+    let loop = at-loop .loop in
+    let at-pre = at-loop .before .before .before in
+    let pre = at-pre .pre in
     omega (arith, loop .inv .2, pre)
 
 put-byte-requires-2 : tie.Need-put-byte-requires-2 Inv-loop μ-loop
@@ -37,8 +39,10 @@ put-byte-requires-2 c κs = search needs
 
 add-to : tie.Need-add-to Inv-loop μ-loop
 add-to c =
-    let loop = c .before .before .before .before .before .before .before .before .before .before .before .loop in
-    let pre = c .before .before .before .before .before .before .before .before .before .before .before .before .before .before .pre in
+    let at-loop = c .before .before .before .before .before .before .before .before .before .before .before in
+    let loop = at-loop .loop in
+    let at-pre = at-loop .before .before .before in
+    let pre = at-pre .pre in
     omega (arith, loop .inv .2, pre)
 
 add-i : tie.Need-add-i Inv-loop μ-loop
@@ -49,12 +53,23 @@ loop-less c = search needs
 
 loop-again : tie.Need-loop-again Inv-loop μ-loop
 loop-again c =
-    let put-byte2 = c .before .before .put-byte2 in
-    let put-byte = c .before .before .before .before .before .before .before .put-byte in
-    let if1 = c .before .before .before .before .before .before .before .before .before .if1 in
-    let loop-test = c .before .before .before .before .before .before .before .before .before .before .loop-test in
-    let loop = c .before .before .before .before .before .before .before .before .before .before .before .loop in
-    let args = c .before .before .before .before .before .before .before .before .before .before .before .before .before .before .args in
+    let at-put-byte2 = c .before .before in
+    let put-byte2 = at-put-byte2 .put-byte2 in
+    let at-put-byte1 = at-put-byte2 .before .before .before .before .before in
+    let put-byte1 = at-put-byte1 .put-byte in
+    let at-if11 = at-put-byte1 .before .before in
+    let if11 = at-if11 .if1 in
+    let at-loop-test1 = at-if11 .before in
+    let loop-test1 = at-loop-test1 .loop-test in
+    let at-loop1 = at-loop-test1 .before in
+    let loop1 = at-loop1 .loop in
+    let at-args1 = at-loop1 .before .before .before in
+    let args1 = at-args1 .args in
+    let put-byte = put-byte1 in
+    let if1 = if11 in
+    let loop-test = loop-test1 in
+    let loop = loop1 in
+    let args = args1 in
     (omega arith, put-byte2 .kept .0 ∙ put-byte .kept .0 ∙ loop .inv .1, omega (arith, loop .inv .2), left-next (32 ∷ getD (args .v .now) (loop .i) 0 ∷ []) _ _ _ (loop .inv .3) (fold-space (loop .prev) (args .v .now) (loop .i) (loop-test .taken) (if1 .taken)) (put-two (loop .out) (loop .to) 32 (getD (args .v .now) (loop .i) 0) _ _ (put-byte .ensures) (put-byte2 .ensures)) (omega arith))
 
 shared-slice-read-prev-2 : tie.Need-shared-slice-read-prev-2 Inv-loop μ-loop
@@ -65,8 +80,10 @@ put-byte-requires-3 c κs = search needs
 
 add-to-2 : tie.Need-add-to-2 Inv-loop μ-loop
 add-to-2 c =
-    let loop = c .before .before .before .before .before .before .before .loop in
-    let pre = c .before .before .before .before .before .before .before .before .before .before .pre in
+    let at-loop = c .before .before .before .before .before .before .before in
+    let loop = at-loop .loop in
+    let at-pre = at-loop .before .before .before in
+    let pre = at-pre .pre in
     omega (arith, loop .inv .2, pre)
 
 add-i-2 : tie.Need-add-i-2 Inv-loop μ-loop
@@ -77,11 +94,20 @@ loop-less-2 c = search needs
 
 loop-again-2 : tie.Need-loop-again-2 Inv-loop μ-loop
 loop-again-2 c =
-    let put-byte3 = c .before .before .put-byte3 in
-    let if1 = c .before .before .before .before .before .if1 in
-    let loop-test = c .before .before .before .before .before .before .loop-test in
-    let loop = c .before .before .before .before .before .before .before .loop in
-    let args = c .before .before .before .before .before .before .before .before .before .before .args in
+    let at-put-byte3 = c .before .before in
+    let put-byte3 = at-put-byte3 .put-byte3 in
+    let at-if11 = at-put-byte3 .before .before .before in
+    let if11 = at-if11 .if1 in
+    let at-loop-test1 = at-if11 .before in
+    let loop-test1 = at-loop-test1 .loop-test in
+    let at-loop1 = at-loop-test1 .before in
+    let loop1 = at-loop1 .loop in
+    let at-args1 = at-loop1 .before .before .before in
+    let args1 = at-args1 .args in
+    let if1 = if11 in
+    let loop-test = loop-test1 in
+    let loop = loop1 in
+    let args = args1 in
     (omega arith, put-byte3 .kept .0 ∙ loop .inv .1, omega (arith, loop .inv .2), left-next (getD (args .v .now) (loop .i) 0 ∷ []) _ _ _ (loop .inv .3) (fold-on (loop .prev) (args .v .now) (loop .i) (loop-test .taken) (if1 .left)) (put-byte3 .ensures) (omega arith))
 
 same-length : tie.Need-same-length Inv-loop μ-loop
@@ -98,8 +124,10 @@ put-byte-requires-4 c κs = search needs
 
 add-result : tie.Need-add-result Inv-loop μ-loop
 add-result c =
-    let loop = c .before .before .before .before .before .before .loop in
-    let pre = c .before .before .before .before .before .before .before .before .before .pre in
+    let at-loop = c .before .before .before .before .before .before in
+    let loop = at-loop .loop in
+    let at-pre = at-loop .before .before .before in
+    let pre = at-pre .pre in
     omega (arith, loop .inv .2, pre)
 
 same-length-2 : tie.Need-same-length-2 Inv-loop μ-loop
@@ -109,10 +137,18 @@ same-length-2 c =
 
 returns-2 : tie.Need-returns-2 Inv-loop μ-loop
 returns-2 c =
-    let if2 = c .before .before .before .before .if2 in
-    let loop-test = c .before .before .before .before .before .loop-test in
-    let loop = c .before .before .before .before .before .before .loop in
-    let args = c .before .before .before .before .before .before .before .before .before .args in
+    let at-if21 = c .before .before .before .before in
+    let if21 = at-if21 .if2 in
+    let at-loop-test1 = at-if21 .before in
+    let loop-test1 = at-loop-test1 .loop-test in
+    let at-loop1 = at-loop-test1 .before in
+    let loop1 = at-loop1 .loop in
+    let at-args1 = at-loop1 .before .before .before in
+    let args1 = at-args1 .args in
+    let if2 = if21 in
+    let loop-test = loop-test1 in
+    let loop = loop1 in
+    let args = args1 in
     left-none (left-next (10 ∷ []) [] _ (loop .to + 1) (loop .inv .3) (fold-last (loop .prev) (args .v .now) (loop .i) (loop-test .left) (if2 .left)) (c .before .before .put-byte4 .ensures) (omega arith)) refl
 
 pub put-folded-spec : {M : Type 1} → statement M

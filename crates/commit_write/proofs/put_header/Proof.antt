@@ -43,20 +43,23 @@ put-ended-requires c κs = search needs
 
 sub-put : tie.Need-sub-put
 sub-put c =
-    let args = c .before .before .before .before .before .before .before .before .before .before .args in
-    let pre = c .before .before .before .before .before .before .before .before .before .before .pre in
+    let at-args = c .before .before .before .before .before .before .before .before .before .before in
+    let args = at-args .args in
+    let pre = at-args .pre in
     omega (arith, header-well (args .bytes .now) (args .x) (pre .0))
 
 part-put-start : tie.Need-part-put-start
 part-put-start c =
-    let args = c .before .before .before .before .before .before .before .before .before .before .args in
-    let pre = c .before .before .before .before .before .before .before .before .before .before .pre in
+    let at-args = c .before .before .before .before .before .before .before .before .before .before in
+    let args = at-args .args in
+    let pre = at-args .pre in
     omega (arith, header-well (args .bytes .now) (args .x) (pre .0))
 
 part-put-end : tie.Need-part-put-end
 part-put-end c =
-    let args = c .before .before .before .before .before .before .before .before .before .before .args in
-    let pre = c .before .before .before .before .before .before .before .before .before .before .pre in
+    let at-args = c .before .before .before .before .before .before .before .before .before .before in
+    let args = at-args .args in
+    let pre = at-args .pre in
     omega (arith, header-well (args .bytes .now) (args .x) (pre .0))
 
 put-requires : tie.Need-put-requires
@@ -64,51 +67,77 @@ put-requires c κs = search needs
 
 sub-result : tie.Need-sub-result
 sub-result c =
-    let args = c .before .before .before .before .before .before .before .before .before .before .before .before .before .before .args in
-    let pre = c .before .before .before .before .before .before .before .before .before .before .before .before .before .before .pre in
+    let at-args = c .before .before .before .before .before .before .before .before .before .before .before .before .before .before in
+    let args = at-args .args in
+    let pre = at-args .pre in
     omega (arith, header-well (args .bytes .now) (args .x) (pre .0))
 
 add-result : tie.Need-add-result
 add-result c =
-    let args = c .before .before .before .before .before .before .before .before .before .before .before .before .before .before .args in
-    let pre = c .before .before .before .before .before .before .before .before .before .before .before .before .before .before .pre in
+    let at-args = c .before .before .before .before .before .before .before .before .before .before .before .before .before .before in
+    let args = at-args .args in
+    let pre = at-args .pre in
     omega (arith, header-well (args .bytes .now) (args .x) (pre .0))
 
 same-length : tie.Need-same-length
 same-length c = search needs
 
 returns : tie.Need-returns
-returns c = let k = folded-put (c .before .before .before .before .before .before .before .before .before .before .before .before .before .before .args .bytes .now) (c .before .before .before .before .before .before .before .before .before .before .before .before .before .before .args .x) (c .before .before .before .before .before .before .before .before .before .before .before .before .before .before .pre .0) _ _ _ (c .before .before .before .before .before .before .before .before .before .before .before .before .before .before .args .at) _ _ refl (c .before .before .before .before .before .before .before .before .before .put-ended .ensures) (c .before .before .before .before .before .if1 .taken) (c .before .before .put .ensures) refl in (k .past, k .holds)
+returns c =
+    let at-if1 = c .before .before .before .before .before in
+    let if1 = at-if1 .if1 in
+    let at-put-ended = at-if1 .before .before .before .before in
+    let put-ended = at-put-ended .put-ended in
+    let at-args = at-put-ended .before .before .before .before .before in
+    let args = at-args .args in
+    let pre = at-args .pre in
+    let k = folded-put (args .bytes .now) (args .x) (pre .0) _ _ _ (args .at) _ _ refl (put-ended .ensures) (if1 .taken) (c .before .before .put .ensures) refl in
+    (k .past, k .holds)
 
 sub-put-folded : tie.Need-sub-put-folded
 sub-put-folded c =
-    let args = c .before .before .before .before .before .before .before .before .before .before .args in
-    let pre = c .before .before .before .before .before .before .before .before .before .before .pre in
+    let at-args = c .before .before .before .before .before .before .before .before .before .before in
+    let args = at-args .args in
+    let pre = at-args .pre in
     omega (arith, header-well (args .bytes .now) (args .x) (pre .0))
 
 part-put-folded-start : tie.Need-part-put-folded-start
 part-put-folded-start c =
-    let args = c .before .before .before .before .before .before .before .before .before .before .args in
-    let pre = c .before .before .before .before .before .before .before .before .before .before .pre in
+    let at-args = c .before .before .before .before .before .before .before .before .before .before in
+    let args = at-args .args in
+    let pre = at-args .pre in
     omega (arith, header-well (args .bytes .now) (args .x) (pre .0))
 
 part-put-folded-end : tie.Need-part-put-folded-end
 part-put-folded-end c =
-    let args = c .before .before .before .before .before .before .before .before .before .before .args in
-    let pre = c .before .before .before .before .before .before .before .before .before .before .pre in
+    let at-args = c .before .before .before .before .before .before .before .before .before .before in
+    let args = at-args .args in
+    let pre = at-args .pre in
     omega (arith, header-well (args .bytes .now) (args .x) (pre .0))
 
 put-folded-requires : tie.Need-put-folded-requires
 put-folded-requires c κs =
-    let args = c .before .before .before .before .before .before .before .before .before .before .before .args in
-    let pre = c .before .before .before .before .before .before .before .before .before .before .before .pre in
+    let at-args = c .before .before .before .before .before .before .before .before .before .before .before in
+    let args = at-args .args in
+    let pre = at-args .pre in
     omega (arith, header-well (args .bytes .now) (args .x) (pre .0), value-length (args .bytes .now) (args .x) (pre .0))
 
 same-length-2 : tie.Need-same-length-2
 same-length-2 c = search needs
 
 returns-2 : tie.Need-returns-2
-returns-2 c = let k = plain-put (c .before .before .before .before .before .before .before .before .before .before .before .before .before .before .args .bytes .now) (c .before .before .before .before .before .before .before .before .before .before .before .before .before .before .args .x) (c .before .before .before .before .before .before .before .before .before .before .before .before .before .before .pre .0) _ _ _ (c .before .before .before .before .before .before .before .before .before .before .before .before .before .before .args .at) _ _ refl (c .before .before .before .before .before .before .before .before .before .put-ended .ensures) (c .before .before .before .before .before .if1 .left) (c .before .before .put-folded .ensures .1) (c .before .before .put-folded .ensures .0) in (k .past, k .holds)
+returns-2 c =
+    let at-put-folded = c .before .before in
+    let put-folded = at-put-folded .put-folded in
+    let at-if1 = at-put-folded .before .before .before in
+    let if1 = at-if1 .if1 in
+    let at-put-ended = at-if1 .before .before .before .before in
+    let put-ended = at-put-ended .put-ended in
+    let at-args = at-put-ended .before .before .before .before .before in
+    let args = at-args .args in
+    let pre = at-args .pre in
+    let k = plain-put (args .bytes .now) (args .x) (pre .0) _ _ _ (args .at) _ _ refl (put-ended .ensures) (if1 .left) (put-folded .ensures .1) (put-folded .ensures .0) in
+    (k .past, k .holds)
 
 pub put-header-spec : {M : Type 1} → statement M
 put-header-spec =

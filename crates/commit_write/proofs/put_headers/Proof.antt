@@ -29,7 +29,12 @@ header-at-requires : tie.Need-header-at-requires Inv-loop μ-loop
 header-at-requires c κs = search needs
 
 put-header-requires : tie.Need-put-header-requires Inv-loop μ-loop
-put-header-requires c κs = let s = headers-step (headerFits (c .before .before .before .before .before .before .before .args .bytes .now)) (c .before .before .before .before .before .before .before .args .headers .now) (length (c .before .before .before .before .before .before .before .args .headers .now) / width) (c .before .before .before .loop .i) (c .before .before .loop-test .taken) (c .before .before .before .loop .inv .2) in (rw (c .before .header-at .ensures) (s .0), (c .before .before .before .before .before .before .before .pre .1 .0, omega (arith, c .before .before .before .before .before .before .before .pre .1 .1, c .before .before .before .loop .inv .3)))
+put-header-requires c κs =
+    let args = c .before .before .before .before .before .before .before .args in
+    let pre = c .before .before .before .before .before .before .before .pre in
+    let loop = c .before .before .before .loop in
+    let s = headers-step (headerFits (args .bytes .now)) (args .headers .now) (length (args .headers .now) / width) (loop .i) (c .before .before .loop-test .taken) (loop .inv .2) in
+    (rw (c .before .header-at .ensures) (s .0), (pre .1 .0, omega (arith, pre .1 .1, loop .inv .3)))
 
 add-i : tie.Need-add-i Inv-loop μ-loop
 add-i c = search needs
@@ -38,15 +43,31 @@ loop-less : tie.Need-loop-less Inv-loop μ-loop
 loop-less c = search needs
 
 loop-again : tie.Need-loop-again Inv-loop μ-loop
-loop-again c = let s = headers-step (headerFits (c .before .before .before .before .before .before .before .before .before .before .args .bytes .now)) (c .before .before .before .before .before .before .before .before .before .before .args .headers .now) (length (c .before .before .before .before .before .before .before .before .before .before .args .headers .now) / width) (c .before .before .before .before .before .before .loop .i) (c .before .before .before .before .before .loop-test .taken) (c .before .before .before .before .before .before .loop .inv .2) in let f : headerFits (c .before .before .before .before .before .before .before .before .before .before .args .bytes .now) (c .before .before .before .before .header-at .result) ≡ true = rw (c .before .before .before .before .header-at .ensures) (s .0) in (omega arith, c .before .before .put-header .kept .0 ∙ c .before .before .before .before .before .before .loop .inv .1, s .1, omega (arith, c .before .before .before .before .before .before .loop .inv .3, header-le (c .before .before .before .before .before .before .before .before .before .before .args .bytes .now) (c .before .before .before .before .header-at .result) f (c .before .before .before .before .before .before .before .before .before .before .pre .1 .0), c .before .before .put-header .ensures .0), left-next (headerWritten (headerNamed (c .before .before .before .before .before .before .before .before .before .before .args .bytes .now) (c .before .before .before .before .header-at .result))) _ _ _ (c .before .before .before .before .before .before .loop .inv .4) (headers-next (c .before .before .before .before .before .before .before .before .before .before .args .bytes .now) (c .before .before .before .before .before .before .before .before .before .before .args .headers .now) (length (c .before .before .before .before .before .before .before .before .before .before .args .headers .now) / width) (c .before .before .before .before .before .before .loop .i) (c .before .before .before .before .before .loop-test .taken) (c .before .before .before .before .header-at .result) (c .before .before .before .before .header-at .ensures)) (c .before .before .put-header .ensures .1) (c .before .before .put-header .ensures .0), refl)
+loop-again c =
+    let at-put-header = c .before .before in
+    let put-header = at-put-header .put-header in
+    let at-header-at = at-put-header .before .before in
+    let header-at = at-header-at .header-at in
+    let at-loop-test = at-header-at .before in
+    let loop-test = at-loop-test .loop-test in
+    let at-loop = at-loop-test .before in
+    let loop = at-loop .loop in
+    let at-args = at-loop .before .before .before .before in
+    let args = at-args .args in
+    let pre = at-args .pre in
+    let s = headers-step (headerFits (args .bytes .now)) (args .headers .now) (length (args .headers .now) / width) (loop .i) (loop-test .taken) (loop .inv .2) in
+    let f : headerFits (args .bytes .now) (header-at .result) ≡ true = rw (header-at .ensures) (s .0) in
+    (omega arith, put-header .kept .0 ∙ loop .inv .1, s .1, omega (arith, loop .inv .3, header-le (args .bytes .now) (header-at .result) f (pre .1 .0), put-header .ensures .0), left-next (headerWritten (headerNamed (args .bytes .now) (header-at .result))) _ _ _ (loop .inv .4) (headers-next (args .bytes .now) (args .headers .now) (length (args .headers .now) / width) (loop .i) (loop-test .taken) (header-at .result) (header-at .ensures)) (put-header .ensures .1) (put-header .ensures .0), refl)
 
 same-length : tie.Need-same-length Inv-loop μ-loop
 same-length c = c .before .loop .inv .1
 
 returns : tie.Need-returns Inv-loop μ-loop
 returns c =
-    let args = c .before .before .before .before .before .args in
-    left-none (c .before .loop .inv .4) (headers-none (args .bytes .now) (args .headers .now) (length (args .headers .now) / width) (c .before .loop .i) (c .loop-test .left))
+    let args1 = c .before .before .before .before .before .args in
+    let loop = c .before .loop in
+    let args = args1 in
+    left-none (loop .inv .4) (headers-none (args .bytes .now) (args .headers .now) (length (args .headers .now) / width) (loop .i) (c .loop-test .left))
 
 pub put-headers-spec : {M : Type 1} → statement M
 put-headers-spec =

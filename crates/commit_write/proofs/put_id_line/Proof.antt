@@ -32,7 +32,16 @@ same-length : tie.Need-same-length
 same-length c = search needs
 
 returns : tie.Need-returns
-returns c = let from = c .before .before .before .before .before .before .before .before .before .before .before .before .before .before .before .args .at + length (c .before .before .before .before .before .before .before .before .before .before .before .before .before .before .before .args .word .now) + 1 in let k = id-put _ _ _ _ (c .before .before .before .before .before .before .before .before .before .before .before .before .before .before .before .args .word .now) (c .before .before .before .before .before .before .before .before .before .before .before .before .before .before .before .args .digits .now) (c .before .before .before .before .before .before .before .before .before .before .before .before .before .before .before .args .at) from (from + length (c .before .before .before .before .before .before .before .before .before .before .before .before .before .before .before .args .digits .now)) (from + length (c .before .before .before .before .before .before .before .before .before .before .before .before .before .before .before .args .digits .now) + 1) refl refl refl (c .before .before .before .before .before .before .before .before .before .before .put-ended .ensures) (c .before .before .before .before .before .before .put-digits .ensures) (c .before .before .put-byte .ensures) in (k .past, k .holds)
+returns c =
+    let at-put-digits = c .before .before .before .before .before .before in
+    let put-digits = at-put-digits .put-digits in
+    let at-put-ended = at-put-digits .before .before .before .before in
+    let put-ended = at-put-ended .put-ended in
+    let at-args = at-put-ended .before .before .before .before .before in
+    let args = at-args .args in
+    let from = args .at + length (args .word .now) + 1 in
+    let k = id-put _ _ _ _ (args .word .now) (args .digits .now) (args .at) from (from + length (args .digits .now)) (from + length (args .digits .now) + 1) refl refl refl (put-ended .ensures) (put-digits .ensures) (c .before .before .put-byte .ensures) in
+    (k .past, k .holds)
 
 pub put-id-line-spec : {M : Type 1} → statement M
 put-id-line-spec =

@@ -29,7 +29,14 @@ same-length : tie.Need-same-length
 same-length c = search needs
 
 returns : tie.Need-returns
-returns c = let from = c .before .before .before .before .before .before .before .before .before .before .before .args .at + length (c .before .before .before .before .before .before .before .before .before .before .before .args .word .now) + 1 in let k = line-put _ _ _ (c .before .before .before .before .before .before .before .before .before .before .before .args .word .now) (c .before .before .before .before .before .before .before .before .before .before .before .args .value .now) (c .before .before .before .before .before .before .before .before .before .before .before .args .at) from (from + length (c .before .before .before .before .before .before .before .before .before .before .before .args .value .now) + 1) refl refl (c .before .before .before .before .before .before .put-ended .ensures) (c .before .before .put-ended2 .ensures) in (k .past, k .holds)
+returns c =
+    let at-put-ended = c .before .before .before .before .before .before in
+    let put-ended = at-put-ended .put-ended in
+    let at-args = at-put-ended .before .before .before .before .before in
+    let args = at-args .args in
+    let from = args .at + length (args .word .now) + 1 in
+    let k = line-put _ _ _ (args .word .now) (args .value .now) (args .at) from (from + length (args .value .now) + 1) refl refl (put-ended .ensures) (c .before .before .put-ended2 .ensures) in
+    (k .past, k .holds)
 
 pub put-line-spec : {M : Type 1} → statement M
 put-line-spec =

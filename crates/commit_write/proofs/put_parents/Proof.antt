@@ -37,8 +37,9 @@ mul-end c =
 
 add-end : tie.Need-add-end Inv-loop μ-loop
 add-end c =
+    let args1 = c .before .before .before .before .before .before .args in
     let loop = c .before .before .loop in
-    let args = c .before .before .before .before .before .before .args in
+    let args = args1 in
     omega (arith, id-inside (args .h) (args .bytes .now) (getD (args .parents .now) (loop .i) 0) (parents-step (idFits (args .h) (args .bytes .now)) (args .parents .now) (loop .i) (c .before .loop-test .taken) (loop .inv .2) .0))
 
 slice-aggregate-put-id-line : tie.Need-slice-aggregate-put-id-line Inv-loop μ-loop
@@ -49,22 +50,35 @@ sub-put-id-line c = omega arith
 
 part-put-id-line-start : tie.Need-part-put-id-line-start Inv-loop μ-loop
 part-put-id-line-start c =
-    let loop = c .before .before .before .before .loop in
-    let args = c .before .before .before .before .before .before .before .before .args in
-    omega (arith, id-inside (args .h) (args .bytes .now) (getD (args .parents .now) (loop .i) 0) (parents-step (idFits (args .h) (args .bytes .now)) (args .parents .now) (loop .i) (c .before .before .before .loop-test .taken) (loop .inv .2) .0))
+    let args1 = c .before .before .before .before .before .before .before .before .args in
+    let loop1 = c .before .before .before .before .loop in
+    let loop-test = c .before .before .before .loop-test in
+    let loop = loop1 in
+    let args = args1 in
+    omega (arith, id-inside (args .h) (args .bytes .now) (getD (args .parents .now) (loop .i) 0) (parents-step (idFits (args .h) (args .bytes .now)) (args .parents .now) (loop .i) (loop-test .taken) (loop .inv .2) .0))
 
 part-put-id-line-end : tie.Need-part-put-id-line-end Inv-loop μ-loop
 part-put-id-line-end c =
-    let loop = c .before .before .before .before .loop in
-    let args = c .before .before .before .before .before .before .before .before .args in
-    omega (arith, id-inside (args .h) (args .bytes .now) (getD (args .parents .now) (loop .i) 0) (parents-step (idFits (args .h) (args .bytes .now)) (args .parents .now) (loop .i) (c .before .before .before .loop-test .taken) (loop .inv .2) .0))
+    let args1 = c .before .before .before .before .before .before .before .before .args in
+    let loop1 = c .before .before .before .before .loop in
+    let loop-test = c .before .before .before .loop-test in
+    let loop = loop1 in
+    let args = args1 in
+    omega (arith, id-inside (args .h) (args .bytes .now) (getD (args .parents .now) (loop .i) 0) (parents-step (idFits (args .h) (args .bytes .now)) (args .parents .now) (loop .i) (loop-test .taken) (loop .inv .2) .0))
 
 put-id-line-requires : tie.Need-put-id-line-requires Inv-loop μ-loop
 put-id-line-requires c κs =
-    let loop-test = c .before .before .before .before .loop-test in
-    let loop = c .before .before .before .before .before .loop in
-    let args = c .before .before .before .before .before .before .before .before .before .args in
-    let pre = c .before .before .before .before .before .before .before .before .before .pre in
+    let at-loop-test1 = c .before .before .before .before in
+    let loop-test1 = at-loop-test1 .loop-test in
+    let at-loop1 = at-loop-test1 .before in
+    let loop1 = at-loop1 .loop in
+    let at-args1 = at-loop1 .before .before .before .before in
+    let args1 = at-args1 .args in
+    let pre1 = at-args1 .pre in
+    let loop-test = loop-test1 in
+    let loop = loop1 in
+    let args = args1 in
+    let pre = pre1 in
     omega (arith, pre .1, loop .inv .3, id-length (args .h) (args .bytes .now) (getD (args .parents .now) (loop .i) 0) (parents-step (idFits (args .h) (args .bytes .now)) (args .parents .now) (loop .i) (loop-test .taken) (loop .inv .2) .0))
 
 add-i : tie.Need-add-i Inv-loop μ-loop
@@ -74,7 +88,18 @@ loop-less : tie.Need-loop-less Inv-loop μ-loop
 loop-less c = search needs
 
 loop-again : tie.Need-loop-again Inv-loop μ-loop
-loop-again c = let s = parents-step (idFits (c .before .before .before .before .before .before .before .before .before .before .before .before .args .h) (c .before .before .before .before .before .before .before .before .before .before .before .before .args .bytes .now)) (c .before .before .before .before .before .before .before .before .before .before .before .before .args .parents .now) (c .before .before .before .before .before .before .before .before .loop .i) (c .before .before .before .before .before .before .before .loop-test .taken) (c .before .before .before .before .before .before .before .before .loop .inv .2) in (omega arith, c .before .before .put-id-line .kept .0 ∙ c .before .before .before .before .before .before .before .before .loop .inv .1, s .1, omega (arith, c .before .before .before .before .before .before .before .before .loop .inv .3, id-line-le (c .before .before .before .before .before .before .before .before .before .before .before .before .args .h) (c .before .before .before .before .before .before .before .before .before .before .before .before .args .bytes .now) (getD (c .before .before .before .before .before .before .before .before .before .before .before .before .args .parents .now) (c .before .before .before .before .before .before .before .before .loop .i) 0) (c .before .before .before .before .before .before .before .before .before .before .before .before .pre .1 .0) (s .0), c .before .before .put-id-line .ensures .0), left-next (line parentWord (lowerHex (idNamed (c .before .before .before .before .before .before .before .before .before .before .before .before .args .h) (c .before .before .before .before .before .before .before .before .before .before .before .before .args .bytes .now) (getD (c .before .before .before .before .before .before .before .before .before .before .before .before .args .parents .now) (c .before .before .before .before .before .before .before .before .loop .i) 0)))) _ _ _ (c .before .before .before .before .before .before .before .before .loop .inv .4) (parents-next (c .before .before .before .before .before .before .before .before .before .before .before .before .args .h) (c .before .before .before .before .before .before .before .before .before .before .before .before .args .bytes .now) (c .before .before .before .before .before .before .before .before .before .before .before .before .args .parents .now) (c .before .before .before .before .before .before .before .before .loop .i) (c .before .before .before .before .before .before .before .loop-test .taken)) (c .before .before .put-id-line .ensures .1) (c .before .before .put-id-line .ensures .0))
+loop-again c =
+    let at-put-id-line = c .before .before in
+    let put-id-line = at-put-id-line .put-id-line in
+    let at-loop-test = at-put-id-line .before .before .before .before .before in
+    let loop-test = at-loop-test .loop-test in
+    let at-loop = at-loop-test .before in
+    let loop = at-loop .loop in
+    let at-args = at-loop .before .before .before .before in
+    let args = at-args .args in
+    let pre = at-args .pre in
+    let s = parents-step (idFits (args .h) (args .bytes .now)) (args .parents .now) (loop .i) (loop-test .taken) (loop .inv .2) in
+    (omega arith, put-id-line .kept .0 ∙ loop .inv .1, s .1, omega (arith, loop .inv .3, id-line-le (args .h) (args .bytes .now) (getD (args .parents .now) (loop .i) 0) (pre .1 .0) (s .0), put-id-line .ensures .0), left-next (line parentWord (lowerHex (idNamed (args .h) (args .bytes .now) (getD (args .parents .now) (loop .i) 0)))) _ _ _ (loop .inv .4) (parents-next (args .h) (args .bytes .now) (args .parents .now) (loop .i) (loop-test .taken)) (put-id-line .ensures .1) (put-id-line .ensures .0))
 
 same-length : tie.Need-same-length Inv-loop μ-loop
 same-length c = c .before .loop .inv .1

@@ -3,6 +3,8 @@ use borrow.Author.Needs.{needs}
 use Rattle.sarpukten.proofs.sarpukten_commit_size.Statement.{statement}
 use Rattle.sarpukten.proofs.sarpukten_commit_size.Tie as tie
 use mathlib.Core.Path.{_∙_, ap}
+use Rattle.ground.specs.declared.Answer.{Answer}
+use Rattle.header.specs.declared.CommitParts.{CommitParts}
 use Rattle.commit_write.specs.Write.{commitSize}
 use Rattle.sarpukten.proofs.Laws.{handed}
 
@@ -16,7 +18,12 @@ hand-requires : tie.Need-hand-requires
 hand-requires c κs = search needs
 
 returns : tie.Need-returns
-returns c = let a = c .before .before .before .before .before .before .before .args in handed (c .hand .ensures) (c .before .before .commit-size .ensures ∙ ap (λ p. commitSize (a .h) (a .bytes .now) p (a .parents .now) (a .headers .now)) (c .before .before .before .parts-in .ensures))
+returns c =
+    let k = c .before .before in
+    let x = k .before .parts-in .ensures in
+    let a = k .before .before .before .before .before .args in
+    let answer : CommitParts → Answer = λ p. commitSize (a .h) (a .bytes .now) p (a .parents .now) (a .headers .now) in
+    handed (c .hand .ensures) (k .commit-size .ensures ∙ ap answer x)
 
 pub sarpukten-commit-size-spec : {M : Type 1} → statement M
 sarpukten-commit-size-spec =

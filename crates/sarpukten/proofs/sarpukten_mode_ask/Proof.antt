@@ -48,11 +48,10 @@ cast-commit c = search needs
 
 returns : tie.Need-returns
 returns c =
-    let is-executable = c .before .before .before .before .is-executable in
-    let is-blob = c .before .before .before .before .before .is-blob in
-    let is-no-tree = c .before .before .before .before .before .before .is-no-tree in
-    let is-tree = c .before .before .before .before .before .before .before .is-tree in
-    cc (flag-number (is-tree .ensures), flag-number (is-no-tree .ensures), flag-number (is-blob .ensures), flag-number (is-executable .ensures), flag-number (c .before .before .before .is-blob-or-symlink .ensures), flag-number (c .before .before .is-link .ensures), flag-number (c .before .is-commit .ensures))
+    let i = c .before .is-commit in
+    let k = c .before .before in
+    let m = k .before .before .before in
+    cc (flag-number (m .before .before .is-tree .ensures), flag-number (m .before .is-no-tree .ensures), flag-number (m .is-blob .ensures), flag-number (k .before .before .is-executable .ensures), flag-number (k .before .is-blob-or-symlink .ensures), flag-number (k .is-link .ensures), flag-number (i .ensures))
 
 pub sarpukten-mode-ask-spec : {M : Type 1} → statement M
 sarpukten-mode-ask-spec =

@@ -5,6 +5,10 @@ use Rattle.sarpukten.proofs.sarpukten_write_commit.Tie as tie
 use mathlib.Core.Path.{_∙_, ap}
 use lib.ListN.{length}
 use Rattle.ground.specs.Verdict.{stored}
+use Prim.Native.Nat.{ℕ}
+use mathlib.Core.List.{List}
+use Rattle.ground.specs.declared.Answer.{Answer}
+use Rattle.header.specs.declared.CommitParts.{CommitParts}
 use Rattle.commit_write.specs.Write.{commitAnswer, written}
 use Rattle.sarpukten.proofs.Laws.{handed-with}
 
@@ -21,7 +25,14 @@ same-length : tie.Need-same-length
 same-length c = search needs
 
 returns : tie.Need-returns
-returns c = let a = c .before .before .before .before .before .before .before .before .before .before .before .args in let e = c .before .before .before .before .write-commit .ensures in let x = c .before .before .before .before .before .before .parts-in .ensures in handed-with (c .hand .ensures) (e .0 ∙ ap (λ p. commitAnswer (a .h) (a .bytes .now) p (a .parents .now) (a .headers .now) (length (a .out .now))) x) (e .1 ∙ ap (λ p. stored (commitAnswer (a .h) (a .bytes .now) p (a .parents .now) (a .headers .now) (length (a .out .now)) .verdict) (written (a .h) (a .bytes .now) p (a .parents .now) (a .headers .now)) (a .out .now)) x)
+returns c =
+    let k = c .before .before .before .before in
+    let e = k .write-commit .ensures in
+    let x = k .before .before .parts-in .ensures in
+    let a = k .before .before .before .before .before .before .before .args in
+    let answer : CommitParts → Answer = λ p. commitAnswer (a .h) (a .bytes .now) p (a .parents .now) (a .headers .now) (length (a .out .now)) in
+    let after : CommitParts → List ℕ = λ p. stored (answer p .verdict) (written (a .h) (a .bytes .now) p (a .parents .now) (a .headers .now)) (a .out .now) in
+    handed-with (c .hand .ensures) (e .0 ∙ ap answer x) (e .1 ∙ ap after x)
 
 pub sarpukten-write-commit-spec : {M : Type 1} → statement M
 sarpukten-write-commit-spec =

@@ -1,4 +1,4 @@
--- `trees_run::all_damages` meets its contract. Assumes nothing.
+-- `trees_run::all_damages` is safe and ends. Assumes nothing.
 use Rattle.trees_run.proofs.all_damages.Statement.{statement}
 use Rattle.trees_run.proofs.all_damages.Tie as tie
 use mathlib.Core.Path.{_≡_, refl}

@@ -1,4 +1,4 @@
--- `trees_run::all_stand` meets its contract. Assumes nothing.
+-- `trees_run::all_stand` is safe and ends. Assumes nothing.
 use Rattle.trees_run.proofs.all_stand.Statement.{statement}
 use Rattle.trees_run.proofs.all_stand.Tie as tie
 use Prim.Native.Nat.{_-_}

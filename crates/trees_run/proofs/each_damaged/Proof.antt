@@ -1,4 +1,4 @@
--- `trees_run::each_damaged` meets its contract. Assumes nothing.
+-- `trees_run::each_damaged` is safe and ends. Assumes nothing.
 use Rattle.trees_run.proofs.each_damaged.Statement.{statement}
 use Rattle.trees_run.proofs.each_damaged.Tie as tie
 use mathlib.Core.Path.{_≡_, refl}
@@ -28,7 +28,7 @@ damage-at-requires c κs = search needs
 add-i : tie.Need-add-i Inv-loop μ-loop
 add-i c =
     let fits = c .before .before .before .before .before .before .before .before .before .before .before .before .before .before .before .fits in
-    omega (arith, fits)
+    omega (arith, fits .n)
 
 loop-less : tie.Need-loop-less Inv-loop μ-loop
 loop-less c = search needs

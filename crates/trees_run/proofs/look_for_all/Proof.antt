@@ -1,4 +1,4 @@
--- `trees_run::look_for_all` meets its contract. Assumes nothing.
+-- `trees_run::look_for_all` is safe and ends. Assumes nothing.
 use Rattle.trees_run.proofs.look_for_all.Statement.{statement}
 use Rattle.trees_run.proofs.look_for_all.Tie as tie
 use Prim.Native.Nat.{_-_}
@@ -9,6 +9,9 @@ Inv-loop s h records n f₀ i₀ f i = Unit {0}
 
 abbrev μ-loop : tie.MeasureT-loop
 μ-loop s h records n f₀ i₀ f i = n - i
+
+no-finds-requires : tie.Need-no-finds-requires Inv-loop μ-loop
+no-finds-requires c κs = search needs
 
 loop-holds : tie.Need-loop-holds Inv-loop μ-loop
 loop-holds c = search needs
@@ -31,4 +34,13 @@ returns c = search needs
 pub look-for-all-spec : {M : Type 1} → statement M
 look-for-all-spec =
     tie.close
-    (tie.spec Inv-loop μ-loop loop-holds look-requires add-i loop-less loop-again returns)
+    (tie.spec
+    Inv-loop
+    μ-loop
+    no-finds-requires
+    loop-holds
+    look-requires
+    add-i
+    loop-less
+    loop-again
+    returns)

@@ -1,4 +1,4 @@
--- `trees_run::prepare` meets its contract. Assumes nothing.
+-- `trees_run::prepare` is safe and ends. Assumes nothing.
 use Rattle.trees_run.proofs.prepare.Statement.{statement}
 use Rattle.trees_run.proofs.prepare.Tie as tie
 use mathlib.Core.Path.{_≡_, refl}

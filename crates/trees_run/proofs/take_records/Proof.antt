@@ -1,4 +1,4 @@
--- `trees_run::take_records` meets its contract. Assumes nothing.
+-- `trees_run::take_records` is safe and ends. Assumes nothing.
 use Rattle.trees_run.proofs.take_records.Statement.{statement}
 use Rattle.trees_run.proofs.take_records.Tie as tie
 use Prim.Native.Nat.{_-_}

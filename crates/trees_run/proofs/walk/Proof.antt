@@ -1,4 +1,4 @@
--- `trees_run::walk` meets its contract. Assumes nothing.
+-- `trees_run::walk` is safe and ends. Assumes nothing.
 use Rattle.trees_run.proofs.walk.Statement.{statement}
 use Rattle.trees_run.proofs.walk.Tie as tie
 use Prim.Native.Nat.{_-_}
