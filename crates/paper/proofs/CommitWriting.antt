@@ -10,14 +10,15 @@ use Rattle.ground.specs.Scan.{freeOf}
 use Rattle.ground.specs.Verdict.{verdict, fine, counted, refused}
 use Rattle.ground.specs.declared.Verdict.{Verdict}
 use Rattle.ground.specs.declared.Answer.{Answer}
+use Rattle.ground.proofs.Laws.{stored-refused}
 use Rattle.header.specs.declared.CommitParts.{CommitParts}
 use Rattle.commit_grammar.specs.Grammar.{Encoding, absent, given}
 use Rattle.commit_check.specs.Check.{headersOf, tests, passing, judged, after, checked}
-use Rattle.commit_write.specs.Write.{encodingNamed, measured, encodingRefusal, encoded, commitAnswer}
-use Rattle.paper.specs.Call.{Refusal}
+use Rattle.commit_write.specs.Write.{encodingNamed, measured, encodingRefusal, encoded, commitSize, commitAnswer}
+use Rattle.paper.specs.Call.{Refusal, Fits}
 use Rattle.paper.specs.Calls.{ofVerdict, ofAnswer}
 use Rattle.paper.specs.Demand1.{OfCommitWriting}
-use Rattle.paper.proofs.Laws.{Of, done, zero, keeps-reads, keeps-writes, each-pick, each-passed, each-gate, each-fitted}
+use Rattle.paper.proofs.Laws.{Of, done, zero, wider, keeps-reads, keeps-writes, each-pick, each-passed, each-gate, each-fitted}
 
 -- every way to check a commit: 0, 1, 2, 10
 each-checked : (P : Verdict → Type 0) → P fine → P (verdict 1 0) → P (verdict 2 0) → ((i : ℕ) → P (verdict 10 i))
@@ -61,11 +62,18 @@ module _ (Q : Answer → Type 0) (count : (n : ℕ) → Q (counted n)) (one : Q 
   each-written thirteen fourteen eight room =
       each-fitted Q room _ (each-encoded Q thirteen fourteen (encodingNamed bytes p) (measured h bytes p parents headers room) (each-measured room)) eight
 
+pub size-fits : (h : ℕ) (bytes : List ℕ) (p : CommitParts) (parents headers : List ℕ) → Fits (0 ∷ 1 ∷ 2 ∷ 10 ∷ []) (ofAnswer (commitSize h bytes p parents headers))
+size-fits h bytes p parents headers =
+    each-measured (Of _ ofAnswer) (λ n. done refl refl) (zero refl refl) (zero refl refl) (λ i. zero refl refl) h bytes p parents headers 0
+
+pub commit-fits : (h : ℕ) (bytes : List ℕ) (p : CommitParts) (parents headers : List ℕ) (room : ℕ)
+    → Fits (0 ∷ 1 ∷ 2 ∷ 8 ∷ 10 ∷ 13 ∷ 14 ∷ []) (ofAnswer (commitAnswer h bytes p parents headers room))
+commit-fits h bytes p parents headers =
+    each-written (Of _ ofAnswer) (λ n. done refl refl) (zero refl refl) (zero refl refl) (λ i. zero refl refl) h bytes p parents headers (zero refl refl) (zero refl refl) (λ n. zero refl refl)
+
 pub of-commit-writing : OfCommitWriting
 of-commit-writing = record {
   check-commit = keeps-reads _ _ _ _ (λ i o m. m) (λ i. each-checked (Of _ ofVerdict) (done refl refl) (zero refl refl) (zero refl refl) (λ i. zero refl refl) _ _ _ _ _ _);
-  commit-size = keeps-reads _ _ _ _ (λ i o m. m)
-      (λ i. each-measured (Of _ ofAnswer) (λ n. done refl refl) (zero refl refl) (zero refl refl) (λ i. zero refl refl) _ _ _ _ _ _);
-  write-commit = keeps-writes _ _ _ _ _ _ _ (λ i o m. m)
-      (λ i. each-written (Of _ ofAnswer) (λ n. done refl refl) (zero refl refl) (zero refl refl) (λ i. zero refl refl) _ _ _ _ _ (zero refl refl) (zero refl refl) (λ n. zero refl refl) _);
+  commit-size = keeps-reads _ _ _ _ (λ i o m. m) (λ i. wider (size-fits _ _ _ _ _) refl);
+  write-commit = keeps-writes _ _ _ _ _ _ _ (λ i o m. m) (λ i. wider (commit-fits _ _ _ _ _ _) refl) (λ i z. stored-refused _ _ _ z);
 }

@@ -25,10 +25,10 @@ use Rattle.commit_read.specs.declared.Person.{Person}
 use Rattle.commit_read.specs.declared.Person.the-variants as person
 use Rattle.commit_read.specs.declared.Outcome.{Outcome}
 use Rattle.commit_read.specs.declared.Outcome.the-variants.{Whole, Fails}
-use Rattle.paper.specs.Call.{none, _and_, Refusal}
+use Rattle.paper.specs.Call.{none, _and_, Refusal, Fits}
 use Rattle.paper.specs.Calls.{ofAnswer, ofCommit}
 use Rattle.paper.specs.Demand1.{OfCommits}
-use Rattle.paper.proofs.Laws.{same, Of, done, zero, keeps, keeps-stores, each-pick, each-size, each-gate}
+use Rattle.paper.proofs.Laws.{same, Of, done, zero, wider, two-lists, keeps, keeps-writes, keeps-stores, each-pick, each-size, each-gate}
 
 -- every way to unfold: a value, 2, 10, 8
 each-plan : (Q : Plan → Type 0) → ((v : List ℕ) → Q (stores v)) → Q (refuses (verdict 2 0)) → Q (refuses (verdict 10 0)) → ((n : ℕ) → Q (refuses (verdict 8 n)))
@@ -44,7 +44,7 @@ each-plan Q value two ten eight s x room =
     v : List ℕ
     v = plainOf (x .mark) (valueOf s x)
 
-plan-kept : (out : List ℕ) (p : Plan) → Refusal (answerOf p .verdict) → afterOf out p ≡ out
+pub plan-kept : (out : List ℕ) (p : Plan) → Refusal (answerOf p .verdict) → afterOf out p ≡ out
 unfolding answerOf afterOf
 plan-kept out (stores v) z = absurd (z refl)
 plan-kept out (refuses v) z = refl
@@ -88,23 +88,30 @@ each-outcome Q whole one two eleven twelve four s h np nh =
         each-pick Q (leb (f .parents) np) _ (Fails (refusal 4 (f .parents) 0))
         (each-pick Q (leb (f .headers) nh) (Whole f) (Fails (refusal 4 (f .headers) 0)) (whole f) (four _)) (four _)
 
-outcome-kept : (s : List ℕ) (h : ℕ) (ps hs : List ℕ) (o : Outcome) → Refusal (answerIn o .verdict) → parentsIn h ps o ∷ headersIn s hs o ∷ [] ≡ ps ∷ hs ∷ []
+pub outcome-kept : (s : List ℕ) (h : ℕ) (ps hs : List ℕ) (o : Outcome) → Refusal (answerIn o .verdict) → parentsIn h ps o ∷ headersIn s hs o ∷ [] ≡ ps ∷ hs ∷ []
 unfolding answerIn parentsIn headersIn
 outcome-kept s h ps hs (Whole f) z = absurd (z refl)
 outcome-kept s h ps hs (Fails r) z = refl
 
-both-lists : {ps qs hs ks : List ℕ} → ps ≡ qs → hs ≡ ks → ps ∷ hs ∷ [] ≡ qs ∷ ks ∷ []
-both-lists p h = cc
+pub unfold-fits : (s : List ℕ) (x : HeaderRecord) (room : ℕ) → Fits (0 ∷ 2 ∷ 8 ∷ 10 ∷ []) (ofAnswer (answerOf (unfoldPlan s x room)))
+unfolding answerOf
+unfold-fits = each-plan (Of _ (λ p. ofAnswer (answerOf p))) (λ v. done refl refl) (zero refl refl) (zero refl refl) (λ n. zero refl refl)
+
+pub commit-fits : (s : List ℕ) (h np nh : ℕ) → Fits (0 ∷ 1 ∷ 2 ∷ 4 ∷ 11 ∷ 12 ∷ []) (ofCommit (answerIn (outcomeOf s h np nh)))
+unfolding answerIn
+commit-fits =
+    each-outcome (Of _ (λ o. ofCommit (answerIn o))) (λ f. done refl refl) (zero refl refl) (zero refl refl) (λ at k. zero refl refl) (λ at. zero refl refl) (λ n. zero refl refl)
 
 pub of-commits : OfCommits
-unfolding answerOf answerIn
 of-commits = record {
-  unfold-value = keeps _ _ _ _ (λ i o m. (m .0, ap (λ x. x ∷ []) (m .1)))
-      (λ i. each-plan (Of _ (λ p. ofAnswer (answerOf p))) (λ v. done refl refl) (zero refl refl) (zero refl refl) (λ n. zero refl refl) _ _ _)
-      (λ i z. ap (λ x. x ∷ []) (plan-kept _ _ z));
-  read-commit = keeps _ _ _ _ (λ i o m. (m .0, both-lists (m .1 .0) (m .1 .1)))
-      (λ i. each-outcome (Of _ (λ o. ofCommit (answerIn o))) (λ f. done refl refl) (zero refl refl) (zero refl refl) (λ at k. zero refl refl) (λ at. zero refl refl) (λ n. zero refl refl) _ _ _ _)
-      (λ i z. outcome-kept _ _ _ _ _ z);
+  unfold-value = keeps-writes _ _ _ _ _ _ _ (λ i o m. m) (λ i. wider (unfold-fits _ _ _) refl) (λ i z. plan-kept _ _ z);
+  read-commit = keeps _ _ (record {
+    answers = λ i. _;
+    hands = λ i. [];
+    leaves = λ i. _;
+    says = λ i. _;
+    told = λ i o m. (m .0, refl, two-lists (m .1 .0) (m .1 .1), ap ofCommit (m .0));
+  }) (λ i. wider (commit-fits _ _ _ _) refl) (λ i z. outcome-kept _ _ _ _ _ z);
   put-header = keeps-stores _ _ _ _ _ (λ i o m. (refl, m));
   commit-questions =
       (λ i o p. same) and (λ i o p. same) and (λ i o p. same) and (λ i o p. same) and (λ i o p. same) and (λ i o p. same) and (λ i o p. same) and (λ i o p. same)

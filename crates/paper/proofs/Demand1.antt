@@ -7,6 +7,7 @@ use Rattle.paper.proofs.Lookup as lookup
 use Rattle.paper.proofs.Writing as writing
 use Rattle.paper.proofs.Commits as commits
 use Rattle.paper.proofs.CommitWriting as commit-writing
+use Rattle.paper.proofs.Border as border
 
 pub first-demand : FirstDemand
 first-demand = record {
@@ -18,4 +19,5 @@ first-demand = record {
   of-writing = writing.of-writing;
   of-commits = commits.of-commits;
   of-commit-writing = commit-writing.of-commit-writing;
+  of-border = border.of-border;
 }

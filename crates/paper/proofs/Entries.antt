@@ -3,7 +3,7 @@ use Prim.Native.Nat.{ℕ}
 use native.Mathlib.Omega.{arith}
 use mathlib.Core.Path.{_≡_, refl}
 use mathlib.Core.Bool.{true}
-use mathlib.Core.List.{List}
+use mathlib.Core.List.{List, [], _∷_}
 use mathlib.Core.Logic.{_⊎_, ⊎-elim}
 use lib.Dec.{leb}
 use lib.ListN.{length, drop}
@@ -15,11 +15,11 @@ use Rattle.entry.specs.declared.Decoded.{Decoded}
 use Rattle.entry.specs.declared.Decoded.the-variants.{Whole, Broken}
 use Rattle.entry.specs.declared.Step.{Step}
 use Rattle.entry.proofs.Laws.{decode-three, step-end}
-use Rattle.paper.specs.Call.{none, _and_}
+use Rattle.paper.specs.Call.{none, _and_, Fits}
 use Rattle.paper.specs.Calls.{ofStep, ofDecoded}
 use Rattle.paper.specs.Demand1.{OfEntries}
 use Rattle.paper.specs.Sentences.{CursorSentences}
-use Rattle.paper.proofs.Laws.{same, Of, done, zero, keeps-reads, keeps-stores, each-pick, each-gate}
+use Rattle.paper.proofs.Laws.{same, Of, done, zero, wider, keeps-reads, keeps-stores, each-pick, each-gate}
 
 -- every way to decode: an entry, or 3 at its first byte
 each-decoded : (Q : Decoded → Type 0) → ((e : EntryRecord) (next : Cursor) → Q (Whole e next)) → (h at : ℕ) (b : List ℕ) → Q (Broken (verdict 3 at)) → Q (decode h at b)
@@ -30,7 +30,7 @@ each-decoded Q whole h at b three = go (decode h at b) refl
     go (Broken v) q = rw (decode-three h at b v q) three
 
 -- every way to step: 1 or 2 with the cursor as given, nothing at the end, 3 with the cursor at the end, an entry
-each-step : (Q : Step → Type 0) (h : ℕ) (s : List ℕ) (c : Cursor) → Q (noEntry (verdict 1 0) c) → Q (noEntry (verdict 2 0) c) → Q (noEntry fine c)
+pub each-step : (Q : Step → Type 0) (h : ℕ) (s : List ℕ) (c : Cursor) → Q (noEntry (verdict 1 0) c) → Q (noEntry (verdict 2 0) c) → Q (noEntry fine c)
     → Q (noEntry (verdict 3 (c .at)) (record { at = length s }))
     → ((e : EntryRecord) (next : Cursor) → Q (record { verdict = fine; found = true; entry = e; next = next })) → Q (stepOf h s c)
 unfolding stepOf stepFrom stepOver
@@ -50,9 +50,12 @@ cursor-sentences = record {
   past-end = λ h s c. step-end h s c;
 }
 
+pub step-fits : (h : ℕ) (s : List ℕ) (c : Cursor) → Fits (0 ∷ 1 ∷ 2 ∷ 3 ∷ []) (ofStep (stepOf h s c))
+step-fits h s c = each-step (Of _ ofStep) h s c (zero refl refl) (zero refl refl) (done refl refl) (zero refl refl) (λ e next. done refl refl)
+
 pub of-entries : OfEntries
 of-entries = record {
-  cursor-step = keeps-reads _ _ _ _ (λ i o m. m) (λ i. each-step (Of _ ofStep) _ _ _ (zero refl refl) (zero refl refl) (done refl refl) (zero refl refl) (λ e next. done refl refl));
+  cursor-step = keeps-reads _ _ _ _ (λ i o m. m) (λ i. wider (step-fits _ _ _) refl);
   cursor-decode = keeps-reads _ _ _ _ (λ i o m. m) (λ i. each-decoded (Of _ ofDecoded) (λ e next. done refl refl) _ _ _ (zero refl refl));
   put-entry = keeps-stores _ _ _ _ _ (λ i o m. (refl, m));
   entry-questions = (λ i o p. same) and (λ i o p. same) and (λ i o p. same) and none;

@@ -1,24 +1,32 @@
 -- From the equations of a contract to the first demand, and the ways through a gate. Assumes nothing.
 use Prim.Native.Nat.{ℕ}
 use mathlib.Core.Path.{_≡_, refl, sym, ap, subst, _∙_}
-use mathlib.Core.Bool.{Bool, true, false, _&&_}
+use mathlib.Core.Bool.{Bool, true, false, false≢true, _&&_, _||_}
 use mathlib.Core.List.{List, [], _∷_}
 use lib.Dec.{leb, ltb, eqb}
-use borrow.Author.Tests.{eqb-false}
+use borrow.Author.Tests.{eqb-true, eqb-false}
 use Rattle.ground.specs.Basics.{pick}
-use Rattle.ground.specs.Verdict.{verdict, counted, refused, mostBytes, mostRecords, idLength, sizeGate, gateOf, stored}
+use Rattle.ground.specs.Verdict.{verdict, fine, counted, refused, mostBytes, mostRecords, idLength, sizeGate, gateOf}
 use Rattle.ground.specs.declared.Verdict.{Verdict}
 use Rattle.ground.specs.declared.Answer.{Answer}
 use Rattle.ground.specs.declared.Gate.{Gate}
 use Rattle.ground.specs.declared.Gate.the-variants.{Open, Shut}
-use Rattle.ground.proofs.Laws.{stored-refused}
+use Rattle.ground.proofs.Laws.{and-left, and-right}
 use Rattle.output.specs.Output.{fitted}
-use Rattle.paper.specs.Call.{Call, Input, Outcome, Answered, Meets, Deed, Said, listed, nothing, Refusal, Fits, Keeps}
-use Rattle.paper.specs.Calls.{ofAnswer, reads, stores, writes}
+use Rattle.paper.specs.Call.{Call, Input, Outcome, Answered, Meets, Deed, Said, among, listed, nothing, Refusal, Fits, Keeps}
+use Rattle.paper.specs.Border.{hands}
+use Rattle.paper.specs.Calls.{ofVerdict, ofAnswer, reads, stores, writes}
 
 -- two that are the same as a third
 pub same : {A : Type 0} {x y z : A} → x ≡ z → y ≡ z → x ≡ y
 same p q = p ∙ sym q
+
+-- one list, and two, each the same as another
+pub one-list : {l m : List ℕ} → l ≡ m → l ∷ [] ≡ m ∷ []
+one-list e = ap (λ x. x ∷ []) e
+
+pub two-lists : {l m k n : List ℕ} → l ≡ m → k ≡ n → l ∷ k ∷ [] ≡ m ∷ n ∷ []
+two-lists p q = cc
 
 -- ---- what fits
 
@@ -38,40 +46,97 @@ done e k = record { known = k; empty = λ z y. absurd (z e) }
 pub zero : {numbers : List ℕ} {s : Said} → nothing (s .counts) ≡ true → Lists numbers (s .verdict) → Fits numbers s
 zero e k = record { known = k; empty = λ z y. e }
 
+-- every number of one list is among others
+abbrev within : List ℕ → List ℕ → Bool
+within [] numbers = true
+within (k ∷ ks) numbers = among k numbers && within ks numbers
+
+among-within : (n : ℕ) (few numbers : List ℕ) → within few numbers ≡ true → among n few ≡ true → among n numbers ≡ true
+among-within n [] numbers w e = absurd (false≢true e)
+among-within n (k ∷ ks) numbers w e = go (among-within n ks numbers (and-right (among k numbers) (within ks numbers) w)) (eqb n k) refl e
+  where
+    go : (among n ks ≡ true → among n numbers ≡ true) → (b : Bool) → eqb n k ≡ b → (b || among n ks) ≡ true → among n numbers ≡ true
+    go rest true q e = rw (eqb-true n k q) (and-left (among k numbers) (within ks numbers) w)
+    go rest false q e = rest e
+
+-- what fits few numbers fits more
+pub wider : {few numbers : List ℕ} {s : Said} → Fits few s → within few numbers ≡ true → Fits numbers s
+wider {few} {numbers} {s} f w =
+    let v = s .verdict in
+    let a : among (v .number) numbers ≡ true = among-within (v .number) few numbers w (and-left (among (v .number) few) _ (f .known)) in
+    record { known = rw a (and-right (among (v .number) few) _ (f .known)); empty = f .empty }
+
 -- ---- from a contract to the demand
 
--- a call whose contract says what it answers and what it leaves: what the demand says of those it says of the call
-pub keeps : (d : Deed) (numbers : List ℕ) (f : (i : Input (d .call)) → Answered (d .call) i) (g : Input (d .call) → List (List ℕ))
-    → ((i : Input (d .call)) (o : Outcome (d .call) i) → Meets (d .call) i o → (o .answer ≡ f i) × (d .after i o ≡ g i))
-    → ((i : Input (d .call)) → Fits numbers (d .said i (f i)))
-    → ((i : Input (d .call)) → Refusal (d .said i (f i) .verdict) → g i ≡ d .before i)
-    → Keeps d numbers
-keeps d numbers f g tells fits kept = record {
-  once = λ i o p m n. (same (tells i o m .0) (tells i p n .0), same (tells i o m .1) (tells i p n .1));
-  fits = λ i o m. subst (λ x. Fits numbers (d .said i x)) (sym (tells i o m .0)) (fits i);
-  leaves = λ i o m z. tells i o m .1 ∙ kept i (λ e. z (ap (λ x. d .said i x .verdict .number) (tells i o m .0) ∙ e));
+-- what a contract makes of the arguments: the answer, the numbers handed over, what was lent at the end, and so what is said
+pub record Tells (d : Deed) : Type 0 where
+  pub answers : (i : Input (d .call)) → Answered (d .call) i
+  pub hands : Input (d .call) → List ℕ
+  pub leaves : Input (d .call) → List (List ℕ)
+  pub says : Input (d .call) → Said
+  pub told : (i : Input (d .call)) (o : Outcome (d .call) i) → Meets (d .call) i o
+      → (o .answer ≡ answers i) × (d .handed i o ≡ hands i) × (d .after i o ≡ leaves i) × (d .said i o ≡ says i)
+
+-- what the demand says of that it says of the call
+pub keeps : (d : Deed) (numbers : List ℕ) (t : Tells d) → ((i : Input (d .call)) → Fits numbers (t .says i))
+    → ((i : Input (d .call)) → Refusal (t .says i .verdict) → t .leaves i ≡ d .before i) → Keeps d numbers
+keeps d numbers t fits kept = record {
+  once = λ i o p m n. let a = t .told i o m in let b = t .told i p n in (same (a .0) (b .0), same (a .1) (b .1), same (a .2) (b .2));
+  fits = λ i o m. subst (Fits numbers) (sym (t .told i o m .3)) (fits i);
+  leaves = λ i o m z. t .told i o m .2 ∙ kept i (λ e. z (ap (λ (s : Said). s .verdict .number) (t .told i o m .3) ∙ e));
 }
 
 -- a call that is lent nothing to write
 pub keeps-reads : (c : Call) (said : (i : Input c) → Answered c i → Said) (numbers : List ℕ) (f : (i : Input c) → Answered c i)
     → ((i : Input c) (o : Outcome c i) → Meets c i o → o .answer ≡ f i) → ((i : Input c) → Fits numbers (said i (f i))) → Keeps (reads c said) numbers
-keeps-reads c said numbers f tells fits = keeps (reads c said) numbers f (λ i. []) (λ i o m. (tells i o m, refl)) fits (λ i z. refl)
+keeps-reads c said numbers f told fits =
+    keeps (reads c said) numbers (record {
+      answers = f;
+      hands = λ i. [];
+      leaves = λ i. [];
+      says = λ i. said i (f i);
+      told = λ i o m. (told i o m, refl, refl, ap (said i) (told i o m));
+    }) fits (λ i z. refl)
 
 -- a call that writes, after its answer's verdict, to one thing lent
 pub keeps-writes : (c : Call) (is : (i : Input c) → Answered c i → Answer) (before : Input c → List ℕ) (after : (i : Input c) → Outcome c i → List ℕ)
-    (numbers : List ℕ) (f : (i : Input c) → Answered c i) (l : Input c → List ℕ)
-    → ((i : Input c) (o : Outcome c i) → Meets c i o → (o .answer ≡ f i) × (after i o ≡ stored (is i (f i) .verdict) (l i) (before i)))
-    → ((i : Input c) → Fits numbers (ofAnswer (is i (f i)))) → Keeps (writes c is before after) numbers
-keeps-writes c is before after numbers f l tells fits =
-    keeps (writes c is before after) numbers f (λ i. stored (is i (f i) .verdict) (l i) (before i) ∷ [])
-    (λ i o m. (tells i o m .0, ap (λ x. x ∷ []) (tells i o m .1))) fits (λ i z. ap (λ x. x ∷ []) (stored-refused _ _ _ z))
+    (numbers : List ℕ) (f : (i : Input c) → Answered c i) (g : Input c → List ℕ)
+    → ((i : Input c) (o : Outcome c i) → Meets c i o → (o .answer ≡ f i) × (after i o ≡ g i)) → ((i : Input c) → Fits numbers (ofAnswer (is i (f i))))
+    → ((i : Input c) → Refusal (is i (f i) .verdict) → g i ≡ before i) → Keeps (writes c is before after) numbers
+keeps-writes c is before after numbers f g told fits kept =
+    keeps (writes c is before after) numbers (record {
+      answers = f;
+      hands = λ i. [];
+      leaves = λ i. g i ∷ [];
+      says = λ i. ofAnswer (is i (f i));
+      told = λ i o m. (told i o m .0, refl, one-list (told i o m .1), ap (λ x. ofAnswer (is i x)) (told i o m .0));
+    }) fits (λ i z. one-list (kept i z))
 
 -- a call that only stores
 pub keeps-stores : (c : Call) (before : Input c → List ℕ) (after : (i : Input c) → Outcome c i → List ℕ) (f : (i : Input c) → Answered c i) (g : Input c → List ℕ)
     → ((i : Input c) (o : Outcome c i) → Meets c i o → (o .answer ≡ f i) × (after i o ≡ g i)) → Keeps (stores c before after) (0 ∷ [])
-keeps-stores c before after f g tells =
-    keeps (stores c before after) (0 ∷ []) f (λ i. g i ∷ []) (λ i o m. (tells i o m .0, ap (λ x. x ∷ []) (tells i o m .1))) (λ i. done refl refl)
-    (λ i z. absurd (z refl))
+keeps-stores c before after f g told =
+    keeps (stores c before after) (0 ∷ []) (record {
+      answers = f;
+      hands = λ i. [];
+      leaves = λ i. g i ∷ [];
+      says = λ i. ofVerdict fine;
+      told = λ i o m. (told i o m .0, refl, one-list (told i o m .1), refl);
+    }) (λ i. done refl refl) (λ i z. absurd (z refl))
+
+-- a call that hands its answer over in lent numbers
+pub keeps-hands : (c : Call) (handed : (i : Input c) → Outcome c i → List ℕ) (says : List ℕ → Said) (before : Input c → List (List ℕ))
+    (after : (i : Input c) → Outcome c i → List (List ℕ)) (numbers : List ℕ) (f : (i : Input c) → Answered c i) (n : Input c → List ℕ) (g : Input c → List (List ℕ))
+    → ((i : Input c) (o : Outcome c i) → Meets c i o → (o .answer ≡ f i) × (handed i o ≡ n i) × (after i o ≡ g i)) → ((i : Input c) → Fits numbers (says (n i)))
+    → ((i : Input c) → Refusal (says (n i) .verdict) → g i ≡ before i) → Keeps (hands c handed says before after) numbers
+keeps-hands c handed says before after numbers f n g told fits kept =
+    keeps (hands c handed says before after) numbers (record {
+      answers = f;
+      hands = n;
+      leaves = g;
+      says = λ i. says (n i);
+      told = λ i o m. let t = told i o m in (t .0, t .1, t .2, ap says (t .1));
+    }) fits kept
 
 -- ---- every way through a test and a gate
 

@@ -6,5 +6,6 @@ pub mod Lookup
 pub mod Writing
 pub mod Commits
 pub mod CommitWriting
+pub mod Border
 pub mod Demand1
 pub mod Demand3

@@ -18,7 +18,7 @@ use Rattle.paper.specs.Call.{none, _and_, Fits}
 use Rattle.paper.specs.Calls.{ofLooked}
 use Rattle.paper.specs.Demand1.{OfLookup}
 use Rattle.paper.specs.Sentences.{LookupSentences}
-use Rattle.paper.proofs.Laws.{same, Of, done, zero, keeps-reads, each-gate}
+use Rattle.paper.proofs.Laws.{same, Of, done, zero, wider, keeps-reads, each-gate}
 
 -- every way to look up: found, 15, 1, 2, 10
 each-looked : (Q : Looked → Type 0) → ((i c : ℕ) → Q (found i c)) → ((c : ℕ) → Q (absent c)) → Q (declined (verdict 1 0)) → Q (declined (verdict 2 0))
@@ -46,7 +46,7 @@ lookup-sentences = record {
   few = lookup-count;
 }
 
-looked-fits : (h : ℕ) (object : List ℕ) (records : List EntryRecord) (name : List ℕ) (folder : Bool)
+pub looked-fits : (h : ℕ) (object : List ℕ) (records : List EntryRecord) (name : List ℕ) (folder : Bool)
     → Fits (0 ∷ 1 ∷ 2 ∷ 10 ∷ 15 ∷ []) (ofLooked (lookupIn h object records name folder))
 looked-fits =
     each-looked (Of _ ofLooked) (λ i c. done refl refl) (λ c. record { known = refl; empty = λ z y. absurd (y refl) }) (zero refl refl) (zero refl refl) (λ i. zero refl refl)
@@ -59,11 +59,11 @@ two-facts 𝓤 φ ψ χ f =
 
 pub of-lookup : OfLookup
 of-lookup = record {
-  bisect-entry = keeps-reads _ _ _ _ (λ i o m. m) (λ i. looked-fits _ _ _ _ _);
-  bisect-array = keeps-reads _ _ _ _ (λ i o m. m) (λ i. looked-fits _ _ _ _ _);
+  bisect-entry = keeps-reads _ _ _ _ (λ i o m. m) (λ i. wider (looked-fits _ _ _ _ _) refl);
+  bisect-array = keeps-reads _ _ _ _ (λ i o m. m) (λ i. wider (looked-fits _ _ _ _ _) refl);
   bisect-records = record {
     once = λ M 𝓤 H A mem run κs a g x y w v. two-facts 𝓤 _ _ (x ≡ y) same;
-    fits = λ M 𝓤 H A mem run κs a g x w. fact-mono 𝓤 _ _ (λ p. subst (Of _ ofLooked) (sym p) (looked-fits _ _ _ _ _));
+    fits = λ M 𝓤 H A mem run κs a g x w. fact-mono 𝓤 _ _ (λ p. subst (Of _ ofLooked) (sym p) (wider (looked-fits _ _ _ _ _) refl));
   };
   lookup-steps = (λ i o p. same) and (λ i o p. same) and (λ i o p. same) and (λ i o p. same) and none;
 }

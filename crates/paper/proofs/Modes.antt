@@ -2,7 +2,7 @@
 use Prim.Native.Nat.{ℕ, _/_, _%_}
 use mathlib.Core.Path.{refl}
 use mathlib.Core.Bool.{_||_}
-use mathlib.Core.List.{List}
+use mathlib.Core.List.{List, [], _∷_}
 use lib.Dec.{eqb}
 use lib.ListN.{length}
 use Rattle.ground.specs.Verdict.{verdict}
@@ -12,10 +12,10 @@ use Rattle.mode.specs.declared.EntryMode.{EntryMode}
 use Rattle.mode.specs.declared.ModeAnswer.{ModeAnswer}
 use Rattle.mode.specs.declared.ModeRead.{ModeRead}
 use Rattle.mode.specs.declared.ModeRead.the-variants.{Mode, Bad}
-use Rattle.paper.specs.Call.{none, _and_}
+use Rattle.paper.specs.Call.{none, _and_, Fits}
 use Rattle.paper.specs.Calls.{ofMode, ofGate}
 use Rattle.paper.specs.Demand1.{OfGround, OfModes}
-use Rattle.paper.proofs.Laws.{same, Of, done, zero, keeps-reads, keeps-stores, each-pick, each-size, each-gate}
+use Rattle.paper.proofs.Laws.{same, Of, done, zero, wider, keeps-reads, keeps-stores, each-pick, each-size, each-gate}
 
 -- every way to read a mode text alone: a mode, 2, 3
 each-alone : (Q : ModeAnswer → Type 0) → ((m : EntryMode) → Q (accepted m)) → Q (rejected (verdict 2 0)) → Q (rejected (verdict 3 0)) → (i : List ℕ) → Q (modeAlone i)
@@ -33,6 +33,12 @@ each-number Q mode other n =
     each-pick Q (eqb n 16384 || eqb n 40960 || eqb n 57344 || eqb (n / 0o100000 % 2) 1)
     (accepted (record { internal = n % 0o200000 })) (rejected (verdict 23 0)) (mode _) other
 
+pub alone-fits : (i : List ℕ) → Fits (0 ∷ 2 ∷ 3 ∷ []) (ofMode (modeAlone i))
+alone-fits = each-alone (Of _ ofMode) (λ m. done refl refl) (zero refl refl) (zero refl refl)
+
+pub number-fits : (n : ℕ) → Fits (0 ∷ 23 ∷ []) (ofMode (fromNumber n))
+number-fits = each-number (Of _ ofMode) (λ m. done refl refl) (zero refl refl)
+
 pub of-ground : OfGround
 of-ground = record {
   sizes = keeps-reads _ _ _ _ (λ i o m. m) (λ i. each-size (Of _ ofGate) (done refl refl) (zero refl refl) _ _);
@@ -44,8 +50,8 @@ of-ground = record {
 
 pub of-modes : OfModes
 of-modes = record {
-  from-bytes = keeps-reads _ _ _ _ (λ i o m. m) (λ i. each-alone (Of _ ofMode) (λ m. done refl refl) (zero refl refl) (zero refl refl) _);
-  from-number = keeps-reads _ _ _ _ (λ i o m. m) (λ i. each-number (Of _ ofMode) (λ m. done refl refl) (zero refl refl) _);
+  from-bytes = keeps-reads _ _ _ _ (λ i o m. m) (λ i. wider (alone-fits _) refl);
+  from-number = keeps-reads _ _ _ _ (λ i o m. m) (λ i. wider (number-fits _) refl);
   mode-questions =
       (λ i o p. same) and (λ i o p. same) and (λ i o p. same) and (λ i o p. same) and (λ i o p. same) and (λ i o p. same) and (λ i o p. same)
       and (λ i o p. same) and (λ i o p. same) and (λ i o p. same) and (λ i o p. same) and (λ i o p. same) and (λ i o p. same) and (λ i o p. same) and none;

@@ -2,13 +2,14 @@
 use Prim.Native.Nat.{ℕ}
 use mathlib.Core.Path.{_≡_, refl}
 use mathlib.Core.Bool.{Bool, true, false}
-use mathlib.Core.List.{List, []}
+use mathlib.Core.List.{List, [], _∷_}
 use lib.Dec.{leb}
 use lib.ListN.{length}
 use denote.Ref.{now}
 use Rattle.ground.specs.Basics.{pick}
 use Rattle.ground.specs.Verdict.{verdict, counted, refused, mostRecords}
 use Rattle.ground.specs.declared.Answer.{Answer}
+use Rattle.ground.proofs.Laws.{stored-refused}
 use Rattle.entry.specs.Record.{many}
 use Rattle.reading.specs.Listing.{Listing, listing, tally}
 use Rattle.reading.specs.Rules.{orElse, isText, judge, permitted, isAfter, gitRules, strictly}
@@ -17,9 +18,10 @@ use Rattle.reading.specs.declared.Counted.{Counted}
 use Rattle.reading.specs.declared.Counted.the-variants.{Total, Stopped}
 use Rattle.reading.proofs.Laws.{Stops, tally-stops, plain-stops, cut-stops}
 use Rattle.mode.specs.Table.{rows}
+use Rattle.paper.specs.Call.{Fits}
 use Rattle.paper.specs.Calls.{ofAnswer}
 use Rattle.paper.specs.Demand1.{OfReading}
-use Rattle.paper.proofs.Laws.{Of, done, zero, keeps-writes, each-pick, each-gate}
+use Rattle.paper.proofs.Laws.{Of, done, zero, wider, keeps-writes, each-pick, each-gate}
 
 -- every way to read: a count, 1, 2, 3, 4; strictly also 5, 6 and 7
 module _ (Q : Answer → Type 0) (count : (n : ℕ) → Q (counted n)) (one : Q (refused (verdict 1 0))) (two : Q (refused (verdict 2 0)))
@@ -58,11 +60,16 @@ module _ (Q : Answer → Type 0) (count : (n : ℕ) → Q (counted n)) (one : Q 
         said at true false place z = six at
         said at false name place z = five at
 
+pub plain-fits : (h : ℕ) (s lent : List ℕ) → Fits (0 ∷ 1 ∷ 2 ∷ 3 ∷ 4 ∷ []) (ofAnswer (readAnswer h s (listing h s) lent))
+plain-fits = each-plain (Of _ ofAnswer) (λ n. done refl refl) (zero refl refl) (zero refl refl) (λ at. zero refl refl) (λ n. zero refl refl)
+
+pub strict-fits : (h : ℕ) (s lent : List ℕ) → Fits (0 ∷ 1 ∷ 2 ∷ 3 ∷ 4 ∷ 5 ∷ 6 ∷ 7 ∷ []) (ofAnswer (readAnswer h s (strictly gitRules h s) lent))
+strict-fits h s lent =
+    each-strict (Of _ ofAnswer) (λ n. done refl refl) (zero refl refl) (zero refl refl) (λ at. zero refl refl) (λ n. zero refl refl) h s lent
+    (λ at. zero refl refl) (λ at. zero refl refl) (λ at. zero refl refl)
+
 pub of-reading : OfReading
 of-reading = record {
-  read-tree = keeps-writes _ _ _ _ _ _ _ (λ i o m. m)
-      (λ i. each-plain (Of _ ofAnswer) (λ n. done refl refl) (zero refl refl) (zero refl refl) (λ at. zero refl refl) (λ n. zero refl refl) _ (now (i .args .0)) (now (i .args .1 .1 .0)));
-  read-tree-strict = keeps-writes _ _ _ _ _ _ _ (λ i o m. m)
-      (λ i. each-strict (Of _ ofAnswer) (λ n. done refl refl) (zero refl refl) (zero refl refl) (λ at. zero refl refl) (λ n. zero refl refl) _ (now (i .args .0)) (now (i .args .1 .1 .0))
-      (λ at. zero refl refl) (λ at. zero refl refl) (λ at. zero refl refl));
+  read-tree = keeps-writes _ _ _ _ _ _ _ (λ i o m. m) (λ i. wider (plain-fits _ (now (i .args .0)) (now (i .args .1 .1 .0))) refl) (λ i z. stored-refused _ _ _ z);
+  read-tree-strict = keeps-writes _ _ _ _ _ _ _ (λ i o m. m) (λ i. wider (strict-fits _ (now (i .args .0)) (now (i .args .1 .1 .0))) refl) (λ i z. stored-refused _ _ _ z);
 }

@@ -10,6 +10,7 @@ use Rattle.ground.specs.Scan.{freeOf}
 use Rattle.ground.specs.Verdict.{verdict, fine, counted, refused}
 use Rattle.ground.specs.declared.Verdict.{Verdict}
 use Rattle.ground.specs.declared.Answer.{Answer}
+use Rattle.ground.proofs.Laws.{stored-refused}
 use Rattle.output.specs.Output.{gated, fitted}
 use Rattle.entry.specs.Record.{recordsOf, wellFormed, nameOf}
 use Rattle.entry.specs.declared.EntryRecord.{EntryRecord}
@@ -18,11 +19,11 @@ use Rattle.tree_write.proofs.Done.{done-size, done-length}
 use Rattle.loose_header.specs.Header.{looseHeader, headerAnswer}
 use Rattle.loose_header.proofs.Laws.{header-most}
 use Rattle.commit_write.proofs.Done as commit
-use Rattle.paper.specs.Call.{none, _and_, Refusal}
+use Rattle.paper.specs.Call.{none, _and_, Refusal, Fits}
 use Rattle.paper.specs.Calls.{ofAnswer}
 use Rattle.paper.specs.Demand1.{OfWriting}
 use Rattle.paper.specs.Sentences.{SizeSentences}
-use Rattle.paper.proofs.Laws.{same, Of, done, zero, keeps-reads, keeps-writes, each-pick, each-passed, each-gate, each-fitted}
+use Rattle.paper.proofs.Laws.{same, Of, done, zero, wider, keeps-reads, keeps-writes, each-pick, each-passed, each-gate, each-fitted}
 
 -- every way to judge records: 0, 10 at an index, and when they are to be written 9 at one
 each-judged : (P : Verdict → Type 0) (writing : Bool) → P fine → ((i : ℕ) → P (verdict 10 i)) → ((i : ℕ) → writing ≡ true → P (verdict 9 i))
@@ -78,13 +79,20 @@ size-sentences = record {
   true-commit-size = commit.done-length;
 }
 
+pub size-fits : (h : ℕ) (bytes records : List ℕ) → Fits (0 ∷ 1 ∷ 2 ∷ 10 ∷ []) (ofAnswer (treeSize h bytes records))
+size-fits = each-size-asked (Of _ ofAnswer) (λ n. done refl refl) (zero refl refl) (zero refl refl) (λ i. zero refl refl)
+
+pub tree-fits : (h : ℕ) (bytes records : List ℕ) (room : ℕ) → Fits (0 ∷ 1 ∷ 2 ∷ 8 ∷ 9 ∷ 10 ∷ []) (ofAnswer (treeAnswer h bytes records room))
+tree-fits h bytes records =
+    each-written (Of _ ofAnswer) (λ n. done refl refl) (zero refl refl) (zero refl refl) (λ i. zero refl refl) h bytes records (λ i. zero refl refl) (λ n. zero refl refl)
+
+pub header-fits : (kind size room : ℕ) → Fits (0 ∷ 8 ∷ 23 ∷ []) (ofAnswer (headerAnswer kind size room))
+header-fits = each-header (Of _ ofAnswer) (λ n. done refl refl) (zero refl refl) (λ n. zero refl refl)
+
 pub of-writing : OfWriting
 of-writing = record {
-  tree-size = keeps-reads _ _ _ _ (λ i o m. m)
-      (λ i. each-size-asked (Of _ ofAnswer) (λ n. done refl refl) (zero refl refl) (zero refl refl) (λ i. zero refl refl) _ _ _);
-  write-tree = keeps-writes _ _ _ _ _ _ _ (λ i o m. m)
-      (λ i. each-written (Of _ ofAnswer) (λ n. done refl refl) (zero refl refl) (zero refl refl) (λ i. zero refl refl) _ _ _ (λ i. zero refl refl) (λ n. zero refl refl) _);
-  loose-header = keeps-writes _ _ _ _ _ _ _ (λ i o m. m)
-      (λ i. each-header (Of _ ofAnswer) (λ n. done refl refl) (zero refl refl) (λ n. zero refl refl) _ _ _);
+  tree-size = keeps-reads _ _ _ _ (λ i o m. m) (λ i. wider (size-fits _ _ _) refl);
+  write-tree = keeps-writes _ _ _ _ _ _ _ (λ i o m. m) (λ i. wider (tree-fits _ _ _ _) refl) (λ i z. stored-refused _ _ _ z);
+  loose-header = keeps-writes _ _ _ _ _ _ _ (λ i o m. m) (λ i. wider (header-fits _ _ _) refl) (λ i z. stored-refused _ _ _ z);
   fit = (λ i o p. same) and none;
 }

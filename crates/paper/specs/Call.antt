@@ -10,6 +10,8 @@ use denote.Triple.Clauses.{AtExit}
 use borrow.Fn.Kinds.{Out, PK, RK, Dens, resT, endedOf}
 use Rattle.ground.specs.declared.Verdict.{Verdict}
 
+-- how many lifetimes it names, the kinds of its parameters and of its result, and its contract: what is promised of the arguments, the result, and the
+-- arguments at the end
 pub record Call : Type 3 where
   pub lifetimes : ℕ
   pub params : List (PK lifetimes)
@@ -53,12 +55,14 @@ pub record Said : Type 0 where
   pub verdict : Verdict
   pub counts : List ℕ
 
--- the call, what is lent to it to be written (each buffer and list, as it was and as it is at the end), and what its answer says
+-- The call; what is lent to it to be written (each buffer and list), as it was and as it is at the end; the numbers that are lent for its answer alone, at
+-- the end (none, but for the calls under C names); and what its answer says.
 pub record Deed : Type 3 where
   pub call : Call
   pub before : Input call → List (List ℕ)
   pub after : (i : Input call) → Outcome call i → List (List ℕ)
-  pub said : (i : Input call) → Answered call i → Said
+  pub handed : (i : Input call) → Outcome call i → List ℕ
+  pub said : (i : Input call) → Outcome call i → Said
 
 -- a number is one of these
 abbrev pub among : ℕ → List ℕ → Bool
@@ -89,6 +93,7 @@ pub record Fits (numbers : List ℕ) (s : Said) : Type 0 where
 -- The first demand of such a call: no second answer meets the contract, and nothing else can stand in what was lent; it gives these numbers and no other;
 -- and a refusal leaves all that was lent as it was.
 pub record Keeps (d : Deed) (numbers : List ℕ) : Type 0 where
-  pub once : (i : Input (d .call)) (o p : Outcome (d .call) i) → Meets (d .call) i o → Meets (d .call) i p → (o .answer ≡ p .answer) × (d .after i o ≡ d .after i p)
-  pub fits : (i : Input (d .call)) (o : Outcome (d .call) i) → Meets (d .call) i o → Fits numbers (d .said i (o .answer))
-  pub leaves : (i : Input (d .call)) (o : Outcome (d .call) i) → Meets (d .call) i o → Refusal (d .said i (o .answer) .verdict) → d .after i o ≡ d .before i
+  pub once : (i : Input (d .call)) (o p : Outcome (d .call) i) → Meets (d .call) i o → Meets (d .call) i p
+      → (o .answer ≡ p .answer) × (d .handed i o ≡ d .handed i p) × (d .after i o ≡ d .after i p)
+  pub fits : (i : Input (d .call)) (o : Outcome (d .call) i) → Meets (d .call) i o → Fits numbers (d .said i o)
+  pub leaves : (i : Input (d .call)) (o : Outcome (d .call) i) → Meets (d .call) i o → Refusal (d .said i o .verdict) → d .after i o ≡ d .before i

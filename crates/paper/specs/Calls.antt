@@ -85,15 +85,17 @@ ofCommit x = record { verdict = x .verdict; counts = x .parents ∷ x .headers �
 
 -- a call that is lent nothing to write
 abbrev pub reads : (c : Call) → ((i : Input c) → Answered c i → Said) → Deed
-reads c said = record { call = c; before = λ i. []; after = λ i o. []; said = said }
+reads c said = record { call = c; before = λ i. []; after = λ i o. []; handed = λ i o. []; said = λ i o. said i (o .answer) }
 
 -- a call that only stores, and refuses nothing
 abbrev pub stores : (c : Call) → (Input c → List ℕ) → ((i : Input c) → Outcome c i → List ℕ) → Deed
-stores c before after = record { call = c; before = λ i. before i ∷ []; after = λ i o. after i o ∷ []; said = λ i x. ofVerdict fine }
+stores c before after =
+    record { call = c; before = λ i. before i ∷ []; after = λ i o. after i o ∷ []; handed = λ i o. []; said = λ i o. ofVerdict fine }
 
 -- a call that counts and writes to one thing lent
 abbrev pub writes : (c : Call) → ((i : Input c) → Answered c i → Answer) → (Input c → List ℕ) → ((i : Input c) → Outcome c i → List ℕ) → Deed
-writes c is before after = record { call = c; before = λ i. before i ∷ []; after = λ i o. after i o ∷ []; said = λ i x. ofAnswer (is i x) }
+writes c is before after =
+    record { call = c; before = λ i. before i ∷ []; after = λ i o. after i o ∷ []; handed = λ i o. []; said = λ i o. ofAnswer (is i (o .answer)) }
 
 -- ---- ground
 
@@ -231,7 +233,8 @@ readCommit =
       call = call commit.read_commit.Kinds.ps commit.read_commit.Kinds.r commit.read_commit.Reads.Post;
       before = λ i. now (i .args .1 .1 .0) ∷ now (i .args .1 .1 .1 .0) ∷ [];
       after = λ i o. now (o .last .1 .1 .0) ∷ now (o .last .1 .1 .1 .0) ∷ [];
-      said = λ i x. ofCommit x;
+      handed = λ i o. [];
+      said = λ i o. ofCommit (o .answer);
     }
 
 abbrev pub checkCommit : Deed

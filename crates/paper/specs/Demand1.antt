@@ -4,6 +4,7 @@ use mathlib.Core.List.{[], _∷_}
 use Rattle.paper.specs.Call.{EachOnce, Keeps}
 use Rattle.paper.specs.Walked.{KeepsWalked}
 use Rattle.paper.specs.Calls as a
+use Rattle.paper.specs.Border as c
 
 -- the bounds, the scans of bytes, and the lent output
 pub record OfGround : Type 3 where
@@ -59,6 +60,26 @@ pub record OfCommitWriting : Type 3 where
   pub commit-size : Keeps a.commitSize (0 ∷ 1 ∷ 2 ∷ 10 ∷ [])
   pub write-commit : Keeps a.writeCommit (0 ∷ 1 ∷ 2 ∷ 8 ∷ 10 ∷ 13 ∷ 14 ∷ [])
 
+-- the calls under C names
+pub record OfBorder : Type 3 where
+  pub mode-read : Keeps c.modeRead (0 ∷ 2 ∷ 3 ∷ [])
+  pub mode-from-number : Keeps c.modeFromNumber (0 ∷ 23 ∷ [])
+  pub mode-ask : Keeps c.modeAsk (0 ∷ [])
+  pub mode-word : Keeps c.modeWord (0 ∷ [])
+  pub mode-text : Keeps c.modeText (0 ∷ [])
+  pub tree-step : Keeps c.treeStep (0 ∷ 1 ∷ 2 ∷ 3 ∷ [])
+  pub read-tree : Keeps c.readTree (0 ∷ 1 ∷ 2 ∷ 3 ∷ 4 ∷ [])
+  pub read-tree-strict : Keeps c.readTreeStrict (0 ∷ 1 ∷ 2 ∷ 3 ∷ 4 ∷ 5 ∷ 6 ∷ 7 ∷ [])
+  pub bisect-entry : Keeps c.bisectEntry (0 ∷ 1 ∷ 2 ∷ 10 ∷ 15 ∷ [])
+  pub tree-size : Keeps c.treeSize (0 ∷ 1 ∷ 2 ∷ 10 ∷ [])
+  pub write-tree : Keeps c.writeTree (0 ∷ 1 ∷ 2 ∷ 8 ∷ 9 ∷ 10 ∷ [])
+  pub loose-header : Keeps c.looseHeader (0 ∷ 8 ∷ 23 ∷ [])
+  pub read-commit : Keeps c.readCommit (0 ∷ 1 ∷ 2 ∷ 4 ∷ 11 ∷ 12 ∷ [])
+  pub unfold-value : Keeps c.unfoldValue (0 ∷ 2 ∷ 8 ∷ 10 ∷ [])
+  pub commit-size : Keeps c.commitSize (0 ∷ 1 ∷ 2 ∷ 10 ∷ [])
+  pub write-commit : Keeps c.writeCommit (0 ∷ 1 ∷ 2 ∷ 8 ∷ 10 ∷ 13 ∷ 14 ∷ [])
+  pub questions : EachOnce c.questions
+
 pub record FirstDemand : Type 3 where
   pub of-ground : OfGround
   pub of-modes : OfModes
@@ -68,3 +89,4 @@ pub record FirstDemand : Type 3 where
   pub of-writing : OfWriting
   pub of-commits : OfCommits
   pub of-commit-writing : OfCommitWriting
+  pub of-border : OfBorder

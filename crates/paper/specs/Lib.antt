@@ -1,6 +1,7 @@
 pub mod Call
 pub mod Walked
 pub mod Calls
+pub mod Border
 pub mod Demand1
 pub mod Sentences
 pub mod Demand3
