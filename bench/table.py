@@ -25,9 +25,11 @@ def per(cost, operation, whose, row, tree):
     """What one entry, one search or one commit costs."""
     for key, value in cost.items():
         if key[:3] == (operation, whose, row) and (tree is None or key[3] == tree):
-            return value / (1 if operation == "commit" else int(key[-1]))
+            return value / (1 if operation in COMMITS else int(key[-1]))
     return None
 
+
+COMMITS = {"commit": ("Commit reading, a commit", ["rust", "libgit2", "sarpukten"]), "recommit": ("Commit writing, a commit", ["rust", "sarpukten"])}
 
 OPERATIONS = {
     "plain": ("Plain reading, an entry", ["rust", "iterator", "libgit2", "sarpukten"]),
@@ -61,12 +63,13 @@ def show(what, cost):
                 print(f"| {tree} | {who} | " + " | ".join(cells) + " |")
         print()
     kinds = list(dict.fromkeys((key[2], key[3]) for key in sorted(cost, key=lambda key: (len(key[3]), key[3])) if key[0] == "commit"))
-    print("Commit reading, a commit\n")
-    print("| whose | " + " | ".join(f"{kind}, {size} bytes" for kind, size in kinds) + " |")
-    print("|---" * (1 + len(kinds)) + "|")
-    for who in ["rust", "libgit2", "sarpukten"]:
-        print(f"| {who} | " + " | ".join(cell(cost, "commit", who, kind, size) for kind, size in kinds) + " |")
-    print()
+    for operation, (title, whose) in COMMITS.items():
+        print(f"{title}\n")
+        print("| whose | " + " | ".join(f"{kind}, {size} bytes" for kind, size in kinds) + " |")
+        print("|---" * (1 + len(kinds)) + "|")
+        for who in whose:
+            print(f"| {who} | " + " | ".join(cell(cost, operation, who, kind, size) for kind, size in kinds) + " |")
+        print()
 
 
 show("x86-64 instructions", dumps(sys.argv[1]))

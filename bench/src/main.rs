@@ -171,6 +171,14 @@ fn commits(how: How, kind: &str, object: &[u8]) {
     let tree: String = git.tree().iter().map(|b| format!("{b:02x}")).collect();
     assert!(git.parents() == rust.parents.len() && git.message() == &rust.message[..] && tree.as_bytes() == &rust.tree[..]);
 
+    let parts: [usize; 10] = a[5..15].try_into().unwrap();
+    let (lent, named) = (parents[..a[3]].to_vec(), headers[..a[4] * 5].to_vec());
+    let mut out = vec![0; object.len()];
+    let mut written = Vec::with_capacity(object.len());
+    rust.write_to(&mut written).unwrap();
+    assert_eq!(sarpukten::write_commit(object, &parts, &lent, &named, &mut out), [0, 0, object.len()]);
+    assert!(written == object && out == object);
+
     let bytes = object.len();
     let key = |operation: &str, whose: &str| format!("{operation} {whose} {kind} {bytes}");
     measure(how, &key("commit", "rust"), || CommitRef::from_bytes(black_box(object), SHA1));
@@ -180,4 +188,9 @@ fn commits(how: How, kind: &str, object: &[u8]) {
         commit
     });
     measure(how, &key("commit", "sarpukten"), || sarpukten::read_commit(black_box(object), &mut parents, &mut headers));
+    measure(how, &key("recommit", "rust"), || {
+        written.clear();
+        black_box(&rust).write_to(&mut written).is_ok()
+    });
+    measure(how, &key("recommit", "sarpukten"), || sarpukten::write_commit(black_box(object), &parts, &lent, &named, &mut out));
 }

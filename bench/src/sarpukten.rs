@@ -5,6 +5,9 @@ mod c {
         pub fn sarpukten_read_tree_strict(s: *const u8, n: usize, h: usize, out: *mut usize, room: usize, answer: *mut [usize; 3]);
         pub fn sarpukten_bisect_entry(s: *const u8, n: usize, h: usize, records: *const usize, many: usize, name: *const u8, len: usize, folder: bool, answer: *mut [usize; 4]);
         pub fn sarpukten_write_tree(s: *const u8, n: usize, h: usize, records: *const usize, many: usize, out: *mut u8, room: usize, answer: *mut [usize; 3]);
+        pub fn sarpukten_write_commit(
+            s: *const u8, n: usize, h: usize, parts: *const [usize; 10], parents: *const usize, np: usize, headers: *const usize, nh: usize, out: *mut u8, room: usize, answer: *mut [usize; 3],
+        );
         pub fn sarpukten_read_commit(s: *const u8, n: usize, h: usize, parents: *mut usize, np: usize, headers: *mut usize, nh: usize, answer: *mut [usize; 15]);
     }
 }
@@ -39,5 +42,13 @@ pub fn write_tree(s: &[u8], records: &[usize], out: &mut [u8]) -> [usize; 3] {
 pub fn read_commit(s: &[u8], parents: &mut [usize], headers: &mut [usize]) -> [usize; 15] {
     let mut answer = [0; 15];
     unsafe { c::sarpukten_read_commit(s.as_ptr(), s.len(), 20, parents.as_mut_ptr(), parents.len(), headers.as_mut_ptr(), headers.len(), &mut answer) };
+    answer
+}
+
+pub fn write_commit(s: &[u8], parts: &[usize; 10], parents: &[usize], headers: &[usize], out: &mut [u8]) -> [usize; 3] {
+    let mut answer = [0; 3];
+    unsafe {
+        c::sarpukten_write_commit(s.as_ptr(), s.len(), 20, parts, parents.as_ptr(), parents.len(), headers.as_ptr(), headers.len(), out.as_mut_ptr(), out.len(), &mut answer)
+    };
     answer
 }

@@ -1,7 +1,7 @@
 // The actor form of an author's or committer's value (docs/FORMAT.md, "Commits"; Rust: the signature parser that src/parse.rs calls).
 ghost use mathlib.Core.Path.{_≡_};
 ghost use Rattle.actor.specs.Actor.{isDigit, isPlain, inClass, allOf, twoDigits, isSign, isName, isNamed, isZone, isTime, isAddressed, isActor};
-use ground::count_to;
+use scan::count_to;
 
 // A class of bytes: digits, the bytes of a name, those of an address.
 enum Class {

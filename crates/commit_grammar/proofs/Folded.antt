@@ -10,9 +10,9 @@ use lib.Dec.{eqb}
 use borrow.Author.Tests.{ne-eqb, not-true}
 use Rattle.ground.specs.Basics.{part}
 use Rattle.ground.specs.Scan.{placeFrom, freeOf}
-use Rattle.ground.proofs.Laws.{equal, and-left, and-right}
+use Rattle.ground.proofs.Laws.{equal, and-left, and-right, place-from}
 use Rattle.header.specs.Extra.{foldFrom, foldEnd}
-use Rattle.header.proofs.Laws.{place-from, fold-end-here, fold-other, fold-open, fold-next}
+use Rattle.header.proofs.Laws.{fold-end-here, fold-other, fold-open, fold-next}
 use Rattle.commit_grammar.specs.Grammar.{foldedLines, OneLines}
 use Rattle.commit_grammar.proofs.Pieces.{below, cut-part, part-none, free-part, place-is}
 

@@ -13,11 +13,11 @@ use lib.Dec.{eqb}
 use borrow.Author.Tests.{eqb-true}
 use Rattle.ground.specs.Basics.{part}
 use Rattle.ground.specs.Scan.{countTo, placeFrom, sameBytes, freeOf}
-use Rattle.ground.proofs.Laws.{and-left, and-right, count-is, count-free, free-count, same-refl, same-true}
+use Rattle.ground.proofs.Laws.{and-left, and-right, count-is, count-free, free-count, place-from, same-refl, same-true}
 use Rattle.header.specs.Hex.{isHex}
 use Rattle.header.specs.Line.{wordAt, idFrom, idAt, lineAt}
 use Rattle.header.specs.declared.Line.the-variants.{Value}
-use Rattle.header.proofs.Laws.{word-is, word-fits, id-yes, id-fits, id-line-is, id-line-parts, line-value, line-parts, place-from}
+use Rattle.header.proofs.Laws.{word-is, word-fits, id-yes, id-fits, id-line-is, id-line-parts, line-value, line-parts}
 use Rattle.commit_grammar.specs.Grammar.{line, HexForm}
 
 -- ---- pieces

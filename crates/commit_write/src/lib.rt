@@ -17,7 +17,6 @@ ghost use Rattle.commit_write.specs.Write.{encodingNamed, written, encod
 use commit_check::check_commit;
 use ground::Answer;
 use ground::Verdict;
-use ground::count_to;
 use header::CommitParts;
 use header::HEADER_WIDTH;
 use header::HeaderRecord;
@@ -25,6 +24,7 @@ use header::header_at;
 use output::fit;
 use output::put;
 use output::put_ended;
+use scan::count_to;
 
 // A hex digit in lower case.
 fn lower(b: u8) -> u8

@@ -4,13 +4,13 @@
 use commit_read::CommitRead;
 use ground::Answer;
 use ground::Verdict;
-use ground::same_bytes;
 use header::CommitParts;
 use header::HEADER_WIDTH;
 use header::HeaderRecord;
 use header::header_at;
 use libc::STDOUT_FILENO;
 use output::put;
+use scan::same_bytes;
 use std::num::wrapping_add_usize;
 
 // ---- writing

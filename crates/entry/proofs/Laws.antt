@@ -11,11 +11,12 @@ use borrow.Author.Tests.{lt-ltb, le-ltb, le-leb, lt-leb, leb-true}
 use Rattle.ground.specs.Basics.{pick}
 use Rattle.ground.specs.Scan.{countTo, placeFrom}
 use Rattle.ground.specs.Verdict.{verdict, fine, gateOf}
-use Rattle.ground.proofs.Laws.{and-left, and-right}
+use Rattle.ground.proofs.Laws.{and-left, and-right, place-within}
 use Rattle.ground.specs.declared.Verdict.{Verdict}
 use Rattle.ground.specs.declared.Gate.the-variants.{Open, Shut}
 use Rattle.mode.specs.Mode.{topBits, valueOf, sortOf, isTree}
 use Rattle.mode.specs.Read.{readMode, readModeAt, moved}
+use Rattle.mode.proofs.Laws.{read-next}
 use Rattle.mode.specs.declared.EntryMode.{EntryMode}
 use Rattle.mode.specs.declared.ModeRead.{ModeRead}
 use Rattle.mode.specs.declared.ModeRead.the-variants.{Mode, Bad}
@@ -113,18 +114,21 @@ module _ (s : List ℕ) (h at : ℕ) where
     unfolding decodeName
     broken n l = simp (lt-leb (countTo 0 (drop rest s) + 1 + h) (length (drop rest s)) l)
 
-    pub decode-open : length s ≤ end → decode h at (drop at s) ≡ brokenAt at
-    unfolding placeFrom
-    decode-open l = let w = named in w .1 ∙ broken (w .0) (omega (arith, length-drop rest s))
+    -- the name ends inside the object
+    pub name-within : end ≤ length s
+    name-within =
+        let w = mode-moved s at m rest q in
+        let r = read-next (drop at s) (m .internal) (w .0) (w .1) in
+        rw p (place-within 0 s rest (omega (arith, r .1, w .2, length-drop at s)))
 
-    pub decode-short : end < length s → length s - (end + 1) < h → decode h at (drop at s) ≡ brokenAt at
+    pub decode-short : length s - end ≤ h → decode h at (drop at s) ≡ brokenAt at
     unfolding placeFrom
-    decode-short i l = let w = named in w .1 ∙ broken (w .0) (omega (arith, length-drop rest s))
+    decode-short l = let w = named in w .1 ∙ broken (w .0) (omega (arith, length-drop rest s))
 
-    pub decode-whole : end < length s → h ≤ length s - (end + 1)
+    pub decode-whole : h < length s - end
         → decode h at (drop at s) ≡ Whole (record { mode = m .internal; «name_start» = rest; «name_end» = end; «id_start» = end + 1 }) (record { at = end + 1 + h })
     unfolding placeFrom decodeName
-    decode-whole i l =
+    decode-whole l =
         let w = named in
         let t : ℕ = countTo 0 (drop rest s) in
         let a : at + w .0 ≡ rest = sym (w .2) in

@@ -6,9 +6,9 @@ ghost use Rattle.entry.specs.Decode.{brokenAt, decode, noEntry, stepOf};
 use ground::Gate;
 use ground::Verdict;
 use ground::bounds;
-use ground::find_byte;
 use mode::EntryMode;
 use mode::ModeRead;
+use scan::find_nul;
 
 // The numbers of a record, as they lie in a flat list.
 pub const WIDTH: usize = 4;
@@ -146,14 +146,11 @@ impl Cursor {
         let at = self.at;
         match EntryMode::extract_at(s, at) {
             ModeRead::Mode(m, rest) => {
-                let end = find_byte(s, rest, 0);
-                if s.len() <= end {
+                let end = find_nul(s, rest);
+                if s.len() - end <= h {
                     return broken(at);
                 }
                 let id = end + 1;
-                if s.len() - id < h {
-                    return broken(at);
-                }
                 let next = id + h;
                 let mode = m.internal as usize;
                 Decoded::Whole(

@@ -185,6 +185,15 @@ count-le x (b ∷ bs) = go (eqb b x) (count-le x bs)
     go true h = omega arith
     go false h = omega arith
 
+-- the first place of a byte lies at or after the start, and no further than the end
+pub place-from : (x : ℕ) (s : List ℕ) (i : ℕ) → i ≤ placeFrom x s i
+unfolding placeFrom
+place-from x s i = omega arith
+
+pub place-within : (x : ℕ) (s : List ℕ) (i : ℕ) → i ≤ length s → placeFrom x s i ≤ length s
+unfolding placeFrom
+place-within x s i h = omega (arith, count-le x (drop i s), length-drop i s)
+
 -- of the first k bytes it is cut off at k
 pub count-take : (x k : ℕ) (s : List ℕ) → countTo x (take k s) ≡ min k (countTo x s)
 count-take x zero s = omega arith
@@ -273,6 +282,14 @@ common-right [] b = omega arith
 common-right (x ∷ a) [] = omega arith
 common-right (x ∷ a) (y ∷ b) =
     ⊎-elim (λ e. omega (arith, common-same x a y b e, common-right a b)) (λ n. omega (arith, common-differ x a y b n)) (equal x y)
+
+-- past it, where both go on, their bytes differ
+pub common-off : (a b : List ℕ) → commonStart a b < length a → commonStart a b < length b → getD a (commonStart a b) 0 ≡ getD b (commonStart a b) 0 → ⊥
+unfolding commonStart
+common-off [] b h k e = absurd (omega arith)
+common-off (x ∷ a) [] h k e = absurd (omega arith)
+common-off (x ∷ a) (y ∷ b) h k e =
+    ⊎-elim (λ m. let z = common-same x a y b m in common-off a b (omega arith) (omega arith) (rw z at e)) (λ n. n (rw (common-differ x a y b n) at e)) (equal x y)
 
 -- the walk along two lists, at a place
 module _ (a b : List ℕ) (i : ℕ) where

@@ -1,9 +1,8 @@
-// What every layer stands on: the verdict, the two bounds, and the scans of bytes (docs/FORMAT.md, "Numbers" and "Bounds").
+// What every layer stands on: the verdict and the two bounds (docs/FORMAT.md, "Numbers" and "Bounds").
 ghost use mathlib.Core.Path.{_≡_};
 ghost use Prim.Native.Nat.{max};
 ghost use lib.ListN.{getD};
 ghost use Rattle.ground.specs.Verdict.{sizeGate, gateOf};
-ghost use Rattle.ground.specs.Scan.{countTo, placeFrom, commonStart, sameBytes};
 
 // The bound of every lent byte buffer, and of every lent list in records.
 pub const MOST_BYTES: usize = 1073741824;
@@ -78,52 +77,4 @@ pub fn byte_at(s: &[u8], i: usize) -> u8
         return s[i];
     }
     0
-}
-
-// Where x stands next at or after a place, or where the bytes end (the place itself if that is past the end).
-pub fn find_byte(s: &[u8], from: usize, x: u8) -> usize
-    ensures { λ r. ⌜ r ≡ placeFrom x (now (s .entry)) from ⌝ }
-{
-    let mut i = from;
-    while i < s.len() {
-        if s[i] == x {
-            return i;
-        }
-        i += 1;
-    }
-    i
-}
-
-// How many bytes stand before the first x: all of them where there is none.
-pub fn count_to(s: &[u8], x: u8) -> usize
-    ensures { λ r. ⌜ r ≡ countTo x (now (s .entry)) ⌝ }
-{
-    find_byte(s, 0, x)
-}
-
-// How far two runs of bytes agree.
-pub fn common_start(a: &[u8], b: &[u8]) -> usize
-    ensures { λ r. ⌜ r ≡ commonStart (now (a .entry)) (now (b .entry)) ⌝ }
-{
-    let mut i = 0;
-    while i < a.len() {
-        if b.len() <= i {
-            return i;
-        }
-        if a[i] != b[i] {
-            return i;
-        }
-        i += 1;
-    }
-    i
-}
-
-// Whether two runs of bytes are the same.
-pub fn same_bytes(a: &[u8], b: &[u8]) -> bool
-    ensures { λ r. ⌜ r ≡ sameBytes (now (a .entry)) (now (b .entry)) ⌝ }
-{
-    if a.len() != b.len() {
-        return false;
-    }
-    common_start(a, b) == a.len()
 }

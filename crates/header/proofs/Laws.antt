@@ -13,7 +13,7 @@ use lib.Dec.{eqb, ltb, leb}
 use borrow.Author.Tests.{eq-eqb, ne-eqb, lt-ltb, le-ltb, ltb-true, ltb-false, le-leb, lt-leb, leb-true}
 use Rattle.ground.specs.Basics.{pick, part}
 use Rattle.ground.specs.Scan.{countTo, placeFrom, sameBytes}
-use Rattle.ground.proofs.Laws.{and-left, and-right, count-le}
+use Rattle.ground.proofs.Laws.{and-left, and-right, place-from}
 use Rattle.header.specs.Hex.{hexValue, isHex}
 use Rattle.header.specs.Line.{wordAt, idFrom, idAt, lineFrom, lineAt}
 use Rattle.header.specs.Extra.{foldFrom, foldEnd, foldedOr, extraAt, foldedForm}
@@ -37,16 +37,6 @@ module _ (t : List ℕ) (i : ℕ) where
 
   pub hex-end : length t ≤ i → isHex (drop i t) ≡ true
   hex-end h = rw (drop-of-length-le t {i = i} h)
-
--- ---- the first place of a byte lies at or after the start, and no further than the end
-
-pub place-from : (x : ℕ) (s : List ℕ) (i : ℕ) → i ≤ placeFrom x s i
-unfolding placeFrom
-place-from x s i = omega arith
-
-pub place-within : (x : ℕ) (s : List ℕ) (i : ℕ) → i ≤ length s → placeFrom x s i ≤ length s
-unfolding placeFrom
-place-within x s i h = omega (arith, count-le x (drop i s), length-drop i s)
 
 -- ---- a word and a space
 

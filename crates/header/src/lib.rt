@@ -5,9 +5,9 @@ ghost use Rattle.header.specs.Line.{wordAt, idFrom, idAt, lineAt};
 ghost use Rattle.header.specs.Extra.{foldEnd, extraAt, foldedForm};
 ghost use Rattle.header.specs.Record.{headerAt, putHeader, wellFormed};
 use ground::byte_at;
-use ground::count_to;
-use ground::find_byte;
-use ground::same_bytes;
+use scan::count_to;
+use scan::find_byte;
+use scan::same_bytes;
 
 // How many numbers a header record has.
 pub const HEADER_WIDTH: usize = 5;

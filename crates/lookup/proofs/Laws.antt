@@ -1,8 +1,8 @@
 -- The laws of the halving and of the lookup. Nothing else opens `halving`, `searchFrom` or `lookupIn`. Assumes nothing.
-use mathlib.Core.Path.{_≡_, refl, sym, subst, _∙_}
+use mathlib.Core.Path.{_≡_, refl, sym, ap, subst, _∙_}
 use mathlib.Core.Bool.{Bool, true, false}
 use mathlib.Core.List.{List}
-use Prim.Native.Nat.{ℕ, zero, suc, _+_, _-_, _*_, _^_, _≤_, _<_, max}
+use Prim.Native.Nat.{ℕ, zero, suc, _+_, _-_, _*_, _/_, _^_, _≤_, _<_, max}
 use native.Mathlib.Decide.{decLt}
 use native.Mathlib.Omega.{arith}
 use lib.ListN.{length}
@@ -12,12 +12,13 @@ use Rattle.ground.specs.Verdict.{verdict, gateOf}
 use Rattle.ground.specs.declared.Verdict.{Verdict}
 use Rattle.ground.specs.declared.Gate.the-variants.{Open, Shut}
 use Rattle.order.specs.Order.{nameOrder}
+use Rattle.order.specs.declared.Order.{Order}
 use Rattle.order.specs.declared.Order.the-variants.{Below, Same, Above}
 use Rattle.entry.specs.declared.EntryRecord.{EntryRecord}
 use Rattle.entry.specs.Record.{wellFormed, nameOf, folderOf}
 use Rattle.lookup.specs.declared.Looked.{Looked}
 use Rattle.lookup.specs.Halving.{Met, bad, met, found, absent, declined, mid, turn, halving, searchFrom, mostComparisons}
-use Rattle.lookup.specs.Lookup.{compareEntry, compareAt, lookupIn}
+use Rattle.lookup.specs.Lookup.{compareEntry, nth, compareAt, lookupIn}
 
 -- ---- binary digits
 
@@ -129,6 +130,24 @@ module _ (h : ℕ) (object name : List ℕ) (folder : Bool) (e : EntryRecord) wh
   pub met-good : wellFormed h (length object) e ≡ true → compareEntry h object name folder e ≡ met (nameOrder (nameOf object e) (folderOf e) name folder)
   unfolding compareEntry
   met-good w = rw w
+
+-- the search between low and high among records, where e is the one in the middle
+module _ (h : ℕ) (object : List ℕ) (records : List EntryRecord) (name : List ℕ) (folder : Bool) (low high c : ℕ) (l : low < high) where
+  abbrev how : ℕ → Met
+  how = compareAt h object records name folder
+
+  search-met : (o : Met) → how (mid low high) ≡ o → searchFrom how low high c ≡ turn o (searchFrom how) low high (mid low high) c
+  search-met o q = search-more how low high c l ∙ ap (λ (x : Met). turn x (searchFrom how) low high (mid low high) c) q
+
+  module _ (e : EntryRecord) (r : e ≡ nth records (low + (high - low) / 2)) where
+    pub search-bad : wellFormed h (length object) e ≡ false → searchFrom how low high c ≡ declined (verdict 10 (low + (high - low) / 2))
+    unfolding mid
+    search-bad w = search-met bad (ap (compareEntry h object name folder) (sym r) ∙ met-bad h object name folder e w)
+
+    pub search-good : wellFormed h (length object) e ≡ true → (o : Order) → nameOrder (nameOf object e) (folderOf e) name folder ≡ o
+        → searchFrom how low high c ≡ turn (met o) (searchFrom how) low high (low + (high - low) / 2) c
+    unfolding mid
+    search-good w o q = search-met (met o) (ap (compareEntry h object name folder) (sym r) ∙ met-good h object name folder e w ∙ ap met q)
 
 -- ---- the whole
 

@@ -1,15 +1,17 @@
 // Lookup by halving in a listing that is lent as records (docs/FORMAT.md, "Lookup"); in the Rust `TreeRef::bisect_entry` of src/tree/ref_iter.rs.
-// A search under way is a value: `start` makes it, `step` compares one record, `answer` reads it off. Loops over records of any form share them.
+// A search under way is a value: `start` makes it, `step` compares one record, `answer` reads it off. Loops over records of any form share them;
+// `bisect_entry` over flat records keeps low, high and the count itself, and so has nothing to test twice.
 use entry::EntryRecord;
 use ground::Gate;
 use ground::Verdict;
 use order::Order;
 ghost use mathlib.Core.Path.{_≡_};
 ghost use Prim.Native.Nat.{_<_};
+ghost use lib.ListN.{length};
 ghost use Rattle.ground.specs.Verdict.{mostRecords};
-ghost use Rattle.entry.specs.Record.{recordsOf};
+ghost use Rattle.entry.specs.Record.{many, recordsOf};
 ghost use Rattle.lookup.specs.Halving.{mostComparisons, met};
-ghost use Rattle.lookup.specs.Lookup.{lookupIn};
+ghost use Rattle.lookup.specs.Lookup.{nth, lookupIn, Allowed};
 ghost use Rattle.lookup.specs.Probe.{aimedOf, stoppedOf, startOf, movedOf, stepOf, answerOf};
 
 // The answer of a lookup: the index of what was found, and how many records were compared.
@@ -156,17 +158,91 @@ pub fn answer(p: Probe) -> Looked
     p.looked
 }
 
+// Record i of the flat numbers, which is there.
+fn record_at(records: &[usize], i: usize) -> EntryRecord
+    requires { ⌜ i < many (length (now records)) ⌝ }
+    ensures { λ r. ⌜ r ≡ nth (recordsOf (now (records .entry))) i ⌝ }
+{
+    let at = i * entry::WIDTH;
+    let mode = records[at];
+    let name_start = records[at + 1];
+    let name_end = records[at + 2];
+    let id_start = records[at + 3];
+    EntryRecord {
+        mode,
+        name_start,
+        name_end,
+        id_start,
+    }
+}
+
+// The lookup over flat records, within the bounds.
+fn searched(object: &[u8], h: usize, records: &[usize], name: &[u8], folder: bool) -> Looked
+    requires { ⌜ Allowed h (now object) (recordsOf (now records)) (now name) ⌝ }
+    ensures { λ r. ⌜ r ≡ lookupIn h (now (object .entry)) (recordsOf (now (records .entry))) (now (name .entry)) folder ⌝ }
+{
+    let mut low: usize = 0;
+    let mut high = records.len() / entry::WIDTH;
+    let mut compared: usize = 0;
+    while low < high {
+        let middle = low + (high - low) / 2;
+        let e = record_at(records, middle);
+        if entry::well_formed(h, object.len(), e) {
+            compared += 1;
+            let first = e.name_start;
+            let end = e.name_end;
+            let tree = entry::is_folder(e);
+            match order::name_order(&object[first..end], tree, name, folder) {
+                Order::Below => {
+                    low = middle + 1;
+                    continue;
+                }
+                Order::Same => {
+                    return Looked {
+                        verdict: Verdict {
+                            number: 0,
+                            place: 0,
+                        },
+                        index: middle,
+                        compared,
+                    };
+                }
+                Order::Above => {
+                    high = middle;
+                    continue;
+                }
+            }
+        }
+        return Looked {
+            verdict: Verdict {
+                number: 10,
+                place: middle,
+            },
+            index: 0,
+            compared: 0,
+        };
+    }
+    Looked {
+        verdict: Verdict {
+            number: 15,
+            place: 0,
+        },
+        index: 0,
+        compared,
+    }
+}
+
 // The lookup over flat records.
 pub fn bisect_entry(object: &[u8], h: usize, records: &[usize], name: &[u8], folder: bool) -> Looked
     ensures { λ r. ⌜ r ≡ lookupIn h (now (object .entry)) (recordsOf (now (records .entry))) (now (name .entry)) folder ⌝ }
 {
-    let q = Query { h, folder };
     let n = records.len() / entry::WIDTH;
-    let mut p = start(object.len(), name.len(), n, q);
-    while p.on {
-        let at = p.at;
-        let e = entry::entry_at(records, at);
-        p = step(object, name, q, p, e);
+    match ground::bounds(h, ground::longer(object.len(), name.len()), n) {
+        Gate::Open => searched(object, h, records, name, folder),
+        Gate::Shut(v) => Looked {
+            verdict: v,
+            index: 0,
+            compared: 0,
+        },
     }
-    answer(p)
 }

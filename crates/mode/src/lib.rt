@@ -11,9 +11,9 @@ ghost use Rattle.mode.specs.Write.{trimmed, short, modeText};
 ghost use Rattle.mode.specs.Table.{placeOf, rowAt, writtenOf, wordOf, writtenMode};
 use ground::Gate;
 use ground::Verdict;
-use ground::count_to;
-use ground::same_bytes;
 use ground::sizes;
+use scan::count_to;
+use scan::same_bytes;
 
 // What an entry is.
 pub enum EntryKind {

@@ -13,7 +13,7 @@ use lib.Dec.{eqb}
 use lib.Seq.{drop-cons}
 use borrow.Author.Tests.{lt-ltb, le-ltb, eq-eqb}
 use Rattle.ground.specs.Scan.{commonStart, freeOf}
-use Rattle.ground.proofs.Laws.{common-same, common-differ, equal}
+use Rattle.ground.proofs.Laws.{common-same, common-differ, common-off, equal}
 use Rattle.order.specs.declared.Order.{Order}
 use Rattle.order.specs.declared.Order.the-variants.{Below, Same, Above}
 use Rattle.order.specs.Order.{byNumber, orElse, opposite, next, nameOrder, orderNumber}
@@ -98,6 +98,23 @@ order-decided (x ∷ a) s (y ∷ b) t =
     ⊎-elim (λ e. rw (common-same x a y b e, by-eq e) (order-decided a s b t))
     (λ n. rw (common-differ x a y b n) (differ x y (nameOrder a s b t) n))
     (equal x y)
+
+-- where both go on there, by their bytes
+module _ (a : List ℕ) (s : Bool) (b : List ℕ) (t : Bool) (i : ℕ) (e : i ≡ commonStart a b) where
+  pub decided-at : nameOrder a s b t ≡ byNumber (next (drop i a) s) (next (drop i b) t)
+  decided-at = rw e (order-decided a s b t)
+
+  module _ (h : i < length a) (k : i < length b) where
+    by-bytes : nameOrder a s b t ≡ byNumber (getD a i 0 + 1) (getD b i 0 + 1)
+    by-bytes = decided-at ∙ rw (next-byte a i s h, next-byte b i t k)
+
+    pub byte-below : getD a i 0 < getD b i 0 → nameOrder a s b t ≡ Below
+    byte-below l = by-bytes ∙ by-lt (omega arith)
+
+    pub byte-above : getD b i 0 ≤ getD a i 0 → nameOrder a s b t ≡ Above
+    byte-above l =
+        let d : getD a i 0 ≡ getD b i 0 → ⊥ = rw e (common-off a b (rw (sym e) h) (rw (sym e) k)) in
+        by-bytes ∙ by-gt (⊎-elim (λ m. absurd (d m)) (λ n. omega arith) (equal (getD a i 0) (getD b i 0)))
 
 -- ---- it is an order, of all names
 

@@ -49,12 +49,28 @@ fn next_at(s: &[u8], at: usize, tree: bool) -> u16
     0
 }
 
+// Two names by what stands at one position of them.
+fn by_next(a: &[u8], atree: bool, b: &[u8], btree: bool, i: usize) -> Order
+    ensures { λ r. ⌜ r ≡ byNumber (next (drop i (now (a .entry))) atree) (next (drop i (now (b .entry))) btree) ⌝ }
+{
+    let x = next_at(a, i, atree);
+    let y = next_at(b, i, btree);
+    by_number(x, y)
+}
+
 // Names of any length and with any bytes; each says whether it is a tree's.
 pub fn name_order(a: &[u8], atree: bool, b: &[u8], btree: bool) -> Order
     ensures { λ r. ⌜ r ≡ nameOrder (now (a .entry)) atree (now (b .entry)) btree ⌝ }
 {
-    let i = ground::common_start(a, b);
-    let x = next_at(a, i, atree);
-    let y = next_at(b, i, btree);
-    by_number(x, y)
+    let i = scan::common_start(a, b);
+    if a.len() <= i {
+        return by_next(a, atree, b, btree, i);
+    }
+    if b.len() <= i {
+        return by_next(a, atree, b, btree, i);
+    }
+    if a[i] < b[i] {
+        return Order::Below;
+    }
+    Order::Above
 }

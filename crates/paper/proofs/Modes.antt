@@ -1,4 +1,4 @@
--- The first demand of the ground and the lent output, of modes and of the order. Assumes nothing.
+-- The first demand of the ground, the scans and the lent output, of modes and of the order. Assumes nothing.
 use Prim.Native.Nat.{ℕ, _/_, _%_}
 use mathlib.Core.Path.{refl}
 use mathlib.Core.Bool.{_||_}
@@ -43,7 +43,7 @@ pub of-ground : OfGround
 of-ground = record {
   sizes = keeps-reads _ _ _ _ (λ i o m. m) (λ i. each-size (Of _ ofGate) (done refl refl) (zero refl refl) _ _);
   bounds = keeps-reads _ _ _ _ (λ i o m. m) (λ i. each-gate (Of _ ofGate) (done refl refl) (zero refl refl) (zero refl refl) _ _ _);
-  scans = (λ i o p. same) and (λ i o p. same) and (λ i o p. same) and (λ i o p. same) and (λ i o p. same) and (λ i o p. same) and none;
+  scans = (λ i o p. same) and (λ i o p. same) and (λ i o p. same) and (λ i o p. same) and (λ i o p. same) and (λ i o p. same) and (λ i o p. same) and none;
   put = keeps-stores _ _ _ _ _ (λ i o m. (refl, m));
   put-ended = keeps-stores _ _ _ _ _ (λ i o m. (refl, m));
 }
@@ -54,6 +54,7 @@ of-modes = record {
   from-number = keeps-reads _ _ _ _ (λ i o m. m) (λ i. wider (number-fits _) refl);
   mode-questions =
       (λ i o p. same) and (λ i o p. same) and (λ i o p. same) and (λ i o p. same) and (λ i o p. same) and (λ i o p. same) and (λ i o p. same)
-      and (λ i o p. same) and (λ i o p. same) and (λ i o p. same) and (λ i o p. same) and (λ i o p. same) and (λ i o p. same) and (λ i o p. same) and none;
+      and (λ i o p. same) and (λ i o p. same) and (λ i o p. same) and (λ i o p. same) and (λ i o p. same) and (λ i o p. same) and (λ i o p. same)
+      and (λ i o p. same) and (λ i o p. same) and none;
   orders = (λ i o p. same) and (λ i o p. same) and none;
 }

@@ -17,9 +17,11 @@ use Rattle.lookup.specs.declared.Looked.{Looked}
 use Rattle.header.specs.declared.CommitParts.{CommitParts}
 use Rattle.commit_read.specs.declared.CommitRead.{CommitRead}
 use Rattle.ground.proofs as ground
+use Rattle.scan.proofs as scan
 use Rattle.output.proofs as output
 use Rattle.mode.proofs as modes
 use Rattle.mode.proofs.EntryMode as mode
+use Rattle.front.proofs as front
 use Rattle.order.proofs as order
 use Rattle.entry.proofs as entry
 use Rattle.reading.proofs as reading
@@ -97,7 +99,7 @@ abbrev pub writes : (c : Call) → ((i : Input c) → Answered c i → Answer) �
 writes c is before after =
     record { call = c; before = λ i. before i ∷ []; after = λ i o. after i o ∷ []; handed = λ i o. []; said = λ i o. ofAnswer (is i (o .answer)) }
 
--- ---- ground
+-- ---- ground and the scans
 
 abbrev pub sizes : Deed
 sizes = reads (call ground.sizes.Kinds.ps ground.sizes.Kinds.r ground.sizes.Reads.Post) (λ i x. ofGate x)
@@ -109,10 +111,11 @@ abbrev pub scans : List Call
 scans =
     call ground.longer.Kinds.ps ground.longer.Kinds.r ground.longer.Reads.Post
     ∷ call ground.byte_at.Kinds.ps ground.byte_at.Kinds.r ground.byte_at.Reads.Post
-    ∷ call ground.find_byte.Kinds.ps ground.find_byte.Kinds.r ground.find_byte.Reads.Post
-    ∷ call ground.count_to.Kinds.ps ground.count_to.Kinds.r ground.count_to.Reads.Post
-    ∷ call ground.common_start.Kinds.ps ground.common_start.Kinds.r ground.common_start.Reads.Post
-    ∷ call ground.same_bytes.Kinds.ps ground.same_bytes.Kinds.r ground.same_bytes.Reads.Post
+    ∷ call scan.find_byte.Kinds.ps scan.find_byte.Kinds.r scan.find_byte.Reads.Post
+    ∷ call scan.find_nul.Kinds.ps scan.find_nul.Kinds.r scan.find_nul.Reads.Post
+    ∷ call scan.count_to.Kinds.ps scan.count_to.Kinds.r scan.count_to.Reads.Post
+    ∷ call scan.common_start.Kinds.ps scan.common_start.Kinds.r scan.common_start.Reads.Post
+    ∷ call scan.same_bytes.Kinds.ps scan.same_bytes.Kinds.r scan.same_bytes.Reads.Post
     ∷ []
 
 -- ---- output
@@ -123,7 +126,7 @@ put = stores (call output.put.Kinds.ps output.put.Kinds.r output.put.Reads.Post)
 abbrev pub putEnded : Deed
 putEnded = stores (call output.put_ended.Kinds.ps output.put_ended.Kinds.r output.put_ended.Reads.Post) (λ i. now (i .args .0)) (λ i o. now (o .last .0))
 
--- ---- modes
+-- ---- modes, and their codes
 
 abbrev pub fromBytes : Deed
 fromBytes = reads (call mode.from_bytes.Kinds.ps mode.from_bytes.Kinds.r mode.from_bytes.Reads.Post) (λ i x. ofMode x)
@@ -147,6 +150,8 @@ modeQuestions =
     ∷ call mode.is_blob_or_symlink.Kinds.ps mode.is_blob_or_symlink.Kinds.r mode.is_blob_or_symlink.Reads.Post
     ∷ call modes.written_of.Kinds.ps modes.written_of.Kinds.r modes.written_of.Reads.Post
     ∷ call modes.written_mode.Kinds.ps modes.written_mode.Kinds.r modes.written_mode.Reads.Post
+    ∷ call front.code_at.Kinds.ps front.code_at.Kinds.r front.code_at.Reads.Post
+    ∷ call front.quick_code.Kinds.ps front.quick_code.Kinds.r front.quick_code.Reads.Post
     ∷ []
 
 -- ---- order

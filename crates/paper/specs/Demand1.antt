@@ -14,7 +14,7 @@ pub record OfGround : Type 3 where
   pub put : Keeps a.put (0 ∷ [])
   pub put-ended : Keeps a.putEnded (0 ∷ [])
 
--- modes from a text and from a number, and every question; the order of names
+-- modes from a text and from a number, every question, and the codes; the order of names
 pub record OfModes : Type 3 where
   pub from-bytes : Keeps a.fromBytes (0 ∷ 2 ∷ 3 ∷ [])
   pub from-number : Keeps a.fromNumber (0 ∷ 23 ∷ [])

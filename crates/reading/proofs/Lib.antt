@@ -1,3 +1,4 @@
 pub mod Laws
+pub mod Front
 pub mod Judging
 pub mod Strictly

@@ -5,6 +5,7 @@ ghost use lib.ListN.{length};
 ghost use lib.Seq.{sets};
 ghost use Rattle.ground.specs.Verdict.{stored};
 ghost use Rattle.entry.specs.Record.{many};
+ghost use Rattle.front.specs.Code.{codeAt};
 ghost use Rattle.reading.specs.Listing.{listing, tally, recordsIn, flats};
 ghost use Rattle.reading.specs.Rules.{permitted, gitRules, strictly};
 ghost use Rattle.reading.specs.Whole.{inRoom, readAnswer, readRecords};
@@ -15,17 +16,20 @@ use entry::EntryRecord;
 use entry::WIDTH;
 use entry::is_folder;
 use entry::put_entry;
+use front::code_at;
+use front::quick_code;
 use ground::Answer;
 use ground::Gate;
 use ground::MOST_RECORDS;
 use ground::Verdict;
 use ground::bounds;
-use ground::count_to;
-use ground::same_bytes;
 use mode::ModeFound;
 use mode::written_mode;
 use order::Order;
 use order::name_order;
+use scan::count_to;
+use scan::find_nul;
+use scan::same_bytes;
 
 // How many entries an object has, or the refusal that reading it met.
 pub enum Counted {
@@ -39,28 +43,46 @@ enum Last {
     After(EntryRecord),
 }
 
+// The code of the mode at a place, the written ones tried first.
+fn mode_code(s: &[u8], at: usize) -> usize
+    ensures { λ r. ⌜ r ≡ codeAt (now (s .entry)) at ⌝ }
+{
+    let quick = quick_code(s, at);
+    if quick == 0 {
+        return code_at(s, at);
+    }
+    quick
+}
+
 // The first pass of the plain reader.
 fn count_plain(s: &[u8], h: usize) -> Counted
     ensures { λ r. ⌜ r ≡ tally 0 (listing h (now (s .entry))) ⌝ }
 {
-    let mut c = Cursor { at: 0 };
+    let mut at: usize = 0;
     let mut n: usize = 0;
-    while c.at < s.len() {
+    while at < s.len() {
         if MOST_RECORDS <= n {
             return Counted::Stopped(Verdict {
                 number: 2,
                 place: 0,
             });
         }
-        match c.decode(s, h) {
-            Decoded::Whole(_, next) => {
-                c = next;
-                n += 1;
-            }
-            Decoded::Broken(v) => {
-                return Counted::Stopped(v);
-            }
+        let code = mode_code(s, at);
+        if code == 0 {
+            return Counted::Stopped(Verdict {
+                number: 3,
+                place: at,
+            });
         }
+        let end = find_nul(s, at + code % 16);
+        if s.len() - end <= h {
+            return Counted::Stopped(Verdict {
+                number: 3,
+                place: at,
+            });
+        }
+        at = end + 1 + h;
+        n += 1;
     }
     Counted::Total(n)
 }
@@ -172,19 +194,23 @@ fn fill(s: &[u8], h: usize, count: usize, records: &mut [usize])
     requires { ⌜ count ≤ many (length (now records)) ⌝ }
     ensures { λ r. ⌜ now (records .exit) ≡ sets (now (records .entry)) 0 (flats (recordsIn (listing h (now (s .entry))))) ⌝ }
 {
-    let mut c = Cursor { at: 0 };
+    let mut at: usize = 0;
     let mut n: usize = 0;
     while n < count {
-        match c.decode(s, h) {
-            Decoded::Whole(e, next) => {
-                put_entry(records, n, e);
-                c = next;
-                n += 1;
-            }
-            Decoded::Broken(_) => {
-                return;
-            }
-        }
+        let code = mode_code(s, at);
+        let mode = code / 16;
+        let name_start = at + code % 16;
+        let name_end = find_nul(s, name_start);
+        let id_start = name_end + 1;
+        let e = EntryRecord {
+            mode,
+            name_start,
+            name_end,
+            id_start,
+        };
+        put_entry(records, n, e);
+        at = id_start + h;
+        n += 1;
     }
 }
 

@@ -1,8 +1,8 @@
 // The fields of a case, as the lists have them (oracle/README.md, "The list format"), and how an answer is held against them.
 use ground::Answer;
 use ground::byte_at;
-use ground::same_bytes;
 use output::put;
+use scan::same_bytes;
 
 // What is lent holds these before a call: what a call does not write is still so after it.
 pub const BYTE: u8 = 165;

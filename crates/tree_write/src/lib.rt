@@ -17,13 +17,13 @@ use ground::Answer;
 use ground::Gate;
 use ground::Verdict;
 use ground::bounds;
-use ground::count_to;
 use ground::longer;
 use mode::EntryMode;
 use mode::ShortText;
 use output::fit;
 use output::put;
 use output::put_ended;
+use scan::count_to;
 
 // The number that refuses a record, or 0.
 fn refuse(bytes: &[u8], h: usize, writing: bool, e: EntryRecord) -> usize

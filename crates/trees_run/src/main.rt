@@ -8,12 +8,12 @@ use entry::is_folder;
 use ground::Answer;
 use ground::Verdict;
 use ground::longer;
-use ground::same_bytes;
 use libc::STDOUT_FILENO;
 use lookup::Looked;
 use output::put;
 use record_slice::ROOM;
 use record_slice::bisect_array;
+use scan::same_bytes;
 use std::num::wrapping_add_usize;
 
 // ---- writing

@@ -8,7 +8,8 @@ use native.Mathlib.Omega.{arith}
 use lib.ListN.{length, drop}
 use mathlib.Core.Bool.{false}
 use Rattle.header.specs.Extra.{foldFrom, foldEnd}
-use Rattle.header.proofs.Laws.{fold-end-here, fold-other, fold-open, fold-next, place-from}
+use Rattle.header.proofs.Laws.{fold-end-here, fold-other, fold-open, fold-next}
+use Rattle.ground.proofs.Laws.{place-from}
 
 abbrev Inv-loop : tie.InvT-loop
 Inv-loop s start at₀ at = foldEnd s start ≡ foldFrom false start at (drop at s)

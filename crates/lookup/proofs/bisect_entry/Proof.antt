@@ -1,61 +1,46 @@
--- `lookup::bisect_entry` meets its contract: before each turn the search is a lookup in these records, and there are fewer to choose from
--- after it. Assumes nothing.
+-- `lookup::bisect_entry` meets its contract. Assumes nothing.
+use borrow.Author.Needs.{needs}
 use Rattle.lookup.proofs.bisect_entry.Statement.{statement}
 use Rattle.lookup.proofs.bisect_entry.Tie as tie
-use borrow.Author.Needs.{needs}
-use Prim.Native.Nat.{_-_}
 use mathlib.Core.Path.{sym, _∙_}
-use Rattle.entry.specs.Record.{recordsOf}
 use Rattle.entry.proofs.Laws.{records-many}
-use Rattle.lookup.proofs.Going.{Going, going-start, going-on, going-less, going-ends}
+use Rattle.lookup.proofs.Laws.{lookup-shut}
 
-abbrev Inv-loop : tie.InvT-loop
-Inv-loop object h records name folder q n p₀ p = Going object name q (recordsOf records) p
+longer-requires : tie.Need-longer-requires
+longer-requires c κs = search needs
 
-abbrev μ-loop : tie.MeasureT-loop
-μ-loop object h records name folder q n p₀ p = p .high - p .low
+bounds-requires : tie.Need-bounds-requires
+bounds-requires c κs = search needs
 
-start-requires : tie.Need-start-requires Inv-loop μ-loop
-start-requires c κs = search needs
+enum-told : tie.Need-enum-told
+enum-told c = search needs
 
-loop-holds : tie.Need-loop-holds Inv-loop μ-loop
-loop-holds c =
-    let args = c .before .before .before .before .args in
-    going-start _ _ _ (recordsOf (args .records .now)) _ (sym (records-many (args .records .now))) _ (c .start .ensures)
+searched-requires : tie.Need-searched-requires
+searched-requires c κs =
+    let number = records-many (c .before .before .before .before .before .before .before .args .records .now) in
+    let wide = c .before .before .before .longer .ensures in
+    rw (number, sym wide) (sym (c .before .before .bounds .ensures) ∙ c .enum-told .given .1)
 
-entry-at-requires : tie.Need-entry-at-requires Inv-loop μ-loop
-entry-at-requires c κs = search needs
+enum-known-v : tie.Need-enum-known-v
+enum-known-v c = search needs
 
-step-requires : tie.Need-step-requires Inv-loop μ-loop
-step-requires c κs = search needs
+returns : tie.Need-returns
+returns c = c .searched .ensures
 
-loop-less : tie.Need-loop-less Inv-loop μ-loop
-loop-less c =
-    let loop = c .before .before .before .loop in
-    going-less _ _ _ _ _ (c .before .before .loop-test .taken) (loop .inv) _ _ (c .step .ensures)
-
-loop-again : tie.Need-loop-again Inv-loop μ-loop
-loop-again c =
-    let loop = c .before .before .before .loop in
-    going-on _ _ _ _ _ (c .before .before .loop-test .taken) (loop .inv) _ (c .before .entry-at .ensures) _ (c .step .ensures)
-
-answer-requires : tie.Need-answer-requires Inv-loop μ-loop
-answer-requires c κs = search needs
-
-returns : tie.Need-returns Inv-loop μ-loop
-returns c = c .answer .ensures ∙ going-ends _ _ _ _ _ (c .before .loop-test .left) (c .before .before .loop .inv)
+returns-2 : tie.Need-returns-2
+returns-2 c =
+    let number = records-many (c .before .before .before .before .before .before .before .before .args .records .now) in
+    let wide = c .before .before .before .before .longer .ensures in
+    sym (lookup-shut _ _ _ _ _ _ (rw (number, sym wide) (sym (c .before .before .before .bounds .ensures) ∙ c .before .v .given .1)))
 
 pub bisect-entry-spec : {M : Type 1} → statement M
 bisect-entry-spec =
     tie.close
     (tie.spec
-    Inv-loop
-    μ-loop
-    start-requires
-    loop-holds
-    entry-at-requires
-    step-requires
-    loop-less
-    loop-again
-    answer-requires
-    returns)
+    longer-requires
+    bounds-requires
+    enum-told
+    searched-requires
+    enum-known-v
+    returns
+    returns-2)

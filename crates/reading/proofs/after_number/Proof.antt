@@ -65,15 +65,33 @@ returns c = sym (after-first _ _ (c .enum-told .given .1))
 
 returns-2 : tie.Need-returns-2
 unfolding nameOf
-returns-2 c = let a = c .before .before .before .before .before .is-folder .ensures in let b = c .before .before .before .is-folder2 .ensures in let k = c .before .before .name-order .ensures in let g = c .enum-told2 .given .1 in sym (after-by (c .before .before .before .before .before .before .before .before .before .before .before .args .s .now) (c .before .before .before .before .before .before .before .before .before .before .before .args .e) (c .before .before .before .before .before .before .before .before .last .given .0 .0) Below (c .before .before .before .before .before .before .before .before .last .given .1) (cc))
+returns-2 c =
+    let name-order = c .before .before .name-order in
+    let is-folder2 = c .before .before .before .is-folder2 in
+    let is-folder = c .before .before .before .before .before .is-folder in
+    let last = c .before .before .before .before .before .before .before .before .last in
+    let args = c .before .before .before .before .before .before .before .before .before .before .before .args in
+    let a = is-folder .ensures in let b = is-folder2 .ensures in let k = name-order .ensures in let g = c .enum-told2 .given .1 in sym (after-by (args .s .now) (args .e) (last .given .0 .0) Below (last .given .1) (cc))
 
 returns-3 : tie.Need-returns-3
 unfolding nameOf
-returns-3 c = let a = c .before .before .before .before .before .is-folder .ensures in let b = c .before .before .before .is-folder2 .ensures in let k = c .before .before .name-order .ensures in let g = c .enum-told3 .given .1 in sym (after-by (c .before .before .before .before .before .before .before .before .before .before .before .args .s .now) (c .before .before .before .before .before .before .before .before .before .before .before .args .e) (c .before .before .before .before .before .before .before .before .last .given .0 .0) Same (c .before .before .before .before .before .before .before .before .last .given .1) (cc))
+returns-3 c =
+    let name-order = c .before .before .name-order in
+    let is-folder2 = c .before .before .before .is-folder2 in
+    let is-folder = c .before .before .before .before .before .is-folder in
+    let last = c .before .before .before .before .before .before .before .before .last in
+    let args = c .before .before .before .before .before .before .before .before .before .before .before .args in
+    let a = is-folder .ensures in let b = is-folder2 .ensures in let k = name-order .ensures in let g = c .enum-told3 .given .1 in sym (after-by (args .s .now) (args .e) (last .given .0 .0) Same (last .given .1) (cc))
 
 returns-4 : tie.Need-returns-4
 unfolding nameOf
-returns-4 c = let a = c .before .before .before .before .before .is-folder .ensures in let b = c .before .before .before .is-folder2 .ensures in let k = c .before .before .name-order .ensures in let g = c .enum-told4 .given .1 in sym (after-by (c .before .before .before .before .before .before .before .before .before .before .before .args .s .now) (c .before .before .before .before .before .before .before .before .before .before .before .args .e) (c .before .before .before .before .before .before .before .before .last .given .0 .0) Above (c .before .before .before .before .before .before .before .before .last .given .1) (cc))
+returns-4 c =
+    let name-order = c .before .before .name-order in
+    let is-folder2 = c .before .before .before .is-folder2 in
+    let is-folder = c .before .before .before .before .before .is-folder in
+    let last = c .before .before .before .before .before .before .before .before .last in
+    let args = c .before .before .before .before .before .before .before .before .before .before .before .args in
+    let a = is-folder .ensures in let b = is-folder2 .ensures in let k = name-order .ensures in let g = c .enum-told4 .given .1 in sym (after-by (args .s .now) (args .e) (last .given .0 .0) Above (last .given .1) (cc))
 
 pub after-number-spec : {M : Type 1} → statement M
 after-number-spec =

@@ -1,19 +1,20 @@
 -- `reading::count_plain` meets its contract. Assumes nothing.
+use borrow.Author.Needs.{needs}
 use Rattle.reading.proofs.count_plain.Statement.{statement}
 use Rattle.reading.proofs.count_plain.Tie as tie
 use Prim.Native.Nat.{_≤_, _-_}
 use mathlib.Core.Path.{_≡_, refl, sym, ap, _∙_}
 use native.Mathlib.Omega.{arith}
-use borrow.Author.Needs.{needs}
 use Rattle.ground.specs.Verdict.{mostRecords}
 use Rattle.reading.specs.Listing.{listing, tally}
 use Rattle.reading.proofs.Laws.{restAt, rest-end, rest-full, rest-broken, rest-whole}
+use Rattle.reading.proofs.Front.{code-none, name-starts, name-ends, name-short, name-whole}
 
 abbrev Inv-loop : tie.InvT-loop
-Inv-loop s h c₀ n₀ c n = (n ≤ mostRecords) × (tally 0 (listing h s) ≡ tally n (restAt h s (c .at) n))
+Inv-loop s h at₀ n₀ at n = (n ≤ mostRecords) × (tally 0 (listing h s) ≡ tally n (restAt h s at n))
 
 abbrev μ-loop : tie.MeasureT-loop
-μ-loop s h c₀ n₀ c n = mostRecords - n
+μ-loop s h at₀ n₀ at n = mostRecords - n
 
 loop-holds : tie.Need-loop-holds Inv-loop μ-loop
 loop-holds c = (omega arith, refl)
@@ -21,14 +22,53 @@ loop-holds c = (omega arith, refl)
 returns : tie.Need-returns Inv-loop μ-loop
 unfolding tally
 returns c =
-    let loop = c .before .before .before .loop in
-    sym (loop .inv .1 ∙ ap (tally (loop .n)) (rest-full _ _ _ _ (c .before .if1 .taken) (c .if2 .taken)))
+    let loop = c .before .before .loop in
+    sym (loop .inv .1 ∙ ap (tally (loop .n)) (rest-full _ _ _ _ (c .before .loop-test .taken) (c .if1 .taken)))
 
-decode-requires : tie.Need-decode-requires Inv-loop μ-loop
-decode-requires c κs = search needs
+mode-code-requires : tie.Need-mode-code-requires Inv-loop μ-loop
+mode-code-requires c κs = search needs
 
-enum-known-next : tie.Need-enum-known-next Inv-loop μ-loop
-enum-known-next c = search needs
+returns-2 : tie.Need-returns-2 Inv-loop μ-loop
+unfolding tally
+returns-2 c =
+    let if1 = c .before .before .if1 in
+    let loop-test = c .before .before .before .loop-test in
+    let loop = c .before .before .before .before .loop in
+    let args = c .before .before .before .before .before .before .args in
+    sym (loop .inv .1 ∙ ap (tally (loop .n)) (rest-broken _ _ _ _ (loop-test .taken) (if1 .left) (code-none (args .s .now) (args .h) (loop .at) _ (c .before .mode-code .ensures) (c .if2 .taken))))
+
+add-find-nul : tie.Need-add-find-nul Inv-loop μ-loop
+add-find-nul c =
+    let loop = c .before .before .before .before .loop in
+    let args = c .before .before .before .before .before .before .args in
+    omega (arith, name-starts (args .s .now) (args .h) (loop .at) _ (c .before .mode-code .ensures) (c .if2 .left))
+
+find-nul-requires : tie.Need-find-nul-requires Inv-loop μ-loop
+find-nul-requires c κs = search needs
+
+sub-if3 : tie.Need-sub-if3 Inv-loop μ-loop
+sub-if3 c =
+    let mode-code = c .before .before .mode-code in
+    let loop = c .before .before .before .before .before .loop in
+    let args = c .before .before .before .before .before .before .before .args in
+    name-ends (args .s .now) (args .h) (loop .at) _ (mode-code .ensures) (c .before .if2 .left) _ (c .find-nul .ensures)
+
+returns-3 : tie.Need-returns-3 Inv-loop μ-loop
+unfolding tally
+returns-3 c =
+    let if2 = c .before .before .if2 in
+    let mode-code = c .before .before .before .mode-code in
+    let if1 = c .before .before .before .before .if1 in
+    let loop-test = c .before .before .before .before .before .loop-test in
+    let loop = c .before .before .before .before .before .before .loop in
+    let args = c .before .before .before .before .before .before .before .before .args in
+    sym (loop .inv .1 ∙ ap (tally (loop .n)) (rest-broken _ _ _ _ (loop-test .taken) (if1 .left) (name-short (args .s .now) (args .h) (loop .at) _ (mode-code .ensures) (if2 .left) _ (c .before .find-nul .ensures) (c .if3 .taken))))
+
+add-at : tie.Need-add-at Inv-loop μ-loop
+add-at c = search needs
+
+add-at-2 : tie.Need-add-at-2 Inv-loop μ-loop
+add-at-2 c = search needs
 
 add-n : tie.Need-add-n Inv-loop μ-loop
 add-n c = search needs
@@ -39,27 +79,17 @@ loop-less c = search needs
 loop-again : tie.Need-loop-again Inv-loop μ-loop
 unfolding tally
 loop-again c =
-    let if2 = c .before .before .before .before .if2 in
-    let if1 = c .before .before .before .before .before .if1 in
-    let loop = c .before .before .before .before .before .before .before .loop in
-    (omega arith, loop .inv .1 ∙ ap (tally (loop .n)) (rest-whole _ _ _ _ (if1 .taken) (if2 .left) (sym (c .before .before .before .decode .ensures) ∙ c .before .next .given .1)))
+    let if2 = c .before .before .if2 in
+    let mode-code = c .before .before .before .mode-code in
+    let if1 = c .before .before .before .before .if1 in
+    let loop-test = c .before .before .before .before .before .loop-test in
+    let loop = c .before .before .before .before .before .before .loop in
+    let args = c .before .before .before .before .before .before .before .before .args in
+    (omega arith, loop .inv .1 ∙ ap (tally (loop .n)) (rest-whole _ _ _ _ (loop-test .taken) (if1 .left) (name-whole (args .s .now) (args .h) (loop .at) _ (mode-code .ensures) (if2 .left) _ (c .before .find-nul .ensures) (c .if3 .left))))
 
-enum-known-v : tie.Need-enum-known-v Inv-loop μ-loop
-enum-known-v c = search needs
-
-returns-2 : tie.Need-returns-2 Inv-loop μ-loop
+returns-4 : tie.Need-returns-4 Inv-loop μ-loop
 unfolding tally
-returns-2 c =
-    let if2 = c .before .before .before .before .if2 in
-    let if1 = c .before .before .before .before .before .if1 in
-    let loop = c .before .before .before .before .before .before .before .loop in
-    sym (loop .inv .1 ∙ ap (tally (loop .n)) (rest-broken _ _ _ _ (if1 .taken) (if2 .left) (sym (c .before .before .before .decode .ensures) ∙ c .before .v .given .1)))
-
-returns-3 : tie.Need-returns-3 Inv-loop μ-loop
-unfolding tally
-returns-3 c =
-    let loop = c .before .before .loop in
-    sym (loop .inv .1 ∙ ap (tally (loop .n)) (rest-end _ _ _ _ (c .if1 .left)))
+returns-4 c = sym (c .before .loop .inv .1 ∙ ap (tally (c .before .loop .n)) (rest-end _ _ _ _ (c .loop-test .left)))
 
 pub count-plain-spec : {M : Type 1} → statement M
 count-plain-spec =
@@ -69,11 +99,15 @@ count-plain-spec =
     μ-loop
     loop-holds
     returns
-    decode-requires
-    enum-known-next
+    mode-code-requires
+    returns-2
+    add-find-nul
+    find-nul-requires
+    sub-if3
+    returns-3
+    add-at
+    add-at-2
     add-n
     loop-less
     loop-again
-    enum-known-v
-    returns-2
-    returns-3)
+    returns-4)

@@ -1,13 +1,13 @@
--- `ground::same_bytes` meets its contract. Assumes nothing.
+-- `scan::same_bytes` meets its contract. Assumes nothing.
 use borrow.Author.Needs.{needs}
-use Rattle.ground.proofs.same_bytes.Statement.{statement}
-use Rattle.ground.proofs.same_bytes.Tie as tie
+use Rattle.scan.proofs.same_bytes.Statement.{statement}
+use Rattle.scan.proofs.same_bytes.Tie as tie
 use mathlib.Core.Path.{sym, ap, _∙_}
 use Prim.Native.Nat.{ℕ}
 use lib.Dec.{eqb}
 use lib.ListN.{length}
 use native.Mathlib.Omega.{arith}
 use Rattle.ground.proofs.Laws.{same-length, same-common}
 
 returns : tie.Need-returns
 returns c =

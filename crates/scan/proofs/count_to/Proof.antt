@@ -1,9 +1,9 @@
--- `ground::count_to` meets its contract. Assumes nothing.
+-- `scan::count_to` meets its contract. Assumes nothing.
 use borrow.Author.Needs.{needs}
-use Rattle.ground.proofs.count_to.Statement.{statement}
-use Rattle.ground.proofs.count_to.Tie as tie
+use Rattle.scan.proofs.count_to.Statement.{statement}
+use Rattle.scan.proofs.count_to.Tie as tie
 use mathlib.Core.Path.{_∙_}
 use Rattle.ground.proofs.Laws.{place-count}
 
 find-byte-requires : tie.Need-find-byte-requires
 find-byte-requires c κs = search needs

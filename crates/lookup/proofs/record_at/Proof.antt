@@ -1,0 +1,65 @@
+-- `lookup::record_at` meets its contract. Assumes nothing.
+use borrow.Author.Needs.{needs}
+use Rattle.lookup.proofs.record_at.Statement.{statement}
+use Rattle.lookup.proofs.record_at.Tie as tie
+use mathlib.Core.Path.{sym}
+use Rattle.entry.proofs.Laws.{records-at}
+
+mul-at : tie.Need-mul-at
+mul-at c = search needs
+
+mul-mode : tie.Need-mul-mode
+mul-mode c = search needs
+
+shared-slice-read-mode : tie.Need-shared-slice-read-mode
+shared-slice-read-mode c = search needs
+
+add-name-start : tie.Need-add-name-start
+add-name-start c = search needs
+
+mul-name-start : tie.Need-mul-name-start
+mul-name-start c = search needs
+
+shared-slice-read-name-start : tie.Need-shared-slice-read-name-start
+shared-slice-read-name-start c = search needs
+
+add-name-end : tie.Need-add-name-end
+add-name-end c = search needs
+
+mul-name-end : tie.Need-mul-name-end
+mul-name-end c = search needs
+
+shared-slice-read-name-end : tie.Need-shared-slice-read-name-end
+shared-slice-read-name-end c = search needs
+
+add-id-start : tie.Need-add-id-start
+add-id-start c = search needs
+
+mul-id-start : tie.Need-mul-id-start
+mul-id-start c = search needs
+
+shared-slice-read-id-start : tie.Need-shared-slice-read-id-start
+shared-slice-read-id-start c = search needs
+
+returns : tie.Need-returns
+returns c =
+    let args = c .before .before .before .before .args in
+    sym (records-at (args .records .now) (args .i) (c .before .before .before .before .pre))
+
+pub record-at-spec : {M : Type 1} → statement M
+record-at-spec =
+    tie.close
+    (tie.spec
+    mul-at
+    mul-mode
+    shared-slice-read-mode
+    add-name-start
+    mul-name-start
+    shared-slice-read-name-start
+    add-name-end
+    mul-name-end
+    shared-slice-read-name-end
+    add-id-start
+    mul-id-start
+    shared-slice-read-id-start
+    returns)

@@ -1,0 +1,210 @@
+// The scans of bytes, eight and thirty-two at a time.
+ghost use mathlib.Core.Path.{_≡_};
+ghost use Prim.Native.Nat.{_+_, _≤_, _<_, min};
+ghost use lib.ListN.{length, take, drop};
+ghost use Rattle.ground.specs.Scan.{countTo, placeFrom, commonStart, sameBytes};
+ghost use Rattle.scan.specs.Word.{WordOf, marksOf, Marked, FirstAt};
+
+// 128, and 1, in the place of each of eight bytes.
+const HIGHS: u64 = 0x8080808080808080;
+
+const LOWS: u64 = 0x0101010101010101;
+
+// A byte as a number of eight bytes.
+fn wide(x: u8) -> u64
+    ensures same { λ r. ⌜ r ≡ x ⌝ }
+    ensures small { λ r. ⌜ r < 256 ⌝ }
+{
+    x as u64
+}
+
+// Four bytes as one number, the first lowest.
+fn four(s: &[u8], i: usize) -> u64
+    requires { ⌜ i + 4 ≤ length (now s) ⌝ }
+    ensures made { λ r. ⌜ WordOf (take 4 (drop i (now (s .entry)))) r ⌝ }
+    ensures small { λ r. ⌜ r < 4294967296 ⌝ }
+{
+    let a = wide(s[i]);
+    let b = wide(s[i + 1]);
+    let c = wide(s[i + 2]);
+    let d = wide(s[i + 3]);
+    a + b * 256 + c * 65536 + d * 16777216
+}
+
+// Eight bytes as one number, the first lowest.
+fn eight(s: &[u8], i: usize) -> u64
+    requires { ⌜ i + 8 ≤ length (now s) ⌝ }
+    ensures { λ r. ⌜ WordOf (take 8 (drop i (now (s .entry)))) r ⌝ }
+{
+    let low = four(s, i);
+    let high = four(s, i + 4);
+    low + high * 4294967296
+}
+
+// 128 in the place of each of eight bytes that is 0.
+fn marks(w: u64) -> u64
+    ensures { λ r. ⌜ Marked w r ⌝ }
+{
+    HIGHS - ((((w | HIGHS) - LOWS) | w) & HIGHS)
+}
+
+// 128 in the place of each of eight bytes that is x.
+fn marks_at(s: &[u8], i: usize, x: u8) -> u64
+    requires { ⌜ i + 8 ≤ length (now s) ⌝ }
+    ensures { λ r. ⌜ WordOf (marksOf x (take 8 (drop i (now (s .entry))))) r ⌝ }
+{
+    marks(eight(s, i) ^ (wide(x) * LOWS))
+}
+
+// Which of eight bytes is the first that is not 0, where there is one.
+fn place(m: u64) -> usize
+    ensures first { λ r. ⌜ FirstAt m r ⌝ }
+    ensures most { λ r. ⌜ r ≤ 8 ⌝ }
+{
+    (u64::trailing_zeros(m) / 8) as usize
+}
+
+// Where x stands next at or after a place, or where the bytes end (the place itself if that is past the end).
+pub fn find_byte(s: &[u8], from: usize, x: u8) -> usize
+    ensures { λ r. ⌜ r ≡ placeFrom x (now (s .entry)) from ⌝ }
+{
+    if s.len() < from {
+        return from;
+    }
+    let mut i = from;
+    while 8 <= s.len() - i {
+        let m = marks_at(s, i, x);
+        if m != 0 {
+            return i + place(m);
+        }
+        i += 8;
+    }
+    while i < s.len() {
+        if s[i] == x {
+            return i;
+        }
+        i += 1;
+    }
+    i
+}
+
+// How many bytes stand before the first x: all of them where there is none.
+pub fn count_to(s: &[u8], x: u8) -> usize
+    ensures { λ r. ⌜ r ≡ countTo x (now (s .entry)) ⌝ }
+{
+    find_byte(s, 0, x)
+}
+
+// 0 where none of the thirty-two bytes from a place on is NUL, and 1 where one is. The loop has no way out.
+fn in_32(s: &[u8], at: usize) -> u8
+    requires { ⌜ at + 32 ≤ length (now s) ⌝ }
+    ensures none { λ r. ⌜ (r ≡ 0 → placeFrom 0 (now (s .entry)) at ≡ placeFrom 0 (now (s .entry)) (at + 32)) ⌝ }
+    ensures some { λ r. ⌜ ((r ≡ 0 → ⊥) → placeFrom 0 (now (s .entry)) at < at + 32) ⌝ }
+{
+    let mut hit: u8 = 0;
+    let mut k: usize = 0;
+    while k < 32 {
+        if s[at + k] == 0 {
+            hit = 1;
+        }
+        k += 1;
+    }
+    hit
+}
+
+// Past the blocks of thirty-two bytes that have no NUL: at one that has, or at fewer bytes.
+fn skip(s: &[u8], from: usize) -> usize
+    requires { ⌜ from ≤ length (now s) ⌝ }
+    ensures inside { λ r. ⌜ r ≤ length (now (s .entry)) ⌝ }
+    ensures same { λ r. ⌜ placeFrom 0 (now (s .entry)) from ≡ placeFrom 0 (now (s .entry)) r ⌝ }
+    ensures stops { λ r. ⌜ (r + 32 ≤ length (now (s .entry)) → placeFrom 0 (now (s .entry)) r < r + 32) ⌝ }
+{
+    let mut i = from;
+    while 32 <= s.len() - i {
+        if in_32(s, i) != 0 {
+            return i;
+        }
+        i += 32;
+    }
+    i
+}
+
+// The first NUL of a block of thirty-two bytes that has one.
+fn nul_of_block(s: &[u8], j: usize) -> usize
+    requires { ⌜ j + 32 ≤ length (now s) ⌝ }
+    requires { ⌜ placeFrom 0 (now s) j < j + 32 ⌝ }
+    ensures { λ r. ⌜ r ≡ placeFrom 0 (now (s .entry)) j ⌝ }
+{
+    let a = marks(eight(s, j));
+    if a != 0 {
+        return j + place(a);
+    }
+    let j1 = j + 8;
+    let b = marks(eight(s, j1));
+    if b != 0 {
+        return j1 + place(b);
+    }
+    let j2 = j + 16;
+    let c = marks(eight(s, j2));
+    if c != 0 {
+        return j2 + place(c);
+    }
+    let j3 = j + 24;
+    j3 + place(marks(eight(s, j3)))
+}
+
+// Where NUL stands next at or after a place, as find_byte says it.
+pub fn find_nul(s: &[u8], from: usize) -> usize
+    ensures { λ r. ⌜ r ≡ placeFrom 0 (now (s .entry)) from ⌝ }
+{
+    if s.len() < from {
+        return from;
+    }
+    if s.len() - from < 32 {
+        return find_byte(s, from, 0);
+    }
+    let j = skip(s, from);
+    if s.len() - j < 32 {
+        return find_byte(s, j, 0);
+    }
+    nul_of_block(s, j)
+}
+
+// The shorter of two lengths.
+fn shorter(a: usize, b: usize) -> usize
+    ensures { λ r. ⌜ r ≡ min a b ⌝ }
+{
+    if a < b { a } else { b }
+}
+
+// How far two runs of bytes agree.
+pub fn common_start(a: &[u8], b: &[u8]) -> usize
+    ensures { λ r. ⌜ r ≡ commonStart (now (a .entry)) (now (b .entry)) ⌝ }
+{
+    let n = shorter(a.len(), b.len());
+    let mut i = 0;
+    while 8 <= n - i {
+        let d = eight(a, i) ^ eight(b, i);
+        if d != 0 {
+            return i + place(d);
+        }
+        i += 8;
+    }
+    while i < n {
+        if a[i] != b[i] {
+            return i;
+        }
+        i += 1;
+    }
+    i
+}
+
+// Whether two runs of bytes are the same.
+pub fn same_bytes(a: &[u8], b: &[u8]) -> bool
+    ensures { λ r. ⌜ r ≡ sameBytes (now (a .entry)) (now (b .entry)) ⌝ }
+{
+    if a.len() != b.len() {
+        return false;
+    }
+    common_start(a, b) == a.len()
+}
