@@ -15,7 +15,6 @@ use Rattle.header.proofs.Laws.{id-line-no}
 use Rattle.commit_read.specs.Parents.{parentAt, parentStarts}
 use Rattle.commit_read.specs.Headers.{heads, recordsOf, tally}
 use Rattle.commit_read.specs.Fields.{actorAt, encodingAt, foundOf, fieldsOf}
-use Rattle.commit_read.specs.declared.Encoding as read
 use Rattle.commit_read.specs.declared.Person.the-variants as person
 use Rattle.commit_read.specs.declared.Found.{Found}
 use Rattle.commit_read.specs.declared.Outcome.the-variants.{Whole}

@@ -1,5 +1,5 @@
 -- A commit by its fields, its bytes, and which fields may stand (docs/FORMAT.md, "Commits"). Assumes nothing.
-use Prim.Native.Nat.{ℕ, _+_, _*_, _<_}
+use Prim.Native.Nat.{ℕ, _*_, _<_}
 use mathlib.Core.Path.{_≡_}
 use mathlib.Core.Bool.{true}
 use mathlib.Core.List.{List, [], _∷_, _++_}

@@ -1,14 +1,20 @@
--- Laws of the strict rules: each way through the tests of a name, of an entry, and what they say over the entries read before. Assumes nothing.
-use Prim.Native.Nat.{ℕ, _≤_}
+-- Laws of the strict rules: each way through the tests of a mode text, of a name, of an entry, and what they say over the entries read before. Assumes nothing.
+use Prim.Native.Nat.{ℕ, suc, _+_, _-_, _%_, _<_, _≤_}
 use native.Mathlib.Omega.{arith}
 use mathlib.Core.Path.{_≡_, refl, sym, _∙_}
 use mathlib.Core.Bool.{Bool, true, false, not, _||_, false≢true}
 use mathlib.Core.List.{List, [], _∷_, map}
-use lib.ListN.{length}
-use Rattle.ground.specs.Basics.{pick, ascii}
+use lib.Dec.{ltb, leb}
+use lib.ListN.{length, getD, take, drop, length-append}
+use lib.Seq.{take-take, take-append-seam}
+use borrow.Author.Tests.{ltb-true}
+use Rattle.ground.specs.Basics.{pick, ascii, part}
 use Rattle.ground.specs.Scan.{countTo, sameBytes, freeOf}
-use Rattle.ground.proofs.Laws.{is-false, and-left, and-right, whole-free, free-whole}
-use Rattle.mode.specs.Table.{rows, shown, findText}
+use Rattle.ground.proofs.Laws.{is-false, and-left, and-right, whole-free, free-whole, same-refl, same-true}
+use Rattle.ground.proofs.Table.{rows-agree}
+use Rattle.front.specs.Code.{coded, codeAt, spaced, codeIn, quickAt}
+use Rattle.front.proofs.Laws.{quick-is-code}
+use Rattle.mode.specs.Table.{rows, noRow, shown, findText}
 use Rattle.mode.specs.declared.EntryMode.{EntryMode}
 use Rattle.mode.specs.declared.Written.{Written}
 use Rattle.mode.specs.declared.ModeFound.the-variants as found
@@ -24,7 +30,7 @@ use Rattle.reading.specs.declared.Last.the-variants.{Nothing, After}
 
 -- ---- a mode text
 
-text-found : (t : List ℕ) (rs : List Written) (m : EntryMode) → findText t rs ≡ found.Mode m → isText rs t ≡ true
+pub text-found : (t : List ℕ) (rs : List Written) (m : EntryMode) → findText t rs ≡ found.Mode m → isText rs t ≡ true
 text-found t [] m e = let z : _≡_ {A = ℕ} 0 1 = cc in absurd (omega arith)
 text-found t (r ∷ rs) m e = go (text-found t rs m) (sameBytes t (shown (r .text))) e
   where
@@ -33,7 +39,7 @@ text-found t (r ∷ rs) m e = go (text-found t rs m) (sameBytes t (shown (r .tex
     go ih true e = refl
     go ih false e = ih e
 
-text-none : (t : List ℕ) (rs : List Written) → findText t rs ≡ found.None → isText rs t ≡ false
+pub text-none : (t : List ℕ) (rs : List Written) → findText t rs ≡ found.None → isText rs t ≡ false
 text-none t [] e = refl
 text-none t (r ∷ rs) e = go (text-none t rs) (sameBytes t (shown (r .text))) e
   where
@@ -41,6 +47,47 @@ text-none t (r ∷ rs) e = go (text-none t rs) (sameBytes t (shown (r .text))) e
         → (v || isText rs t) ≡ false
     go ih true e = let z : _≡_ {A = ℕ} 0 1 = cc in absurd (omega arith)
     go ih false e = ih e
+
+-- a row's text takes fewer than sixteen bytes with the space
+row-short : (i : ℕ) → i < length rows → length (spaced (getD rows i noRow)) < 16
+unfolding rows
+row-short i h = ltb-true _ _ (rows-agree rows noRow (λ (r : Written). ltb (length (spaced r)) 16) (λ (r : Written). true) refl i h)
+
+-- where such rows give some bytes a code, the bytes begin with the text of one of them, and the code says how long it is
+in-text : (rs : List Written) (b : List ℕ) → ((i : ℕ) → i < length rs → length (spaced (getD rs i noRow)) < 16) → (codeIn rs b ≡ 0 → ⊥)
+    → isText rs (take (codeIn rs b % 16 - 1) b) ≡ true
+unfolding codeIn
+in-text [] b f n = absurd (n refl)
+in-text (r ∷ rs) b f n = go (in-text rs b (λ i h. f (suc i) (omega arith))) _ refl n
+  where
+    later : (v : Bool) (t : List ℕ) → isText rs t ≡ true → (v || isText rs t) ≡ true
+    later true t e = refl
+    later false t e = e
+
+    go : ((codeIn rs b ≡ 0 → ⊥) → isText rs (take (codeIn rs b % 16 - 1) b) ≡ true)
+        → (v : Bool) → sameBytes (take (length (spaced r)) b) (spaced r) ≡ v → (pick v (coded (r .mode) (length (spaced r))) (codeIn rs b) ≡ 0 → ⊥)
+        → isText (r ∷ rs) (take (pick v (coded (r .mode) (length (spaced r))) (codeIn rs b) % 16 - 1) b) ≡ true
+    go ih false p n = later (sameBytes (take (codeIn rs b % 16 - 1) b) (shown (r .text))) _ (ih n)
+    go ih true p n =
+        let n : ℕ = length (shown (r .text)) in
+        let l : length (spaced r) ≡ n + 1 = length-append (shown (r .text)) (32 ∷ []) in
+        let k : coded (r .mode) (length (spaced r)) % 16 - 1 ≡ n = omega (arith, f 0 (omega arith)) in
+        let q = same-true (take (length (spaced r)) b) (spaced r) p in
+        let t : take n b ≡ shown (r .text) = sym (take-take n (length (spaced r)) b (omega arith)) ∙ rw q (take-append-seam (shown (r .text)) (32 ∷ [])) in
+        rw (k, t, same-refl (shown (r .text)))
+
+-- an entry whose mode has a code in the table, and whose name begins where its mode's code says, has a written mode text
+pub text-quick : (s : List ℕ) (at : ℕ) (e : EntryRecord) → (quickAt s at ≡ 0 → ⊥) → e .«name_start» ≡ at + codeAt s at % 16
+    → isText rows (textOf s at e) ≡ true
+unfolding quickAt textOf
+text-quick s at e n q = go (leb (at + 7) (length s)) n (quick-is-code s at n)
+  where
+    go : (v : Bool) → (pick v (codeIn rows (drop at s)) 0 ≡ 0 → ⊥) → codeAt s at ≡ pick v (codeIn rows (drop at s)) 0
+        → isText rows (part at (e .«name_start» - 1) s) ≡ true
+    go true n c =
+        let k : e .«name_start» - 1 - at ≡ codeIn rows (drop at s) % 16 - 1 = omega arith in
+        rw k (in-text rows (drop at s) row-short n)
+    go false n c = absurd (n refl)
 
 -- ---- a name
 
@@ -83,9 +130,6 @@ module _ (n : List ℕ) where
   pub name-empty : length n ≡ 0 → permitted n ≡ false
   name-empty e = is-false (permitted n) (λ p. not-true _ (empty-same (length n) refl e) (permitted-parts p .0))
 
-  pub name-nul : (countTo 0 n ≡ length n → ⊥) → permitted n ≡ false
-  name-nul f = is-false (permitted n) (λ p. f (whole-free 0 n (permitted-parts p .1)))
-
   pub name-slash : (countTo 47 n ≡ length n → ⊥) → permitted n ≡ false
   name-slash f = is-false (permitted n) (λ p. f (whole-free 47 n (permitted-parts p .2)))
 
@@ -98,10 +142,10 @@ module _ (n : List ℕ) where
   pub name-git : sameBytes n (ascii ".git") ≡ true → permitted n ≡ false
   name-git e = is-false (permitted n) (λ p. not-true _ e (permitted-parts p .5))
 
-  pub name-fine : (length n ≡ 0 → ⊥) → countTo 0 n ≡ length n → countTo 47 n ≡ length n → sameBytes n (ascii ".") ≡ false → sameBytes n (ascii "..") ≡ false
+  pub name-fine : (length n ≡ 0 → ⊥) → freeOf 0 n ≡ true → countTo 47 n ≡ length n → sameBytes n (ascii ".") ≡ false → sameBytes n (ascii "..") ≡ false
       → sameBytes n (ascii ".git") ≡ false → permitted n ≡ true
   unfolding permitted
-  name-fine a b c d e f = rw (some-same a, free-whole 0 n b, free-whole 47 n c, d, e, f)
+  name-fine a b c d e f = rw (some-same a, b, free-whole 47 n c, d, e, f)
 
 -- ---- an entry after the one before
 
@@ -122,18 +166,18 @@ module _ (s : List ℕ) (e : EntryRecord) where
 -- ---- an entry
 
 module _ (s : List ℕ) (last : Last) (at : ℕ) (e : EntryRecord) where
-  pub judge-text : findText (textOf s at e) rows ≡ found.None → judgeAt s last at e ≡ 5
+  pub judge-text : isText rows (textOf s at e) ≡ false → judgeAt s last at e ≡ 5
   unfolding judgeAt
-  judge-text f = rw (text-none (textOf s at e) rows f)
+  judge-text t = rw t
 
-  module _ (m : EntryMode) (f : findText (textOf s at e) rows ≡ found.Mode m) where
+  module _ (t : isText rows (textOf s at e) ≡ true) where
     pub judge-name : permitted (nameOf s e) ≡ false → judgeAt s last at e ≡ 6
     unfolding judgeAt
-    judge-name p = rw (text-found (textOf s at e) rows m f, p)
+    judge-name p = rw (t, p)
 
     pub judge-after : permitted (nameOf s e) ≡ true → judgeAt s last at e ≡ afterAt s last e
     unfolding judgeAt
-    judge-after p = rw (text-found (textOf s at e) rows m f, p)
+    judge-after p = rw (t, p)
 
 -- the leaves say what the rules say over the entries that were read before, the nearest first
 pub judges : (h : ℕ) (s : List ℕ) (seen : List EntryRecord) (at : ℕ) (e : EntryRecord)

@@ -1,18 +1,26 @@
 -- The strict reader's first pass, turn by turn: what holds at the head of a turn, and what each way out of a turn gives. Assumes nothing.
-use Prim.Native.Nat.{ℕ, _+_, _<_, _≤_}
+use Prim.Native.Nat.{ℕ, _+_, _-_, _%_, _<_, _≤_}
 use native.Mathlib.Omega.{arith}
 use mathlib.Core.Path.{_≡_, refl, ap, sym, _∙_}
+use mathlib.Core.Bool.{true}
 use mathlib.Core.List.{List, [], _∷_, map}
 use lib.ListN.{length, drop}
+use lib.Seq.{drop-drop}
+use Rattle.ground.specs.Scan.{countTo, freeOf}
 use Rattle.ground.specs.Verdict.{verdict, mostRecords}
 use Rattle.ground.specs.declared.Verdict.{Verdict}
+use Rattle.ground.proofs.Laws.{free-count}
+use Rattle.front.specs.Code.{codeAt}
+use Rattle.front.proofs.Laws.{code-of-mode}
+use Rattle.mode.specs.Read.{readModeAt, moved}
 use Rattle.mode.proofs.Laws.{read-next}
+use Rattle.entry.specs.Record.{nameOf}
 use Rattle.entry.specs.Entry.{entryOf}
 use Rattle.entry.specs.Decode.{decode}
 use Rattle.entry.specs.declared.EntryRecord.{EntryRecord}
 use Rattle.entry.specs.declared.Cursor.{Cursor}
 use Rattle.entry.specs.declared.Decoded.the-variants.{Whole, Broken}
-use Rattle.entry.proofs.Laws.{decode-inside, decode-parts}
+use Rattle.entry.proofs.Laws.{Parts, decode-inside, decode-parts}
 use Rattle.reading.specs.Listing.{Listing, tally}
 use Rattle.reading.specs.Rules.{judge, textOf, cut, strictly, gitRules}
 use Rattle.reading.specs.Code.{Within, LastWithin, lastOf, judgeAt}
@@ -33,13 +41,34 @@ pub record Reading (h : ℕ) (s : List ℕ) (at n : ℕ) (last : Last) : Type 0 
 pub reading-start : (h : ℕ) (s : List ℕ) → Reading h s 0 0 Nothing
 reading-start h s = record { seen = []; few = omega arith; nearest = refl; inside = tt; same = refl }
 
--- an entry that was decoded lies inside, past its mode text and a space
-pub decoded-within : (h : ℕ) (s : List ℕ) (at : ℕ) (e : EntryRecord) (next : Cursor) → decode h at (drop at s) ≡ Whole e next → Within (length s) at e
-decoded-within h s at e next d =
-    let i = decode-inside h s at e next d in
-    let p = decode-parts h at (drop at s) e next d in
-    let a : e .«name_start» ≡ at + p .size = ap (λ (x : EntryRecord). x .«name_start») (p .laid) in
-    (omega (arith, read-next (drop at s) (e .mode) (p .size) (p .reads)), omega arith, omega arith)
+-- an entry that was decoded
+module _ (h : ℕ) (s : List ℕ) (at : ℕ) (e : EntryRecord) (next : Cursor) (d : decode h at (drop at s) ≡ Whole e next) where
+  parts : Parts h at (drop at s) e next
+  parts = decode-parts h at (drop at s) e next d
+
+  start-is : e .«name_start» ≡ at + parts .size
+  start-is = ap (λ (x : EntryRecord). x .«name_start») (parts .laid)
+
+  -- it lies inside, past its mode text and a space
+  pub decoded-within : Within (length s) at e
+  decoded-within =
+      let i = decode-inside h s at e next d in
+      (omega (arith, start-is, read-next (drop at s) (e .mode) (parts .size) (parts .reads)), omega arith, omega arith)
+
+  -- its name ends at the first NUL
+  pub decoded-free : freeOf 0 (nameOf s e) ≡ true
+  unfolding nameOf
+  decoded-free =
+      let n : ℕ = countTo 0 (drop (parts .size) (drop at s)) in
+      let b : e .«name_end» ≡ at + parts .size + n = ap (λ (x : EntryRecord). x .«name_end») (parts .laid) in
+      let k : e .«name_end» - e .«name_start» ≡ n = omega (arith, start-is) in
+      let t : drop (e .«name_start») s ≡ drop (parts .size) (drop at s) = ap (λ (i : ℕ). drop i s) start-is ∙ sym (drop-drop (parts .size) at s) in
+      rw (k, t) (free-count 0 (drop (parts .size) (drop at s)))
+
+  -- and begins where the code of its mode says
+  pub decoded-code : e .«name_start» ≡ at + codeAt s at % 16
+  unfolding readModeAt
+  decoded-code = omega (arith, start-is, code-of-mode s at _ _ (ap (moved at) (parts .reads)))
 
 module _ (h : ℕ) (s : List ℕ) (at n : ℕ) (last : Last) (r : Reading h s at n last) where
   abbrev from : Listing → Listing

@@ -1,13 +1,16 @@
 // A whole tree object into lent records, plainly and strictly (docs/FORMAT.md, "Reading" and "Strict reading"). Follows tree/ref_iter.rs.
 ghost use mathlib.Core.Path.{_≡_};
-ghost use Prim.Native.Nat.{_≤_};
+ghost use mathlib.Core.Bool.{true};
+ghost use Prim.Native.Nat.{_+_, _%_, _≤_};
 ghost use lib.ListN.{length};
 ghost use lib.Seq.{sets};
+ghost use Rattle.ground.specs.Scan.{freeOf};
 ghost use Rattle.ground.specs.Verdict.{stored};
-ghost use Rattle.entry.specs.Record.{many};
+ghost use Rattle.mode.specs.Table.{rows};
+ghost use Rattle.entry.specs.Record.{many, nameOf};
 ghost use Rattle.front.specs.Code.{codeAt};
 ghost use Rattle.reading.specs.Listing.{listing, tally, recordsIn, flats};
-ghost use Rattle.reading.specs.Rules.{permitted, gitRules, strictly};
+ghost use Rattle.reading.specs.Rules.{isText, textOf, permitted, gitRules, strictly};
 ghost use Rattle.reading.specs.Whole.{inRoom, readAnswer, readRecords};
 ghost use Rattle.reading.specs.Code.{Within, LastWithin, afterAt, judgeAt};
 use entry::Cursor;
@@ -87,15 +90,13 @@ fn count_plain(s: &[u8], h: usize) -> Counted
     Counted::Total(n)
 }
 
-// Whether the strict reader permits a name.
+// Whether the strict reader permits a name that has no NUL.
 fn name_permitted(name: &[u8]) -> bool
+    requires { ⌜ freeOf 0 (now name) ≡ true ⌝ }
     ensures { λ r. ⌜ r ≡ permitted (now (name .entry)) ⌝ }
 {
     let all = name.len();
     if all == 0 {
-        return false;
-    }
-    if count_to(name, 0) != all {
         return false;
     }
     if count_to(name, 47) != all {
@@ -135,24 +136,40 @@ fn after_number(s: &[u8], last: Last, e: EntryRecord) -> usize
     }
 }
 
-// What the strict rules say of an entry at a place: 0, 5, 6 or 7.
+// Whether the mode text of an entry at a place is a written one.
+fn is_written(s: &[u8], at: usize, e: EntryRecord) -> bool
+    requires { ⌜ Within (length (now s)) at e ⌝ }
+    requires { ⌜ e .«name_start» ≡ at + codeAt (now s) at % 16 ⌝ }
+    ensures { λ r. ⌜ r ≡ isText rows (textOf (now (s .entry)) at e) ⌝ }
+{
+    if quick_code(s, at) != 0 {
+        return true;
+    }
+    let start = e.name_start;
+    let space = start - 1;
+    match written_mode(&s[at..space]) {
+        ModeFound::None => false,
+        ModeFound::Mode(_) => true,
+    }
+}
+
+// What the strict rules say of an entry at a place, as it was decoded there: 0, 5, 6 or 7.
 fn judge_entry(s: &[u8], last: Last, at: usize, e: EntryRecord) -> usize
     requires { ⌜ LastWithin (length (now s)) last ⌝ }
     requires { ⌜ Within (length (now s)) at e ⌝ }
+    requires { ⌜ freeOf 0 (nameOf (now s) e) ≡ true ⌝ }
+    requires { ⌜ e .«name_start» ≡ at + codeAt (now s) at % 16 ⌝ }
     ensures { λ r. ⌜ r ≡ judgeAt (now (s .entry)) last at e ⌝ }
 {
-    let start = e.name_start;
-    let end = e.name_end;
-    let space = start - 1;
-    match written_mode(&s[at..space]) {
-        ModeFound::None => 5,
-        ModeFound::Mode(_) => {
-            if name_permitted(&s[start..end]) {
-                return after_number(s, last, e);
-            }
-            6
+    if is_written(s, at, e) {
+        let start = e.name_start;
+        let end = e.name_end;
+        if name_permitted(&s[start..end]) {
+            return after_number(s, last, e);
         }
+        return 6;
     }
+    5
 }
 
 // The first pass of the strict reader.

@@ -6,7 +6,6 @@ use Rattle.commit_write.proofs.Laws.{value-length, folded-put, plain-pu
 use Rattle.commit_check.proofs.Laws.{header-well}
 use mathlib.Core.Path.{refl}
 use native.Mathlib.Omega.{arith}
-use Prim.Native.Nat.{_-_}
 
 sub-value : tie.Need-sub-value
 sub-value c =

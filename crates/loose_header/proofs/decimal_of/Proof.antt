@@ -7,7 +7,7 @@ use lib.ListN.{length, drop, length-set}
 use native.Mathlib.Omega.{arith}
 use mathlib.Core.List.{_++_}
 use mathlib.Core.Path.{_≡_, refl, sym, _∙_}
-use Prim.Native.Nat.{_+_, _-_, _^_, _<_, _≤_}
+use Prim.Native.Nat.{_^_, _<_, _≤_}
 use borrow.Author.Needs.{needs}
 
 abbrev Inv-loop : tie.InvT-loop

@@ -5,7 +5,7 @@ use Prim.Native.Nat.{_-_}
 use mathlib.Core.Path.{sym, _∙_}
 use borrow.Author.Needs.{needs}
 use Rattle.ground.specs.Verdict.{mostRecords}
-use Rattle.reading.proofs.Strictly.{Reading, reading-start, reading-end, reading-full, reading-broken, reading-refused, reading-kept, decoded-within}
+use Rattle.reading.proofs.Strictly.{Reading, reading-start, reading-end, reading-full, reading-broken, reading-refused, reading-kept, decoded-within, decoded-free, decoded-code}
 
 abbrev Inv-loop : tie.InvT-loop
 Inv-loop s h c₀ n₀ last₀ c n last = Reading h s (c .at) n last
@@ -28,7 +28,8 @@ enum-known-e c = search needs
 judge-entry-requires : tie.Need-judge-entry-requires Inv-loop μ-loop
 judge-entry-requires c κs =
     let loop = c .before .before .before .before .before .before .before .loop in
-    (loop .inv .inside, decoded-within _ _ _ _ _ (sym (c .before .before .before .decode .ensures) ∙ c .before .e .given .1))
+    let d = sym (c .before .before .before .decode .ensures) ∙ c .before .e .given .1 in
+    (loop .inv .inside, (decoded-within _ _ _ _ _ d, (decoded-free _ _ _ _ _ d, decoded-code _ _ _ _ _ d)))
 
 returns-2 : tie.Need-returns-2 Inv-loop μ-loop
 returns-2 c =

@@ -68,7 +68,8 @@ loop-again c =
     let loop-test = c .before .before .before .before .before .before .loop-test in
     let loop = c .before .before .before .before .before .before .before .loop in
     let args = c .before .before .before .before .before .before .before .before .before .before .args in
-    let e = entry-there (args .s .now) (args .h) (loop .at) (loop .n) _ (loop .inv .1) (loop-test .taken) _ (mode-code .ensures) _ (find-nul .ensures) in (put-entry .kept .0 ∙ loop .inv .0, sym (ap (tally (loop .n)) e) ∙ loop .inv .1, store-turn (loop .records) _ (loop .n) _ _ _ _ e (omega arith) (put-entry .ensures) (loop .inv .2))
+    let e = entry-there (args .s .now) (args .h) (loop .at) (loop .n) _ (loop .inv .1) (loop-test .taken) _ (mode-code .ensures) _ (find-nul .ensures) in
+    (put-entry .kept .0 ∙ loop .inv .0, sym (ap (tally (loop .n)) e) ∙ loop .inv .1, store-turn (loop .records) _ (loop .n) _ _ _ _ e (omega arith) (put-entry .ensures) (loop .inv .2))
 
 same-length : tie.Need-same-length Inv-loop μ-loop
 same-length c = c .before .loop .inv .0

@@ -49,7 +49,8 @@ returns-2 c =
     let marks = c .before .before .before .before .before .marks in
     let eight = c .before .before .before .before .before .before .eight in
     let args = c .before .before .before .before .before .before .before .before .args in
-    let past = nul-past (args .s .now) (args .j) _ _ (omega arith) (eight .ensures) (marks .ensures) (args .j + 8) (if1 .left) (omega arith) in sym (past ∙ nul-in (args .s .now) (args .j + 8) _ _ (omega arith) (eight2 .ensures) (marks2 .ensures) _ (c .place2 .ensures .0) (c .before .if2 .taken))
+    let past = nul-past (args .s .now) (args .j) _ _ (omega arith) (eight .ensures) (marks .ensures) (args .j + 8) (if1 .left) (omega arith) in
+    sym (past ∙ nul-in (args .s .now) (args .j + 8) _ _ (omega arith) (eight2 .ensures) (marks2 .ensures) _ (c .place2 .ensures .0) (c .before .if2 .taken))
 
 add-j2 : tie.Need-add-j2
 add-j2 c = search needs
@@ -77,7 +78,9 @@ returns-3 c =
     let marks = c .before .before .before .before .before .before .before .before .marks in
     let eight = c .before .before .before .before .before .before .before .before .before .eight in
     let args = c .before .before .before .before .before .before .before .before .before .before .before .args in
-    let past = nul-past (args .s .now) (args .j) _ _ (omega arith) (eight .ensures) (marks .ensures) (args .j + 8) (if1 .left) (omega arith) in let past2 = nul-past (args .s .now) (args .j + 8) _ _ (omega arith) (eight2 .ensures) (marks2 .ensures) (args .j + 16) (if2 .left) (omega arith) in sym (past ∙ past2 ∙ nul-in (args .s .now) (args .j + 16) _ _ (omega arith) (eight3 .ensures) (marks3 .ensures) _ (c .place3 .ensures .0) (c .before .if3 .taken))
+    let past = nul-past (args .s .now) (args .j) _ _ (omega arith) (eight .ensures) (marks .ensures) (args .j + 8) (if1 .left) (omega arith) in
+    let past2 = nul-past (args .s .now) (args .j + 8) _ _ (omega arith) (eight2 .ensures) (marks2 .ensures) (args .j + 16) (if2 .left) (omega arith) in
+    sym (past ∙ past2 ∙ nul-in (args .s .now) (args .j + 16) _ _ (omega arith) (eight3 .ensures) (marks3 .ensures) _ (c .place3 .ensures .0) (c .before .if3 .taken))
 
 add-j3 : tie.Need-add-j3
 add-j3 c = search needs
@@ -108,7 +111,10 @@ returns-4 c =
     let eight = c .before .before .before .before .before .before .before .before .before .before .before .eight in
     let args = c .before .before .before .before .before .before .before .before .before .before .before .before .before .args in
     let pre = c .before .before .before .before .before .before .before .before .before .before .before .before .before .pre in
-    let past = nul-past (args .s .now) (args .j) _ _ (omega arith) (eight .ensures) (marks .ensures) (args .j + 8) (if1 .left) (omega arith) in let past2 = nul-past (args .s .now) (args .j + 8) _ _ (omega arith) (eight2 .ensures) (marks2 .ensures) (args .j + 16) (if2 .left) (omega arith) in let past3 = nul-past (args .s .now) (args .j + 16) _ _ (omega arith) (eight3 .ensures) (marks3 .ensures) (args .j + 24) (if3 .left) (omega arith) in sym (past ∙ past2 ∙ past3 ∙ nul-among (args .s .now) (args .j + 24) _ _ (omega arith) (eight4 .ensures) (c .before .marks4 .ensures) _ (c .place4 .ensures .0) (omega (arith, pre, past, past2, past3)))
+    let past = nul-past (args .s .now) (args .j) _ _ (omega arith) (eight .ensures) (marks .ensures) (args .j + 8) (if1 .left) (omega arith) in
+    let past2 = nul-past (args .s .now) (args .j + 8) _ _ (omega arith) (eight2 .ensures) (marks2 .ensures) (args .j + 16) (if2 .left) (omega arith) in
+    let past3 = nul-past (args .s .now) (args .j + 16) _ _ (omega arith) (eight3 .ensures) (marks3 .ensures) (args .j + 24) (if3 .left) (omega arith) in
+    sym (past ∙ past2 ∙ past3 ∙ nul-among (args .s .now) (args .j + 24) _ _ (omega arith) (eight4 .ensures) (c .before .marks4 .ensures) _ (c .place4 .ensures .0) (omega (arith, pre, past, past2, past3)))
 
 pub nul-of-block-spec : {M : Type 1} → statement M
 nul-of-block-spec =

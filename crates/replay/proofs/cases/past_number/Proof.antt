@@ -1,7 +1,6 @@
+-- `replay::past_number` meets its contract. Assumes nothing.
 use Rattle.replay.proofs.cases.past_number.Statement.{statement}
 use Rattle.replay.proofs.cases.past_number.Tie as tie
-use Rattle.replay.proofs.cases.past_number.Reads as reads
-use Rattle.replay.proofs.cases.past_number.Lts as lts
 use borrow.Author.Needs.{needs}
 use Prim.Native.Nat.{_-_}
 use lib.ListN.{length}
@@ -12,35 +11,27 @@ Inv-loop s at i₀ i = Unit {0}
 abbrev μ-loop : tie.MeasureT-loop
 μ-loop s at i₀ i = length s - i
 
--- src/cases.rt:30:5
 loop-holds : tie.Need-loop-holds Inv-loop μ-loop
 loop-holds c = tt
 
--- src/cases.rt:31:12
 shared-slice-read-if1 : tie.Need-shared-slice-read-if1 Inv-loop μ-loop
 shared-slice-read-if1 c = search needs
 
--- src/cases.rt:32:20
 add-result : tie.Need-add-result Inv-loop μ-loop
 add-result c = search needs
 
--- src/cases.rt:32:13
 returns : tie.Need-returns Inv-loop μ-loop
 returns c = search needs
 
--- src/cases.rt:34:9
 add-i : tie.Need-add-i Inv-loop μ-loop
 add-i c = search needs
 
--- src/cases.rt:30:5
 loop-less : tie.Need-loop-less Inv-loop μ-loop
 loop-less c = search needs
 
--- src/cases.rt:30:5
 loop-again : tie.Need-loop-again Inv-loop μ-loop
 loop-again c = tt
 
--- src/cases.rt:28:1
 returns-2 : tie.Need-returns-2 Inv-loop μ-loop
 returns-2 c = search needs
 

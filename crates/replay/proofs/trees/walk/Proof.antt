@@ -1,10 +1,6 @@
+-- `replay::walk` meets its contract. Assumes nothing.
 use Rattle.replay.proofs.trees.walk.Statement.{statement}
 use Rattle.replay.proofs.trees.walk.Tie as tie
-use Rattle.replay.proofs.trees.walk.Reads as reads
-use Rattle.replay.proofs.trees.walk.Lts as lts
-use Rattle.entry.proofs.Cursor.step.Reads as step-reads
-use Rattle.entry.proofs.entry_at.Reads as entry-at-reads
-use Rattle.replay.proofs.trees.same_record.Reads as same-record-reads
 use borrow.Author.Needs.{needs}
 use Prim.Native.Nat.{_-_}
 use lib.ListN.{length}
@@ -15,43 +11,33 @@ Inv-loop object h want c₀ found₀ same₀ c found same = Unit {0}
 abbrev μ-loop : tie.MeasureT-loop
 μ-loop object h want c₀ found₀ same₀ c found same = length object - found
 
--- src/trees.rt:208:5
 loop-holds : tie.Need-loop-holds Inv-loop μ-loop
 loop-holds c = tt
 
--- src/trees.rt:209:13
 step-requires : tie.Need-step-requires Inv-loop μ-loop
 step-requires c κs = search needs
 
--- src/trees.rt:213:48
 entry-at-requires : tie.Need-entry-at-requires Inv-loop μ-loop
 entry-at-requires c κs = search needs
 
--- src/trees.rt:213:24
 same-record-requires : tie.Need-same-record-requires Inv-loop μ-loop
 same-record-requires c κs = search needs
 
--- src/trees.rt:215:9
 add-found : tie.Need-add-found Inv-loop μ-loop
 add-found c = search needs
 
--- src/trees.rt:208:5
 loop-less : tie.Need-loop-less Inv-loop μ-loop
 loop-less c = search needs
 
--- src/trees.rt:208:5
 loop-again : tie.Need-loop-again Inv-loop μ-loop
 loop-again c = tt
 
--- src/trees.rt:217:9
 step-requires-2 : tie.Need-step-requires-2 Inv-loop μ-loop
 step-requires-2 c κs = search needs
 
--- src/trees.rt:204:1
 returns : tie.Need-returns Inv-loop μ-loop
 returns c = search needs
 
--- src/trees.rt:204:1
 returns-2 : tie.Need-returns-2 Inv-loop μ-loop
 returns-2 c = search needs
 
