@@ -47,10 +47,13 @@ fn differing(counts: &[usize]) -> usize {
     std::num::wrapping_sub_usize(count_at(counts, 0), count_at(counts, AGREE))
 }
 
-// The calls of trees.list have the places 1 to 8, those of commits.list 9 to 11.
+// The calls of trees.list have the places 1 to 8, those of commits.list 9 to 11, and what is no call has 15.
 fn place(trees: bool, call: usize) -> usize
     ensures { λ r. ⌜ r < 16 ⌝ }
 {
+    if call == 0 {
+        return 15;
+    }
     if trees {
         if call <= 8 {
             return call;
