@@ -9,7 +9,7 @@ import subprocess
 import sys
 
 import paper
-from lists import HERE, SHAPES, fields
+from lists import FIRST, HERE, SHAPES, fields
 
 Case = collections.namedtuple("Case", "file call goes_in comes_out numbers question expected")
 CALLS = {("trees", 1): "mode text", ("trees", 2): "mode asked", ("trees", 3): "mode from a number", ("trees", 4): "name order",
@@ -167,7 +167,7 @@ def again(file, call, i):
 def encoded(case):
     """The bytes of a case, what goes in and what comes out."""
     goes_in, comes_out = SHAPES[case.file, case.call]
-    return bytes([case.call]) + fields(goes_in, case.goes_in), fields(comes_out, case.comes_out)
+    return bytes([case.call + FIRST[case.file]]) + fields(goes_in, case.goes_in), fields(comes_out, case.comes_out)
 
 
 def compare(cases):

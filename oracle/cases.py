@@ -1,12 +1,12 @@
 #!/usr/bin/env python3
-"""Makes cases, asks the Rust (./answer) and paper.py, compares the two, and writes trees.list and commits.list.
+"""Makes cases, asks the Rust (./answer) and paper.py, compares the two, and writes the list that `replay` replays.
 
-    ./cases.py              writes the two lists and prints what is in them
+    ./cases.py              writes the list and prints what is in it
     ./cases.py --many N     runs N random cases of each kind and the long exhaustive ones, and writes nothing
                             (a third word is another seed)
-    ./cases.py --read       reads the two lists back and holds every case against the paper and the Rust once more
+    ./cases.py --read       reads the list back and holds every case against the paper and the Rust once more
 
-The seed is fixed, so the lists come out the same every time. Any difference between the Rust and the paper stops
+The seed is fixed, so the list comes out the same every time. Any difference between the Rust and the paper stops
 the run and shows the smallest case that has it. The list format: README.md and lists.py. What a case is: calls.py.
 """
 import collections
@@ -18,7 +18,7 @@ import git_objects
 import paper
 from calls import (CALLS, again, commit_reading, commit_writing, compare, encoded, lookup, loose_header, mode_asked, mode_from_number,
                    mode_text, name_order, tree_reading, tree_writing, unfold)
-from lists import list_path, read_list
+from lists import LIST, read_list
 
 HUGE = [2**64 - 1, 2**64 - 20, 2**63, 2**32, 65536]
 BAD_H = [0, 1, 19, 21, 31, 33, 40, 64, 2**32 + 20, 2**64 - 1]
@@ -459,7 +459,7 @@ def from_git():
 
 # ---------------------------------------------------------------- running
 
-# Random cases of each call in the lists.
+# Random cases of each call in the list.
 RANDOM = [(random_mode_text, 2200), (random_mode_asked, 1400), (random_mode_from_number, 900), (random_name_order, 1500),
           (random_tree_reading, 3000), (random_lookup, 2400), (random_tree_writing, 2600), (random_loose_header, 700),
           (random_commit_reading, 2700), (random_unfold, 2200), (random_commit_writing, 2200)]
@@ -497,7 +497,7 @@ def many(n):
 
 
 def read_back():
-    """Every case of the lists: the same fields must come out again."""
+    """Every case of the list: the same fields must come out again."""
     tally = Tally()
     for file in ("trees", "commits"):
         cases = []
@@ -508,7 +508,7 @@ def read_back():
     tally.show()
 
 
-def write_lists():
+def write_list():
     """No case twice, and call after call."""
     tally, made = Tally(), {key: {} for key in CALLS}
     for case in itertools.chain(exhaustive(long=False), from_git(), (make() for make, share in RANDOM for _ in range(share))):
@@ -516,11 +516,10 @@ def write_lists():
         made[case.file, case.call].setdefault(goes_in, (comes_out, case))
     for cases in made.values():
         tally.compare([case for _comes_out, case in cases.values()])
-    for file in ("trees", "commits"):
-        content = [goes_in + comes_out for key, cases in made.items() if key[0] == file for goes_in, (comes_out, _case) in cases.items()]
-        with open(list_path(file), "wb") as out:
-            out.write(b"".join(content))
-        print(f"{file}.list: {len(b''.join(content))} bytes, {len(content)} cases")
+    content = [goes_in + comes_out for cases in made.values() for goes_in, (comes_out, _case) in cases.items()]
+    with open(LIST, "wb") as out:
+        out.write(b"".join(content))
+    print(f"{len(b''.join(content))} bytes, {len(content)} cases")
     tally.show()
 
 
@@ -531,4 +530,4 @@ if __name__ == "__main__":
     elif sys.argv[1:] == ["--read"]:
         read_back()
     else:
-        write_lists()
+        write_list()

@@ -1,13 +1,14 @@
-"""The format of trees.list and commits.list, and where they stand; README.md says it in words."""
+"""The format of the list of cases, and where it stands; README.md says it in words."""
 import os
 
 HERE = os.path.dirname(os.path.abspath(__file__))
 
 
-def list_path(file):
-    """The lists are the data of the program that replays them."""
-    return os.path.join(HERE, "..", "crates", "replay", "data", file + ".list")
+# The list is the standard input of the program that replays it.
+LIST = os.path.join(HERE, "..", "crates", "replay", "stdin")
 
+# What is added to the number of a call in the list: those of commits come after those of trees.
+FIRST = {"trees": 0, "commits": 8}
 
 
 def number(n):
@@ -46,9 +47,9 @@ def fields(shape, values):
     return out
 
 
-def read_list(file):
-    """The cases of a list, read back: (call, fields in, fields out)."""
-    with open(list_path(file), "rb") as f:
+def read_list(wanted):
+    """The cases of the list that are of trees, or of commits, read back: (call, fields in, fields out)."""
+    with open(LIST, "rb") as f:
         content = f.read()
     at = 0
 
@@ -74,6 +75,9 @@ def read_list(file):
         return content[at - n:at]
 
     while at < len(content):
-        call = content[at]
+        file = "trees" if content[at] <= FIRST["commits"] else "commits"
+        call = content[at] - FIRST[file]
         at += 1
-        yield call, *[[one_field(x) for x in shape] for shape in SHAPES[file, call]]
+        case = call, *[[one_field(x) for x in shape] for shape in SHAPES[file, call]]
+        if file == wanted:
+            yield case

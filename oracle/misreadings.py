@@ -1,7 +1,7 @@
 #!/usr/bin/env python3
-"""Do the lists bite? Plausible misreadings of document 01, put into paper.py one at a time: each must change an answer in the lists.
+"""Does the list bite? Plausible misreadings of docs/FORMAT.md, put into paper.py one at a time: each must change an answer in the list.
 
-    ./misreadings.py        prints for each how many cases of the lists answer otherwise; an error if one goes unseen
+    ./misreadings.py        prints for each how many cases of the list answer otherwise; an error if one goes unseen
 """
 import importlib
 import os

@@ -1,4 +1,4 @@
-"""docs/01-scope.md ("the document") read a second time, in plain Python.
+"""The specification ("the document"; docs/FORMAT.md says it in words) read a second time, in plain Python.
 
 Written from the document's text and not from the Rust, so that the two can be held against each other.
 Every public call gives a tuple of numbers, with lists or bytes where the call fills something.

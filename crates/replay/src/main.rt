@@ -1,5 +1,5 @@
-// Replays the cases of trees.list and commits.list, which stand in the current folder: what the Rust, Git's own objects and the paper answered
-// (oracle/README.md), held against what the library answers. A line for each call says how many cases there are and how many agree.
+// Replays the list of cases that is its standard input, a file: what the Rust, Git's own objects and the paper answered (oracle/README.md),
+// held against what the library answers. A line for each call says how many cases there are and how many agree.
 mod cases;
 mod commits;
 mod trees;
@@ -8,6 +8,8 @@ use cases::Mark;
 use commits::commit_case;
 use ground::byte_at;
 use libc::SEEK_SET;
+use libc::STDERR_FILENO;
+use libc::STDIN_FILENO;
 use libc::STDOUT_FILENO;
 use trees::tree_case;
 ghost use Prim.Native.Nat.{_<_};
@@ -47,21 +49,15 @@ fn differing(counts: &[usize]) -> usize {
     std::num::wrapping_sub_usize(count_at(counts, 0), count_at(counts, AGREE))
 }
 
-// The calls of trees.list have the places 1 to 8, those of commits.list 9 to 11, and what is no call has 15.
-fn place(trees: bool, call: usize) -> usize
+// The calls 1 to 8 are those of trees, 9 to 11 those of commits; what is no call is counted at 15.
+fn place(call: usize) -> usize
     ensures { λ r. ⌜ r < 16 ⌝ }
 {
     if call == 0 {
         return 15;
     }
-    if trees {
-        if call <= 8 {
-            return call;
-        }
-        return 15;
-    }
-    if call <= 3 {
-        return 8 + call;
+    if call <= 11 {
+        return call;
     }
     15
 }
@@ -77,68 +73,53 @@ fn count_case(good: bool, at: usize, counts: &mut [usize])
     }
 }
 
-// A case that differs: its index in its list, from 0 on, and its call.
-fn say_difference(trees: bool, index: usize, call: usize) {
-    if trees {
-        say(b"differs: trees.list case ");
-    } else {
-        say(b"differs: commits.list case ");
-    }
+// A case that differs: its index, from 0 on, and its call.
+fn say_difference(index: usize, call: usize) {
+    say(b"differs: case ");
     say_number(index);
     say(b" call ");
     say_number(call);
     say(b"\n");
 }
 
-fn one_case(trees: bool, call: usize, s: &[u8]) -> Mark {
-    if trees {
+fn one_case(call: usize, s: &[u8]) -> Mark {
+    if call <= 8 {
         return tree_case(call, s);
     }
-    commit_case(call, s)
+    commit_case(call - 8, s)
 }
 
-// The case at a place of a list: how many bytes it has; 0 where the list ends, or has a call that there is not.
-fn replay_case(fd: i32, trees: bool, at: usize, index: usize, counts: &mut [usize]) -> usize {
+// The case at a place of the list: how many bytes it has; 0 where the list ends, or has a call that there is not.
+fn replay_case(at: usize, index: usize, counts: &mut [usize]) -> usize {
     let mut s = [0u8; WINDOW];
-    libc::lseek(fd, (at % 1099511627776) as i64, SEEK_SET);
-    let n = io::read_full(fd, &mut s);
+    libc::lseek(STDIN_FILENO, (at % 1099511627776) as i64, SEEK_SET);
+    let n = io::read_full(STDIN_FILENO, &mut s);
     if n == 0 {
         return 0;
     }
     let call = byte_at(&s, 0) as usize;
-    let m = one_case(trees, call, &s);
+    let m = one_case(call, &s);
     let good = m.good && m.at <= n;
-    count_case(good, place(trees, call), counts);
+    count_case(good, place(call), counts);
     if !good {
         if differing(counts) <= SAID {
-            say_difference(trees, index, call);
+            say_difference(index, call);
         }
     }
     m.at
 }
 
-fn replay(fd: i32, trees: bool, counts: &mut [usize]) {
+fn replay(counts: &mut [usize]) {
     let mut at: usize = 0;
     let mut index: usize = 0;
     while index < MOST_CASES {
-        let length = replay_case(fd, trees, at, index, counts);
+        let length = replay_case(at, index, counts);
         if length == 0 {
             return;
         }
         at = std::num::wrapping_add_usize(at, length);
         index += 1;
     }
-}
-
-fn replay_list(name: &[u8], trees: bool, counts: &mut [usize]) -> bool {
-    let fd = os::open_read(name);
-    if fd < 0 {
-        os::fail(name);
-        return false;
-    }
-    replay(fd, trees, counts);
-    libc::close(fd);
-    true
 }
 
 fn line(name: &[u8], counts: &[usize], at: usize)
@@ -169,19 +150,22 @@ fn report_commits(counts: &[usize]) {
     line(b"commit writing", counts, 11);
 }
 
+fn report(counts: &[usize]) {
+    report_trees(counts);
+    report_commits(counts);
+    say(b"cases ");
+    say_number(count_at(counts, 0));
+    say(b", differ ");
+    say_number(differing(counts));
+    say(b"\n");
+}
+
 fn main() {
     let mut counts = [0usize; 32];
-    if !replay_list(b"trees.list", true, &mut counts) {
+    if libc::lseek(STDIN_FILENO, 0, SEEK_SET) < 0 {
+        io::write_all(STDERR_FILENO, b"replay: standard input is no file\n");
         return;
     }
-    if !replay_list(b"commits.list", false, &mut counts) {
-        return;
-    }
-    report_trees(&counts);
-    report_commits(&counts);
-    say(b"cases ");
-    say_number(count_at(&counts, 0));
-    say(b", differ ");
-    say_number(differing(&counts));
-    say(b"\n");
+    replay(&mut counts);
+    report(&counts);
 }

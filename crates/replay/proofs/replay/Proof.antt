@@ -7,10 +7,10 @@ use Prim.Native.Nat.{_-_}
 use lib.ListN.{length}
 
 abbrev Inv-loop : tie.InvT-loop
-Inv-loop fd trees counts₀ at₀ index₀ counts at index = length counts ≡ length counts₀
+Inv-loop counts₀ at₀ index₀ counts at index = length counts ≡ length counts₀
 
 abbrev μ-loop : tie.MeasureT-loop
-μ-loop fd trees counts₀ at₀ index₀ counts at index = 1048576 - index
+μ-loop counts₀ at₀ index₀ counts at index = 1048576 - index
 
 loop-holds : tie.Need-loop-holds Inv-loop μ-loop
 loop-holds c = refl
