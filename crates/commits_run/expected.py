@@ -1,4 +1,4 @@
-"""Writes what commits_run has to write, from the same files, with none of Rattle's code or definitions.
+"""Writes what commits_run has to write, from the same file stdin, with none of Rattle's code or definitions.
 
     python3 crates/commits_run/expected.py ORACLE          ORACLE: the folder of paper.py, the rules of docs/FORMAT.md in Python
 """
@@ -9,9 +9,18 @@ sys.dont_write_bytecode = True
 sys.path.insert(0, sys.argv[1])
 import paper
 
-DATA = pathlib.Path(__file__).parent / "data"
 NAMES = ["root", "one", "two", "three", "coded", "signed", "tagged", "full", "silent", "unended", "empty", "upper", "nowhere", "late", "spaced"]
 PARENTS, HEADERS, ROOM = 8, 40, 768
+
+
+def objects():
+    """What `git cat-file --batch` printed: for each object a line that ends with its size, its bytes, and an LF."""
+    printed = (pathlib.Path(__file__).parent / "stdin").read_bytes()
+    while printed:
+        line, printed = printed.split(b"\n", 1)
+        size = int(line.split(b" ")[2])
+        yield printed[:size]
+        printed = printed[size + 1:]
 
 
 def total(numbers, sum=0):
@@ -110,8 +119,7 @@ def anywhere_line(s, h):
           f" committer {counts[2]} blank line {counts[3]} actor {counts[4]} sum {total(o.sum for o in outcomes)}")
 
 
-def report(name, h):
-    s = (DATA / f"{name}{h}").read_bytes()
+def report(name, h, s):
     o = Outcome(s, h, PARENTS, HEADERS, ROOM)
     print(f"{name}{h} {len(s)}: {o} sum {o.sum}")
     if o.accepted:
@@ -126,6 +134,7 @@ def report(name, h):
     anywhere_line(s, h)
 
 
+given = objects()
 for name in NAMES:
     for h in (20, 32):
-        report(name, h)
+        report(name, h, next(given))

@@ -1,4 +1,4 @@
-"""Writes what trees_run has to write, from the same files, with none of Rattle's code or definitions.
+"""Writes what trees_run has to write, from the same file stdin, with none of Rattle's code or definitions.
 
     python3 crates/trees_run/expected.py ORACLE          ORACLE: the folder of paper.py, the rules of docs/FORMAT.md in Python
 """
@@ -9,10 +9,19 @@ sys.dont_write_bytecode = True
 sys.path.insert(0, sys.argv[1])
 import paper
 
-DATA = pathlib.Path(__file__).parent / "data"
 ROOM = 2048
 LABELS = ["last byte cut", "id cut off", "id lacks a byte", "mode starts 8", "mode starts 7", "0 before mode", "mode ....6.", "name starts /", "name starts NUL",
           "name empty", "name .", "name ..", "name .git", "name .gita", "entry twice", "exchanged"]
+
+
+def objects():
+    """What `git cat-file --batch` printed: for each object a line that ends with its size, its bytes, and an LF."""
+    printed = (pathlib.Path(__file__).parent / "stdin").read_bytes()
+    while printed:
+        line, printed = printed.split(b"\n", 1)
+        size = int(line.split(b" ")[2])
+        yield printed[:size]
+        printed = printed[size + 1:]
 
 
 def total(numbers):
@@ -88,8 +97,7 @@ def damages(s, h, entries):
         yield LABELS[kind], made
 
 
-def report(name, h):
-    s = (DATA / f"{name}{h}").read_bytes()
+def report(name, h, s):
     print(readers(f"{name}{h} {len(s)}: ", s, h))
     _, numbers = paper.tree_read(h, s, ROOM, False)
     entries = paper.by(4, numbers)
@@ -117,6 +125,7 @@ def report(name, h):
         print(f"  {label:15} {' / '.join(show(*a) for a in answers[0])} sum {total(n for pair in answers for a in pair for n in a)}")
 
 
+given = objects()
 for name in ["empty", "modes", "names", "twice", "large"]:
     for h in (20, 32):
-        report(name, h)
+        report(name, h, next(given))

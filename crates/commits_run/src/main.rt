@@ -1,4 +1,5 @@
-// Reads and rewrites commit objects that Git made (data/, by the script `make`), whole and damaged; expected.py computes the same.
+// Reads commit objects that Git made from standard input, as `git cat-file --batch` prints them (stdin, made by the script `make`), and rewrites
+// them, whole and damaged; expected.py computes the same.
 // A reading shows number, place and field, and where it is accepted the counts of parents and headers, and number, place and count of
 // writing it again. A sum begins with 0 and takes x by sum * 31 + x modulo 2^32. CHANGED would say that a call touched what it had to leave.
 use commit_read::CommitRead;
@@ -8,6 +9,7 @@ use header::CommitParts;
 use header::HEADER_WIDTH;
 use header::HeaderRecord;
 use header::header_at;
+use libc::STDIN_FILENO;
 use libc::STDOUT_FILENO;
 use output::put;
 use scan::same_bytes;
@@ -879,16 +881,60 @@ fn object(s: &[u8], h: usize) {
     anywhere_line(anywhere(s, h));
 }
 
-// ---- files
+// ---- objects
 
-fn load(path: &[u8], buffer: &mut [u8]) -> usize {
-    let fd = os::open_read(path);
-    if fd < 0 {
-        os::fail(path);
+// The next byte of standard input; LF where it has ended.
+fn next_byte() -> u8 {
+    let mut one = [0u8; 1];
+    let n = io::read_full(STDIN_FILENO, &mut one);
+    if n == 0 {
+        return 10;
+    }
+    one[0]
+}
+
+// A number after one more byte of its line: a space sets it back, a digit is added to it, any other byte is passed over.
+fn more(n: usize, b: u8) -> usize {
+    if b == 32 {
         return 0;
     }
-    let n = io::read_full(fd, buffer);
-    libc::close(fd);
+    if b < 48 {
+        return n;
+    }
+    if 57 < b {
+        return n;
+    }
+    n % 4294967296 * 10 + (b - 48) as usize
+}
+
+// The size at the end of the next line, of which at most 256 bytes are read.
+fn next_size() -> usize {
+    let mut size = 0;
+    let mut i: usize = 0;
+    while i < 256 {
+        let b = next_byte();
+        if b == 10 {
+            break;
+        }
+        size = more(size, b);
+        i += 1;
+    }
+    size
+}
+
+// Reads the first n bytes of a buffer, or all of it where it has fewer.
+fn fill(buffer: &mut [u8], n: usize) -> usize {
+    if buffer.len() < n {
+        return io::read_full(STDIN_FILENO, buffer);
+    }
+    io::read_full(STDIN_FILENO, &mut buffer[0..n])
+}
+
+// The next object of standard input, which has a line with its id, type and size before it and an LF after it; gives how many bytes it has.
+fn load(buffer: &mut [u8]) -> usize {
+    let size = next_size();
+    let n = fill(buffer, size);
+    next_byte();
     n
 }
 
@@ -900,17 +946,17 @@ fn first(bytes: &[u8], n: usize, h: usize) {
     object(&bytes[0..n], h);
 }
 
-fn file(path: &[u8], h: usize) {
+fn read_object(name: &[u8], h: usize) {
     let mut buffer = [0u8; ROOM];
-    let n = load(path, &mut buffer);
-    say(path);
+    let n = load(&mut buffer);
+    say(name);
     first(&buffer, n, h);
 }
 
 // The same commit with ids of 20 and of 32 bytes.
 fn both(short: &[u8], long: &[u8]) {
-    file(short, 20);
-    file(long, 32);
+    read_object(short, 20);
+    read_object(long, 32);
 }
 
 fn main() {

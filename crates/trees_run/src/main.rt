@@ -1,4 +1,5 @@
-// Reads Git's own tree objects (data/, made by the script `make`), whole and damaged, with every call over trees; expected.py computes the same.
+// Reads Git's own tree objects from standard input, as `git cat-file --batch` prints them (stdin, made by the script `make`), whole and damaged,
+// with every call over trees; expected.py computes the same.
 // A sum begins with 0 and takes x by sum * 31 + x modulo 2^32.
 use entry::Cursor;
 use entry::EntryRecord;
@@ -8,6 +9,7 @@ use entry::is_folder;
 use ground::Answer;
 use ground::Verdict;
 use ground::longer;
+use libc::STDIN_FILENO;
 use libc::STDOUT_FILENO;
 use lookup::Looked;
 use output::put;
@@ -847,93 +849,137 @@ fn object(s: &[u8], h: usize, records: &mut [usize], out: &mut [u8], list: &mut 
     over_records(s, h, &records[0..end], out, list);
 }
 
-// ---- files
+// ---- objects
 
-fn load(path: &[u8], buffer: &mut [u8]) -> usize {
-    let fd = os::open_read(path);
-    if fd < 0 {
-        os::fail(path);
+// The next byte of standard input; LF where it has ended.
+fn next_byte() -> u8 {
+    let mut one = [0u8; 1];
+    let n = io::read_full(STDIN_FILENO, &mut one);
+    if n == 0 {
+        return 10;
+    }
+    one[0]
+}
+
+// A number after one more byte of its line: a space sets it back, a digit is added to it, any other byte is passed over.
+fn more(n: usize, b: u8) -> usize {
+    if b == 32 {
         return 0;
     }
-    let n = io::read_full(fd, buffer);
-    libc::close(fd);
+    if b < 48 {
+        return n;
+    }
+    if 57 < b {
+        return n;
+    }
+    n % 4294967296 * 10 + (b - 48) as usize
+}
+
+// The size at the end of the next line, of which at most 256 bytes are read.
+fn next_size() -> usize {
+    let mut size = 0;
+    let mut i: usize = 0;
+    while i < 256 {
+        let b = next_byte();
+        if b == 10 {
+            break;
+        }
+        size = more(size, b);
+        i += 1;
+    }
+    size
+}
+
+// Reads the first n bytes of a buffer, or all of it where it has fewer.
+fn fill(buffer: &mut [u8], n: usize) -> usize {
+    if buffer.len() < n {
+        return io::read_full(STDIN_FILENO, buffer);
+    }
+    io::read_full(STDIN_FILENO, &mut buffer[0..n])
+}
+
+// The next object of standard input, which has a line with its id, type and size before it and an LF after it; gives how many bytes it has.
+fn load(buffer: &mut [u8]) -> usize {
+    let size = next_size();
+    let n = fill(buffer, size);
+    next_byte();
     n
 }
 
-// A file of data/, and the length of the ids in it.
-struct File {
-    path: [u8; 7],
+// The name of an object, and the length of the ids in it.
+struct Named {
+    name: [u8; 7],
     h: usize,
 }
 
-const FILES: [File; 10] = [
-    File {
-        path: *b"empty20",
+const NAMES: [Named; 10] = [
+    Named {
+        name: *b"empty20",
         h: 20,
     },
-    File {
-        path: *b"empty32",
+    Named {
+        name: *b"empty32",
         h: 32,
     },
-    File {
-        path: *b"modes20",
+    Named {
+        name: *b"modes20",
         h: 20,
     },
-    File {
-        path: *b"modes32",
+    Named {
+        name: *b"modes32",
         h: 32,
     },
-    File {
-        path: *b"names20",
+    Named {
+        name: *b"names20",
         h: 20,
     },
-    File {
-        path: *b"names32",
+    Named {
+        name: *b"names32",
         h: 32,
     },
-    File {
-        path: *b"twice20",
+    Named {
+        name: *b"twice20",
         h: 20,
     },
-    File {
-        path: *b"twice32",
+    Named {
+        name: *b"twice32",
         h: 32,
     },
-    File {
-        path: *b"large20",
+    Named {
+        name: *b"large20",
         h: 20,
     },
-    File {
-        path: *b"large32",
+    Named {
+        name: *b"large32",
         h: 32,
     },
 ];
 
-fn read_object(path: &[u8], h: usize, buffer: &mut [u8], out: &mut [u8]) {
-    let n = load(path, buffer);
+fn read_object(name: &[u8], h: usize, buffer: &mut [u8], out: &mut [u8]) {
+    let n = load(buffer);
     if buffer.len() < n {
         return;
     }
     let mut records = [0usize; 2048];
     let mut list = [0usize; 2048];
-    say(path);
+    say(name);
     number(n);
     object(&buffer[0..n], h, &mut records, out, &mut list);
 }
 
-fn file_at(i: usize) -> File {
-    FILES[i % 10]
+fn object_at(i: usize) -> Named {
+    NAMES[i % 10]
 }
 
-fn one_file(f: File, buffer: &mut [u8], out: &mut [u8]) {
-    let path = f.path;
-    read_object(&path, f.h, buffer, out);
+fn one_object(o: Named, buffer: &mut [u8], out: &mut [u8]) {
+    let name = o.name;
+    read_object(&name, o.h, buffer, out);
 }
 
-fn all_files(buffer: &mut [u8], out: &mut [u8]) {
+fn all_objects(buffer: &mut [u8], out: &mut [u8]) {
     let mut i = 0;
     while i < 10 {
-        one_file(file_at(i), buffer, out);
+        one_object(object_at(i), buffer, out);
         i += 1;
     }
 }
@@ -941,5 +987,5 @@ fn all_files(buffer: &mut [u8], out: &mut [u8]) {
 fn main() {
     let mut buffer = io::large_buffer();
     let mut out = io::large_buffer();
-    all_files(&mut buffer, &mut out);
+    all_objects(&mut buffer, &mut out);
 }

@@ -1,6 +1,6 @@
--- `trees_run::all_files` is safe and ends. Assumes nothing.
-use Rattle.trees_run.proofs.all_files.Statement.{statement}
-use Rattle.trees_run.proofs.all_files.Tie as tie
+-- `trees_run::all_objects` is safe and ends. Assumes nothing.
+use Rattle.trees_run.proofs.all_objects.Statement.{statement}
+use Rattle.trees_run.proofs.all_objects.Tie as tie
 use mathlib.Core.Path.{_≡_, refl}
 use Prim.Native.Nat.{_-_}
 use lib.ListN.{length}
@@ -15,11 +15,11 @@ abbrev μ-loop : tie.MeasureT-loop
 loop-holds : tie.Need-loop-holds Inv-loop μ-loop
 loop-holds c = (refl, refl)
 
-file-at-requires : tie.Need-file-at-requires Inv-loop μ-loop
-file-at-requires c κs = search needs
+object-at-requires : tie.Need-object-at-requires Inv-loop μ-loop
+object-at-requires c κs = search needs
 
-one-file-requires : tie.Need-one-file-requires Inv-loop μ-loop
-one-file-requires c κs = search needs
+one-object-requires : tie.Need-one-object-requires Inv-loop μ-loop
+one-object-requires c κs = search needs
 
 add-i : tie.Need-add-i Inv-loop μ-loop
 add-i c = search needs
@@ -39,15 +39,15 @@ same-length-2 c = c .before .loop .inv .1
 returns : tie.Need-returns Inv-loop μ-loop
 returns c = search needs
 
-pub all-files-spec : {M : Type 1} → statement M
-all-files-spec =
+pub all-objects-spec : {M : Type 1} → statement M
+all-objects-spec =
     tie.close
     (tie.spec
     Inv-loop
     μ-loop
     loop-holds
-    file-at-requires
-    one-file-requires
+    object-at-requires
+    one-object-requires
     add-i
     loop-less
     loop-again
