@@ -26,7 +26,7 @@ SHAPES = {("trees", 1): ("b", "nnn"), ("trees", 2): ("n", "nnnbb"), ("trees", 3)
           ("trees", 5): ("nbm", "nnnlnnn"), ("trees", 6): ("nblbn", "nnnn"), ("trees", 7): ("nblr", "nnnnnnb"), ("trees", 8): ("nnr", "nnnb"),
           ("commits", 1): ("nbmm", "nnn" + "n" * 10 + "ll"), ("commits", 2): ("bnnnnnr", "nnnb"), ("commits", 3): ("nbll" + "n" * 10 + "r", "nnnnnnb")}
 
-# A program that replays the lists needs no larger buffers than these.
+# A program that replays the list needs no larger buffers than these.
 MOST_BYTES, MOST_NUMBERS = 8192, 1024
 
 
