@@ -18,7 +18,7 @@ static void hold(int fact, int line)
 #define HOLD(fact) hold((fact), __LINE__)
 
 /* An array with a guard on both sides: `numbers + 1` is lent. */
-static size_t numbers[17];
+static size_t numbers[18];
 static size_t *const answer = numbers + 1;
 
 /* Whether the call answered with these numbers, so many, and nothing beside them. The array is then as new. */
@@ -29,19 +29,26 @@ static int answers(size_t number, size_t many, const size_t *want)
 
     for (i = 0; i < many; i++)
         same = same && answer[i] == want[i];
-    for (i = 0; i < 17; i++)
+    for (i = 0; i < 18; i++)
         numbers[i] = GUARD;
     return same;
 }
 
-static int three(size_t number, size_t a, size_t b, size_t c)
+static int four(size_t number, size_t a, size_t b, size_t part, size_t c)
 {
-    size_t want[3];
+    size_t want[4];
 
     want[0] = a;
     want[1] = b;
-    want[2] = c;
-    return answers(number, 3, want);
+    want[2] = part;
+    want[3] = c;
+    return answers(number, 4, want);
+}
+
+/* The same with part 0, as with every number but 3. */
+static int three(size_t number, size_t a, size_t b, size_t c)
+{
+    return four(number, a, b, 0, c);
 }
 
 /* Whether every one of some bytes is the guard. */
@@ -63,7 +70,7 @@ static void modes(void)
     uint8_t six[8];
 
     HOLD(three(sarpukten_mode_read(BYTES("100644 "), 7, answer), SARPUKTEN_DONE, 0, 0100644));
-    HOLD(three(sarpukten_mode_read(BYTES(""), 0, answer), SARPUKTEN_BROKEN_ENTRY, 0, 0));
+    HOLD(four(sarpukten_mode_read(BYTES(""), 0, answer), SARPUKTEN_BROKEN_ENTRY, 0, SARPUKTEN_NO_MODE, 0));
     HOLD(three(sarpukten_mode_from_number(0300644, answer), SARPUKTEN_DONE, 0, 0100644));
     HOLD(three(sarpukten_mode_from_number(0200000, answer), SARPUKTEN_NO_MODE_OR_KIND, 0, 0));
     HOLD(sarpukten_mode_value(0140000) == 040000);
@@ -84,8 +91,8 @@ static void names(void)
 
 static void trees(void)
 {
-    static const size_t step[8] = {0, 0, 1, 57, 040000, 35, 36, 37}, end[8] = {0, 0, 0, 57, 0, 0, 0, 0};
-    static const size_t found[4] = {0, 0, 1, 1}, absent[4] = {SARPUKTEN_NOT_THERE, 0, 0, 2};
+    static const size_t step[9] = {0, 0, 0, 1, 57, 040000, 35, 36, 37}, end[9] = {0, 0, 0, 0, 57, 0, 0, 0, 0};
+    static const size_t found[5] = {0, 0, 0, 1, 1}, absent[5] = {SARPUKTEN_NOT_THERE, 0, 0, 0, 2};
     static const size_t both[9] = {0100644, 7, 8, 9, 040000, 35, 36, 37, GUARD};
     uint8_t object[57], out[60];
     size_t records[9], i;
@@ -97,18 +104,19 @@ static void trees(void)
     for (i = 0; i < 9; i++)
         records[i] = GUARD;
 
-    HOLD(answers(sarpukten_tree_step(object, 57, SARPUKTEN_SHA1, 29, answer), 8, step));
-    HOLD(answers(sarpukten_tree_step(object, 57, SARPUKTEN_SHA1, 57, answer), 8, end));
+    HOLD(answers(sarpukten_tree_step(object, 57, SARPUKTEN_SHA1, 29, answer), 9, step));
+    HOLD(answers(sarpukten_tree_step(object, 57, SARPUKTEN_SHA1, 57, answer), 9, end));
     HOLD(three(sarpukten_read_tree(object, 57, SARPUKTEN_SHA1, records, 7, answer), SARPUKTEN_FEW_RECORDS, 2, 0));
     HOLD(records[0] == GUARD);
     HOLD(three(sarpukten_read_tree(object, 57, SARPUKTEN_SHA1, records, 9, answer), SARPUKTEN_DONE, 0, 2));
     HOLD(memcmp(records, both, sizeof both) == 0);
-    HOLD(three(sarpukten_read_tree_strict(object, 56, SARPUKTEN_SHA1, records, 9, answer), SARPUKTEN_BROKEN_ENTRY, 29, 0));
+    HOLD(four(sarpukten_read_tree_strict(object, 56, SARPUKTEN_SHA1, records, 9, answer), SARPUKTEN_BROKEN_ENTRY, 29, SARPUKTEN_CUT_ID, 0));
+    HOLD(four(sarpukten_read_tree(object, 36, SARPUKTEN_SHA1, records, 9, answer), SARPUKTEN_BROKEN_ENTRY, 29, SARPUKTEN_NO_NUL, 0));
     HOLD(three(sarpukten_read_tree_strict(object, 57, 21, records, 9, answer), SARPUKTEN_ID_LENGTH, 0, 0));
     HOLD(three(sarpukten_read_tree_strict(object, 57, SARPUKTEN_SHA1, records, 8, answer), SARPUKTEN_DONE, 0, 2));
     HOLD(memcmp(records, both, sizeof both) == 0);
-    HOLD(answers(sarpukten_bisect_entry(object, 57, SARPUKTEN_SHA1, records, 8, BYTES("b"), 1, true, answer), 4, found));
-    HOLD(answers(sarpukten_bisect_entry(object, 57, SARPUKTEN_SHA1, records, 8, BYTES("b"), 1, false, answer), 4, absent));
+    HOLD(answers(sarpukten_bisect_entry(object, 57, SARPUKTEN_SHA1, records, 8, BYTES("b"), 1, true, answer), 5, found));
+    HOLD(answers(sarpukten_bisect_entry(object, 57, SARPUKTEN_SHA1, records, 8, BYTES("b"), 1, false, answer), 5, absent));
     HOLD(sarpukten_most_comparisons(0) == 0 && sarpukten_most_comparisons(2) == 2);
     HOLD(three(sarpukten_tree_size(object, 57, SARPUKTEN_SHA1, records, 8, answer), SARPUKTEN_DONE, 0, 57));
     memset(out, GUARD, sizeof out);
@@ -122,7 +130,7 @@ static void commits(void)
 {
     static const char text[] = "tree aaaaaaaaaaaaaaaaaaaaaaaaaaaaaaaaaaaaaaaa\nparent bbbbbbbbbbbbbbbbbbbbbbbbbbbbbbbbbbbbbbbb\n"
                                "author A <a@b> 1 +0000\ncommitter B <c@d> 22 -0100\nencoding x\nsig one\n two\n\nmessage";
-    static const size_t whole[15] = {0, 0, 0, 1, 1, 5, 101, 116, 127, 143, 1, 153, 154, 169, sizeof text - 1};
+    static const size_t whole[SARPUKTEN_COMMIT_ANSWER] = {0, 0, 0, 0, 1, 1, 5, 101, 116, 127, 143, 1, 153, 154, 169, sizeof text - 1};
     const uint8_t *bytes = BYTES(text);
     const size_t n = sizeof text - 1, *parts = whole + SARPUKTEN_COMMIT_PARTS;
     size_t parents[3] = {GUARD, GUARD, GUARD}, headers[7] = {GUARD, GUARD, GUARD, GUARD, GUARD, GUARD, GUARD};
@@ -132,7 +140,7 @@ static void commits(void)
     HOLD(answer[1] == 117 && answer[SARPUKTEN_COMMIT_FAILED] == 3);
     HOLD(sarpukten_read_commit(bytes, n, SARPUKTEN_SHA1, parents, 3, headers, 4, answer) == SARPUKTEN_FEW_RECORDS);
     HOLD(answer[1] == 1 && parents[0] == GUARD && headers[0] == GUARD);
-    HOLD(answers(sarpukten_read_commit(bytes, n, SARPUKTEN_SHA1, parents + 1, 1, headers + 1, 5, answer), 15, whole));
+    HOLD(answers(sarpukten_read_commit(bytes, n, SARPUKTEN_SHA1, parents + 1, 1, headers + 1, 5, answer), SARPUKTEN_COMMIT_ANSWER, whole));
     HOLD(parents[0] == GUARD && parents[1] == 53 && parents[2] == GUARD);
     HOLD(headers[0] == GUARD && headers[1] == 155 && headers[5] == 1 && headers[6] == GUARD);
     memset(out, GUARD, sizeof out);
@@ -168,7 +176,7 @@ int main(void)
 {
     size_t i;
 
-    for (i = 0; i < 17; i++)
+    for (i = 0; i < 18; i++)
         numbers[i] = GUARD;
     modes();
     names();

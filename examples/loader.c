@@ -45,7 +45,7 @@ static uint8_t *read_file(const char *path, size_t *len)
 
 int main(int argc, char **argv)
 {
-    size_t h = SARPUKTEN_SHA1, len, lent, number, place, answer[3], found[4], i;
+    size_t h = SARPUKTEN_SHA1, len, lent, number, place, answer[4], found[5], i;
     const size_t *entry;
     size_t *records;
     uint8_t *object;
@@ -82,11 +82,11 @@ int main(int argc, char **argv)
     place = answer[1];
     if (number == SARPUKTEN_DONE) {
         number = sarpukten_bisect_entry(
-            object, len, h, records, SARPUKTEN_ENTRY * answer[2], (const uint8_t *)argv[2], strlen(argv[2]), true, found);
+            object, len, h, records, SARPUKTEN_ENTRY * answer[3], (const uint8_t *)argv[2], strlen(argv[2]), true, found);
         place = found[1];
     }
     if (number == SARPUKTEN_DONE) {
-        entry = records + SARPUKTEN_ENTRY * found[2];
+        entry = records + SARPUKTEN_ENTRY * found[3];
         for (i = 0; i < h; i++)
             printf("%02x", object[entry[3] + i]);
         printf("\n");

@@ -8,6 +8,7 @@
  *   - answer[0] is the number: 0 is done, any other is a refusal (the enum below). The call returns it too.
  *   - answer[1] is the place that belongs to the number: of an entry its first byte, of a record its index, or how many records or bytes
  *     are needed. It is 0 where the number is 0.
+ *   - answer[2] is the part, with number 3 only: which part of the entry cannot be read (the enum below). With any other number it is 0.
  *   - Nothing else that is lent is changed by a refusal, and past what a call says it writes, nothing is changed at all.
  *   - Bytes and lists are pointer and length, the length in elements. Lists are flat numbers (see "Records"). Numbers at the end of a list
  *     that are too few for a record are no record.
@@ -56,6 +57,13 @@ enum {
     SARPUKTEN_NO_MODE_OR_KIND = 23   /* a number is no mode, or no kind of object; place 0 */
 };
 
+/* The parts that come with SARPUKTEN_BROKEN_ENTRY. A mode text alone: always the mode. */
+enum {
+    SARPUKTEN_NO_MODE = 1,           /* the mode cannot be read */
+    SARPUKTEN_NO_NUL = 2,            /* no NUL follows the mode */
+    SARPUKTEN_CUT_ID = 3             /* fewer than h bytes follow the NUL */
+};
+
 /* ---- Bounds and lengths ---- */
 
 #define SARPUKTEN_SHA1 ((size_t)20)               /* the two lengths of ids in bytes: `h` below */
@@ -94,12 +102,12 @@ enum {
  */
 
 /* The mode that a text says, with or without a space after it. Refuses 2, 3.
- * answer: number, place, mode (0 on a refusal). */
-size_t sarpukten_mode_read(const uint8_t *text, size_t text_len, size_t answer[3]);
+ * answer: number, place, part, mode (0 on a refusal). */
+size_t sarpukten_mode_read(const uint8_t *text, size_t text_len, size_t answer[4]);
 
 /* The mode that a 32-bit number says. Refuses 23.
- * answer: number, place, mode (0 on a refusal). */
-size_t sarpukten_mode_from_number(uint32_t n, size_t answer[3]);
+ * answer: number, place, part, mode (0 on a refusal). */
+size_t sarpukten_mode_from_number(uint32_t n, size_t answer[4]);
 
 /* The number a mode stands for: itself, but 040000 where the top four bits are those of 0140000. */
 uint16_t sarpukten_mode_value(uint16_t mode);
@@ -134,57 +142,57 @@ int8_t sarpukten_name_order(const uint8_t *a, size_t a_len, bool a_is_tree, cons
 /* ---- Trees ---- */
 
 /* The entry that starts at a place of a tree object, without counting entries. Refuses 1, 2, 3.
- * answer: number, place; 1 if an entry was found, else 0; where to go on; the entry's four numbers (all 0 if none was found).
+ * answer: number, place, part; 1 if an entry was found, else 0; where to go on; the entry's four numbers (all 0 if none was found).
  * At or past the end it is done and finds nothing. After a 3 it goes on at the end, after a 1 or 2 where it stood. */
-size_t sarpukten_tree_step(const uint8_t *bytes, size_t bytes_len, size_t h, size_t at, size_t answer[8]);
+size_t sarpukten_tree_step(const uint8_t *bytes, size_t bytes_len, size_t h, size_t at, size_t answer[9]);
 
 /* All entries of a tree object into lent records, four numbers each; records_len is in numbers. Refuses 1, 2, 3, 4.
  * An object of n bytes has at most n / (h + 2) entries, one that is read strictly at most n / (h + 8): so many records are enough (but
  * not more than SARPUKTEN_MOST_RECORDS may be lent). An empty list asks how many are needed: that is the place with 4.
- * answer: number, place, how many entries (0 on a refusal). */
+ * answer: number, place, part, how many entries (0 on a refusal). */
 size_t sarpukten_read_tree(
-    const uint8_t *bytes, size_t bytes_len, size_t h, size_t *records, size_t records_len, size_t answer[3]);
+    const uint8_t *bytes, size_t bytes_len, size_t h, size_t *records, size_t records_len, size_t answer[4]);
 
 /* The same for an object as Git writes it. Refuses also 5, 6, 7. For an object from outside this is the one to call: two objects that it
  * takes with the same entries are the same bytes, and so have the same id. */
 size_t sarpukten_read_tree_strict(
-    const uint8_t *bytes, size_t bytes_len, size_t h, size_t *records, size_t records_len, size_t answer[3]);
+    const uint8_t *bytes, size_t bytes_len, size_t h, size_t *records, size_t records_len, size_t answer[4]);
 
 /* The entry with a name, of a folder (true) or not, by halving. Among the records of an object that was read strictly, and for a name
  * without a slash, it is found exactly where it is there; `a/b` is answered as folder `a` is. Refuses 1, 2, 10 (for a record that it
  * compares), 15.
- * answer: number, place; the index of the record (0 on a refusal); how many records were compared (0 on a refusal other than 15). */
+ * answer: number, place, part; the index of the record (0 on a refusal); how many records were compared (0 on a refusal other than 15). */
 size_t sarpukten_bisect_entry(
     const uint8_t *object, size_t object_len, size_t h, const size_t *records, size_t records_len, const uint8_t *name, size_t name_len,
-    bool is_folder, size_t answer[4]);
+    bool is_folder, size_t answer[5]);
 
 /* The most records that a lookup among n compares. */
 size_t sarpukten_most_comparisons(size_t n);
 
 /* How many bytes the tree object has that records name. Refuses 1, 2, 10.
- * answer: number, place, the size (0 on a refusal). */
+ * answer: number, place, part, the size (0 on a refusal). */
 size_t sarpukten_tree_size(
-    const uint8_t *bytes, size_t bytes_len, size_t h, const size_t *records, size_t records_len, size_t answer[3]);
+    const uint8_t *bytes, size_t bytes_len, size_t h, const size_t *records, size_t records_len, size_t answer[4]);
 
 /* Writes the tree object that records name, in the order given, to the front of out. Refuses 1, 2, 10, 9, 8.
- * answer: number, place, how many bytes were written (0 on a refusal). */
+ * answer: number, place, part, how many bytes were written (0 on a refusal). */
 size_t sarpukten_write_tree(
     const uint8_t *bytes, size_t bytes_len, size_t h, const size_t *records, size_t records_len, uint8_t *out, size_t out_len,
-    size_t answer[3]);
+    size_t answer[4]);
 
 /* ---- Commits ---- */
 
 /* A commit's parts, its parents and its extra headers, the two lists into lent records; their lengths are in numbers.
  * Refuses 1, 2, 11, 12, 4 (for the parents, then for the headers). A commit of n bytes has at most n / (2h + 8) parents and n / 3 headers.
- * answer: number, place; with 11 the field (1 tree, 2 author, 3 committer, 4 blank line), else 0; how many parents; how many headers; then the ten
+ * answer: number, place, part; with 11 the field (1 tree, 2 author, 3 committer, 4 blank line), else 0; how many parents; how many headers; then the ten
  * numbers of the parts, so that `answer + SARPUKTEN_COMMIT_PARTS` can be passed on as parts. After the place and the field all are 0 on a
  * refusal. */
 enum {
-    SARPUKTEN_COMMIT_FAILED = 2,
-    SARPUKTEN_COMMIT_PARENTS = 3,
-    SARPUKTEN_COMMIT_HEADERS = 4,
-    SARPUKTEN_COMMIT_PARTS = 5,
-    SARPUKTEN_COMMIT_ANSWER = 15
+    SARPUKTEN_COMMIT_FAILED = 3,
+    SARPUKTEN_COMMIT_PARENTS = 4,
+    SARPUKTEN_COMMIT_HEADERS = 5,
+    SARPUKTEN_COMMIT_PARTS = 6,
+    SARPUKTEN_COMMIT_ANSWER = 16
 };
 size_t sarpukten_read_commit(
     const uint8_t *bytes, size_t bytes_len, size_t h, size_t *parents, size_t parents_len, size_t *headers, size_t headers_len,
@@ -192,22 +200,22 @@ size_t sarpukten_read_commit(
 
 /* The value of a header to the front of out: with mark 1 it is unfolded, one space taken off each line but the first; with mark 0 it is
  * copied. It is never longer than it stands in the bytes. Refuses 2, 10 (place 0), 8.
- * answer: number, place, how many bytes were written (0 on a refusal). */
+ * answer: number, place, part, how many bytes were written (0 on a refusal). */
 size_t sarpukten_unfold(
-    const uint8_t *bytes, size_t bytes_len, const size_t header[SARPUKTEN_HEADER], uint8_t *out, size_t out_len, size_t answer[3]);
+    const uint8_t *bytes, size_t bytes_len, const size_t header[SARPUKTEN_HEADER], uint8_t *out, size_t out_len, size_t answer[4]);
 
 /* How many bytes the commit has that parts, parents and headers name. Refuses 1, 2, 10.
- * answer: number, place, the size (0 on a refusal). */
+ * answer: number, place, part, the size (0 on a refusal). */
 size_t sarpukten_commit_size(
     const uint8_t *bytes, size_t bytes_len, size_t h, const size_t parts[SARPUKTEN_PARTS], const size_t *parents, size_t parents_len,
-    const size_t *headers, size_t headers_len, size_t answer[3]);
+    const size_t *headers, size_t headers_len, size_t answer[4]);
 
 /* Writes that commit to the front of out. A value with mark 0 is folded, one with mark 1 is copied. Refuses 1, 2, 10 (place: the index
  * counted over tree, parents, author, committer, encoding, headers, message), 13, 14, 8.
- * answer: number, place, how many bytes were written (0 on a refusal). */
+ * answer: number, place, part, how many bytes were written (0 on a refusal). */
 size_t sarpukten_write_commit(
     const uint8_t *bytes, size_t bytes_len, size_t h, const size_t parts[SARPUKTEN_PARTS], const size_t *parents, size_t parents_len,
-    const size_t *headers, size_t headers_len, uint8_t *out, size_t out_len, size_t answer[3]);
+    const size_t *headers, size_t headers_len, uint8_t *out, size_t out_len, size_t answer[4]);
 
 /* ---- Loose objects ---- */
 
@@ -216,8 +224,8 @@ enum { SARPUKTEN_COMMIT = 1, SARPUKTEN_TREE = 2, SARPUKTEN_BLOB = 3, SARPUKTEN_T
 #define SARPUKTEN_LOOSE_HEADER 28 /* the longest one */
 
 /* The header of a loose object to the front of out: kind word, space, size in decimal, NUL. Refuses 23, 8.
- * answer: number, place, how many bytes were written (0 on a refusal). */
-size_t sarpukten_loose_header(size_t kind, uint64_t size, uint8_t *out, size_t out_len, size_t answer[3]);
+ * answer: number, place, part, how many bytes were written (0 on a refusal). */
+size_t sarpukten_loose_header(size_t kind, uint64_t size, uint8_t *out, size_t out_len, size_t answer[4]);
 
 #ifdef __cplusplus
 }

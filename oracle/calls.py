@@ -57,7 +57,7 @@ def tree_reading(h, object, room):
     strict, _same = paper.tree_read(h, object, room, strict=True)
     question = expected = None
     if h in (20, 32):                      # the Rust's list grows: it is asked as with room enough
-        (n, place, count), all_records = paper.tree_read(h, object, 4 * len(object), strict=False)
+        (n, place, _part, count), all_records = paper.tree_read(h, object, 4 * len(object), strict=False)
         question = spaced("tree", h, hexed(object))
         expected = spaced("no", place) if n else spaced("ok", count, *all_records)
     return Case("trees", 5, [h, object, room], [*plain, records, *strict], (plain[0], strict[0]), question, expected)

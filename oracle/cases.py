@@ -140,7 +140,7 @@ def random_tree_reading():
         object = damaged(object)
     if chance(4):
         h = 52 - h if h in (20, 32) else h          # read with the other length
-    n = paper.tree_read(h, object, 4 * len(object), False)[0][2]
+    n = paper.tree_read(h, object, 4 * len(object), False)[0][3]
     return tree_reading(h, object, around(n, 4))
 
 

@@ -12,6 +12,7 @@ MAX_RECORDS = 1_048_576        # "any list at most"
 DONE, BAD_H, OVER, UNREADABLE, FEW_RECORDS, BAD_MODE_TEXT, BAD_NAME, NOT_AFTER = range(8)
 SHORT_OUTPUT, NUL_IN_NAME, BAD_RECORD, FIELD, ACTOR, EMPTY_ENCODING, LF_ENCODING, NOT_THERE = range(8, 16)
 NOT_ACCEPTABLE = 23
+NO_MODE, NO_NUL, CUT_ID = 1, 2, 3      # the parts of UNREADABLE
 
 SPACE, LF, NUL, SLASH = 32, 10, 0, 47
 OCTAL, DIGITS, HEX = b"01234567", b"0123456789", b"0123456789abcdefABCDEF"
@@ -130,14 +131,16 @@ def over(buffers=(), records=()):
 
 
 def entry_at(object, at, h):
-    """Entries: the record of the entry at `at` and the place after it, or None."""
+    """Entries: the record of the entry at `at` and the place after it; or None and the part that cannot be read."""
     number, mode, rest = mode_text(object[at:at + 8])     # eight bytes settle a mode text
     if number != DONE:
-        return None
+        return None, NO_MODE
     name = at + rest
     name_end = object.find(b"\0", name)
-    if name_end < 0 or name_end + 1 + h > len(object):
-        return None
+    if name_end < 0:
+        return None, NO_NUL
+    if name_end + 1 + h > len(object):
+        return None, CUT_ID
     return (mode, name, name_end, name_end + 1), name_end + 1 + h
 
 
@@ -147,34 +150,34 @@ def permitted(name):
 
 
 def tree_read(h, object, room, strict):
-    """Entries and Strict reader; "Order. Reading". `room` is in numbers. (number, place, count), records (flat)."""
+    """Entries and Strict reader; "Order. Reading". `room` is in numbers. (number, place, part, count), records (flat)."""
     lent = room // 4
     if bad_h(h):
-        return (BAD_H, 0, 0), []
+        return (BAD_H, 0, 0, 0), []
     if over([len(object)], [lent]):
-        return (OVER, 0, 0), []
+        return (OVER, 0, 0, 0), []
     at, records, before = 0, [], None
     while at < len(object):
         if len(records) == MAX_RECORDS:
-            return (OVER, 0, 0), []
-        entry = entry_at(object, at, h)
+            return (OVER, 0, 0, 0), []
+        entry, after = entry_at(object, at, h)
         if entry is None:
-            return (UNREADABLE, at, 0), []
-        (mode, name, name_end, id), after = entry
+            return (UNREADABLE, at, after, 0), []
+        mode, name, name_end, id = entry
         now = (object[name:name_end], is_tree(mode))
         if strict:
             if object[at:name - 1] not in [text for text, _word in KINDS]:
-                return (BAD_MODE_TEXT, at, 0), []
+                return (BAD_MODE_TEXT, at, 0, 0), []
             if not permitted(now[0]):
-                return (BAD_NAME, at, 0), []
+                return (BAD_NAME, at, 0, 0), []
             if before is not None and order(*before, *now) != -1:
-                return (NOT_AFTER, at, 0), []
+                return (NOT_AFTER, at, 0, 0), []
         before = now
         records.append((mode, name, name_end, id))
         at = after
     if len(records) > lent:
-        return (FEW_RECORDS, len(records), 0), []
-    return (DONE, 0, len(records)), [n for record in records for n in record]
+        return (FEW_RECORDS, len(records), 0, 0), []
+    return (DONE, 0, 0, len(records)), [n for record in records for n in record]
 
 
 def by(width, numbers):
@@ -488,13 +491,13 @@ def examples():
     ascending = [(b"a", False), (b"a.b", False), (b"a", True), (b"a0", False)]
     assert all(order(*x, *y) == -1 for x, y in zip(ascending, ascending[1:]))                                  # P8
     assert order(b"a", True, b"a/b", False) == 0                                                               # P9
-    assert all(tree_read(20, b"", 0, strict) == ((0, 0, 0), []) for strict in (False, True))                   # P10
-    (number, _place, count), records = tree_read(20, o, 8, True)
+    assert all(tree_read(20, b"", 0, strict) == ((0, 0, 0, 0), []) for strict in (False, True))                # P10
+    (number, _place, _part, count), records = tree_read(20, o, 8, True)
     assert len(o) == 57 and (number, count) == (0, 2) and tree_write(20, o, records, 57) == ((0, 0, 57), o)    # P11
-    assert tree_read(20, o[:-1], 8, False)[0] == (3, 29, 0)                                                    # P12
+    assert tree_read(20, o[:-1], 8, False)[0] == (3, 29, 3, 0)                                                 # P12
     assert header_written((0, 1, 1, 5, 0), b"ka\nb\n") == b"k a\n b\n"                                         # P13
     answer, written = tree_write(20, b"abc" + b" " * 20, [0, 0, 3, 3], 26)
-    assert answer == (0, 0, 26) and tree_read(20, written, 4, False)[0] == (3, 0, 0)                           # P14
+    assert answer == (0, 0, 26) and tree_read(20, written, 4, False)[0] == (3, 0, 1, 0)                        # P14
     assert mode_from_number(0o300644) == (0, 33188) and mode_from_number(0o200000) == (23, 0)
 
 

@@ -26,7 +26,7 @@ static int told(const char *what, size_t number, size_t place, size_t count, siz
 int main(void) {
     size_t most = SARPUKTEN_MOST_RECORDS, room = most * SARPUKTEN_ENTRY, size = 0, shorter = 0;
     uint8_t *object = malloc((most + 1) * 36 + 64);
-    size_t *records = malloc(room * sizeof *records), answer[3];
+    size_t *records = malloc(room * sizeof *records), answer[4];
     int fine = object && records;
     for (size_t i = 0; fine && i <= most; i++) {
         shorter = size;
@@ -36,14 +36,14 @@ int main(void) {
         size_t (*read)(const uint8_t *, size_t, size_t, size_t *, size_t, size_t *) = strict ? sarpukten_read_tree_strict : sarpukten_read_tree;
         double began = now();
         read(object, shorter, 20, records, room, answer);
-        fine &= told(strict ? "strict, at the bound" : "plain, at the bound", answer[0], answer[1], answer[2], 0, most, now() - began);
+        fine &= told(strict ? "strict, at the bound" : "plain, at the bound", answer[0], answer[1], answer[3], 0, most, now() - began);
         fine &= records[room - 4] == 0100644 && records[room - 1] == shorter - 20;
         began = now();
         read(object, size, 20, records, room, answer);
-        fine &= told(strict ? "strict, one past it" : "plain, one past it", answer[0], answer[1], answer[2], SARPUKTEN_BOUND, 0, now() - began);
+        fine &= told(strict ? "strict, one past it" : "plain, one past it", answer[0], answer[1], answer[3], SARPUKTEN_BOUND, 0, now() - began);
         began = now();
         read(object, shorter / 2 / 36 * 36, 20, records, room, answer);
-        fine &= told(strict ? "strict, half as many" : "plain, half as many", answer[0], answer[1], answer[2], 0, most / 2, now() - began);
+        fine &= told(strict ? "strict, half as many" : "plain, half as many", answer[0], answer[1], answer[3], 0, most / 2, now() - began);
     }
     puts(fine ? "bound: as it should be" : "bound: NOT as it should be");
     return !fine;

@@ -65,8 +65,8 @@ fn trees(how: How, len: usize, n: usize) {
     let rust = TreeRef::from_bytes(object, SHA1).expect("a tree");
     let mut git = libgit2::Tree::new();
     assert!(git.parse(object) && git.len() == n && rust.entries.len() == n);
-    assert_eq!(sarpukten::read_tree(object, &mut records), [0, 0, n]);
-    assert_eq!(sarpukten::read_tree_strict(object, &mut other), [0, 0, n]);
+    assert_eq!(sarpukten::read_tree(object, &mut records), [0, 0, 0, n]);
+    assert_eq!(sarpukten::read_tree_strict(object, &mut other), [0, 0, 0, n]);
     assert!(records == other && records[n * 4..] == [7, 7, 7]);
     assert_eq!(iterate(object, &mut other), n);
     assert!(records == other);
@@ -91,7 +91,7 @@ fn trees(how: How, len: usize, n: usize) {
         let e = git.find(name);
         match rust.bisect_entry(name.to_bytes().as_bstr(), *folder) {
             Some(found) => {
-                assert!(a[0] == 0 && records[a[2] * 4..a[2] * 4 + 4] == numbers(object, &found));
+                assert!(a[0] == 0 && records[a[3] * 4..a[3] * 4 + 4] == numbers(object, &found));
                 assert_eq!(libgit2::told(e).1, name.to_bytes());
             }
             None => assert!(a[0] == 15 && e.is_null()),
@@ -100,7 +100,7 @@ fn trees(how: How, len: usize, n: usize) {
     let mut written = Vec::with_capacity(object.len());
     rust.write_to(&mut written).unwrap();
     let mut out = vec![0; object.len()];
-    assert_eq!(sarpukten::write_tree(object, &records, &mut out), [0, 0, object.len()]);
+    assert_eq!(sarpukten::write_tree(object, &records, &mut out), [0, 0, 0, object.len()]);
     assert!(written == object && out == object);
 
     let key = |operation: &str, whose: &str| format!("{operation} {whose} {len} {n}");
@@ -136,7 +136,7 @@ fn trees(how: How, len: usize, n: usize) {
         !tree.find(name).is_null()
     });
     measure(how, &key("load", "sarpukten"), || {
-        let n = sarpukten::read_tree_strict(black_box(object), &mut other)[2];
+        let n = sarpukten::read_tree_strict(black_box(object), &mut other)[3];
         sarpukten::bisect_entry(object, &other[..n * 4], name.to_bytes(), *folder)
     });
 
@@ -156,11 +156,11 @@ fn commits(how: How, kind: &str, object: &[u8]) {
     assert!(git.parse(object));
     let a = sarpukten::read_commit(object, &mut parents, &mut headers);
     let range = |part: &[u8]| [place(object, part), place(object, part) + part.len()];
-    assert_eq!(a[..6], [0, 0, 0, rust.parents.len(), rust.extra_headers.len(), place(object, rust.tree)]);
-    assert_eq!(a[6..8], range(rust.author));
-    assert_eq!(a[8..10], range(rust.committer));
-    assert_eq!(a[10..13], [0, 0, 0]);
-    assert_eq!(a[13..15], range(rust.message));
+    assert_eq!(a[..7], [0, 0, 0, 0, rust.parents.len(), rust.extra_headers.len(), place(object, rust.tree)]);
+    assert_eq!(a[7..9], range(rust.author));
+    assert_eq!(a[9..11], range(rust.committer));
+    assert_eq!(a[11..14], [0, 0, 0]);
+    assert_eq!(a[14..16], range(rust.message));
     for (i, parent) in rust.parents.iter().enumerate() {
         assert_eq!(parents[i], place(object, parent));
     }
@@ -171,12 +171,12 @@ fn commits(how: How, kind: &str, object: &[u8]) {
     let tree: String = git.tree().iter().map(|b| format!("{b:02x}")).collect();
     assert!(git.parents() == rust.parents.len() && git.message() == &rust.message[..] && tree.as_bytes() == &rust.tree[..]);
 
-    let parts: [usize; 10] = a[5..15].try_into().unwrap();
-    let (lent, named) = (parents[..a[3]].to_vec(), headers[..a[4] * 5].to_vec());
+    let parts: [usize; 10] = a[6..16].try_into().unwrap();
+    let (lent, named) = (parents[..a[4]].to_vec(), headers[..a[5] * 5].to_vec());
     let mut out = vec![0; object.len()];
     let mut written = Vec::with_capacity(object.len());
     rust.write_to(&mut written).unwrap();
-    assert_eq!(sarpukten::write_commit(object, &parts, &lent, &named, &mut out), [0, 0, object.len()]);
+    assert_eq!(sarpukten::write_commit(object, &parts, &lent, &named, &mut out), [0, 0, 0, object.len()]);
     assert!(written == object && out == object);
 
     let bytes = object.len();

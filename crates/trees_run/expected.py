@@ -35,6 +35,11 @@ def show(*numbers):
     return " ".join(str(n) for n in numbers)
 
 
+def unparted(number, place, count):
+    """An answer of a call that has no part."""
+    return show(number, place, 0, count)
+
+
 def both(s, h, room=ROOM):
     return [paper.tree_read(h, s, room, strict)[0] for strict in (False, True)]
 
@@ -44,31 +49,31 @@ def readers(word, s, h, room=ROOM):
 
 
 def step(s, h, at):
-    """The cursor: number, place, record or None, where it stands then."""
+    """The cursor: number, place, part, record or None, where it stands then."""
     if h not in (20, 32):
-        return 1, 0, None, at
+        return 1, 0, 0, None, at
     if at >= len(s):
-        return 0, 0, None, at
-    got = paper.entry_at(s, at, h)
-    if got is None:
-        return 3, at, None, len(s)
-    return 0, 0, got[0], got[1]
+        return 0, 0, 0, None, at
+    entry, after = paper.entry_at(s, at, h)
+    if entry is None:
+        return 3, at, after, None, len(s)
+    return 0, 0, 0, entry, after
 
 
 def one_step(s, h, at):
-    number, place, record, next = step(s, h, at)
-    return show(number, place, "none" if record is None else "found", next)
+    number, place, part, record, next = step(s, h, at)
+    return show(number, place, part, "none" if record is None else "found", next)
 
 
 def walk(word, s, h):
     at, records = 0, []
     while True:
-        number, place, record, next = step(s, h, at)
+        number, place, part, record, next = step(s, h, at)
         if record is None:
             break
         records.append(record)
         at = next
-    return f"{word} {len(records)} sum {total(n for r in records for n in r)} then {number} {place} at {next} then {one_step(s, h, next)}"
+    return f"{word} {len(records)} sum {total(n for r in records for n in r)} then {number} {place} {part} at {next} then {one_step(s, h, next)}"
 
 
 def damages(s, h, entries):
@@ -118,8 +123,8 @@ def report(name, h, s):
     if len(entries) <= 64:
         print("  among structs", finds)
     written, bytes = paper.tree_write(h, s, numbers, 65536)
-    short = f"; a byte short {show(*paper.tree_write(h, s, numbers, len(s) - 1)[0])}" if s else ""
-    print(f"  size {show(*paper.tree_size(h, s, numbers))} written {show(*written)} {'as it was' if bytes == s else 'OTHERWISE'}{short}")
+    short = f"; a byte short {unparted(*paper.tree_write(h, s, numbers, len(s) - 1)[0])}" if s else ""
+    print(f"  size {unparted(*paper.tree_size(h, s, numbers))} written {unparted(*written)} {'as it was' if bytes == s else 'OTHERWISE'}{short}")
     for label, made in damages(s, h, entries):
         answers = [both(t, h) for t in made]
         print(f"  {label:15} {' / '.join(show(*a) for a in answers[0])} sum {total(n for pair in answers for a in pair for n in a)}")

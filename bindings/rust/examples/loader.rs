@@ -21,7 +21,7 @@ fn read_file(path: &OsStr) -> io::Result<Vec<u8>> {
 
 fn folder(object: &[u8], kind: Kind, name: &[u8]) -> Result<ObjectId, Error> {
     let tree = TreeRef::from_bytes_strict(object, kind)?;
-    let entry = tree.bisect_entry(name, true).ok_or(Error { number: 15, place: 0, field: 0 })?;
+    let entry = tree.bisect_entry(name, true).ok_or(Error { number: 15, place: 0, part: 0, field: 0 })?;
     Ok(entry.object_id().expect("an entry of a tree that was read has an id"))
 }
 

@@ -27,7 +27,7 @@ impl<'a> CommitRef<'a> {
         let mut parents = vec![0; (data.len() / (8 + kind.len_in_hex())).min(MOST_RECORDS)];
         let mut headers = vec![0; WIDTH * 2];
         loop {
-            let mut answer = [0; 15];
+            let mut answer = [0; 16];
             // SAFETY: `data` lives through the call, the lists and `answer` are ours alone, and the lengths are theirs.
             unsafe {
                 ffi::sarpukten_read_commit(
@@ -41,7 +41,7 @@ impl<'a> CommitRef<'a> {
                     &mut answer,
                 )
             };
-            let [number, place, field, many_parents, many_headers, parts @ ..] = answer;
+            let [number, place, part, field, many_parents, many_headers, parts @ ..] = answer;
             match number {
                 0 => {
                     parents.truncate(many_parents);
@@ -49,7 +49,7 @@ impl<'a> CommitRef<'a> {
                     return CommitRef::of_records(data, kind, parts, &parents, &headers);
                 }
                 4 if place <= MOST_RECORDS => headers = vec![0; WIDTH * place],
-                _ => return Err(Error { number, place, field }),
+                _ => return Err(Error { number, place, part, field }),
             }
         }
     }
@@ -129,7 +129,7 @@ fn value<'a>(data: &'a [u8], record: &[usize; 5]) -> Result<Cow<'a, [u8]>, Error
         return Ok(stands.into());
     }
     let mut out = vec![0; stands.len()];
-    let mut answer = [0; 3];
+    let mut answer = [0; 4];
     // SAFETY: `data` lives through the call, `out` and `answer` are ours alone, and the lengths are theirs.
     unsafe { ffi::sarpukten_unfold(data.as_ptr(), data.len(), record, out.as_mut_ptr(), out.len(), &mut answer) };
     out.truncate(counted(answer)?);
@@ -163,7 +163,7 @@ impl Laid {
     }
 
     fn size(&self) -> Result<usize, Error> {
-        let mut answer = [0; 3];
+        let mut answer = [0; 4];
         // SAFETY: all that is lent lives through the call, `answer` is ours alone, and the lengths are theirs.
         unsafe {
             ffi::sarpukten_commit_size(
@@ -183,7 +183,7 @@ impl Laid {
 
     fn write(&self) -> Result<Vec<u8>, Error> {
         let mut out = vec![0; self.size()?];
-        let mut answer = [0; 3];
+        let mut answer = [0; 4];
         // SAFETY: all that is lent lives through the call, `out` and `answer` are ours alone, and the lengths are theirs.
         unsafe {
             ffi::sarpukten_write_commit(

@@ -1,22 +1,22 @@
 //! The calls of include/sarpukten.h. A fixed array of the header is a reference to an array here, bytes and lists are pointer and length.
 //! The number that a call returns is the first of its answer as well.
 extern "C" {
-    pub fn sarpukten_mode_read(text: *const u8, text_len: usize, answer: &mut [usize; 3]) -> usize;
-    pub fn sarpukten_mode_from_number(n: u32, answer: &mut [usize; 3]) -> usize;
+    pub fn sarpukten_mode_read(text: *const u8, text_len: usize, answer: &mut [usize; 4]) -> usize;
+    pub fn sarpukten_mode_from_number(n: u32, answer: &mut [usize; 4]) -> usize;
     pub fn sarpukten_mode_value(mode: u16) -> u16;
     pub fn sarpukten_mode_kind(mode: u16) -> u16;
     pub fn sarpukten_mode_ask(mode: u16, answer: &mut [usize; 7]);
     pub fn sarpukten_mode_word(mode: u16, word: &mut [u8; 6]) -> usize;
     pub fn sarpukten_mode_text(mode: u16, text: &mut [u8; 6]) -> usize;
     pub fn sarpukten_name_order(a: *const u8, a_len: usize, a_is_tree: bool, b: *const u8, b_len: usize, b_is_tree: bool) -> i8;
-    pub fn sarpukten_tree_step(bytes: *const u8, bytes_len: usize, h: usize, at: usize, answer: &mut [usize; 8]) -> usize;
+    pub fn sarpukten_tree_step(bytes: *const u8, bytes_len: usize, h: usize, at: usize, answer: &mut [usize; 9]) -> usize;
     pub fn sarpukten_read_tree(
         bytes: *const u8,
         bytes_len: usize,
         h: usize,
         records: *mut usize,
         records_len: usize,
-        answer: &mut [usize; 3],
+        answer: &mut [usize; 4],
     ) -> usize;
     pub fn sarpukten_read_tree_strict(
         bytes: *const u8,
@@ -24,7 +24,7 @@ extern "C" {
         h: usize,
         records: *mut usize,
         records_len: usize,
-        answer: &mut [usize; 3],
+        answer: &mut [usize; 4],
     ) -> usize;
     pub fn sarpukten_bisect_entry(
         object: *const u8,
@@ -35,7 +35,7 @@ extern "C" {
         name: *const u8,
         name_len: usize,
         is_folder: bool,
-        answer: &mut [usize; 4],
+        answer: &mut [usize; 5],
     ) -> usize;
     pub fn sarpukten_most_comparisons(n: usize) -> usize;
     pub fn sarpukten_tree_size(
@@ -44,7 +44,7 @@ extern "C" {
         h: usize,
         records: *const usize,
         records_len: usize,
-        answer: &mut [usize; 3],
+        answer: &mut [usize; 4],
     ) -> usize;
     pub fn sarpukten_write_tree(
         bytes: *const u8,
@@ -54,7 +54,7 @@ extern "C" {
         records_len: usize,
         out: *mut u8,
         out_len: usize,
-        answer: &mut [usize; 3],
+        answer: &mut [usize; 4],
     ) -> usize;
     pub fn sarpukten_read_commit(
         bytes: *const u8,
@@ -64,7 +64,7 @@ extern "C" {
         parents_len: usize,
         headers: *mut usize,
         headers_len: usize,
-        answer: &mut [usize; 15],
+        answer: &mut [usize; 16],
     ) -> usize;
     pub fn sarpukten_unfold(
         bytes: *const u8,
@@ -72,7 +72,7 @@ extern "C" {
         header: &[usize; 5],
         out: *mut u8,
         out_len: usize,
-        answer: &mut [usize; 3],
+        answer: &mut [usize; 4],
     ) -> usize;
     pub fn sarpukten_commit_size(
         bytes: *const u8,
@@ -83,7 +83,7 @@ extern "C" {
         parents_len: usize,
         headers: *const usize,
         headers_len: usize,
-        answer: &mut [usize; 3],
+        answer: &mut [usize; 4],
     ) -> usize;
     pub fn sarpukten_write_commit(
         bytes: *const u8,
@@ -96,7 +96,7 @@ extern "C" {
         headers_len: usize,
         out: *mut u8,
         out_len: usize,
-        answer: &mut [usize; 3],
+        answer: &mut [usize; 4],
     ) -> usize;
-    pub fn sarpukten_loose_header(kind: usize, size: u64, out: *mut u8, out_len: usize, answer: &mut [usize; 3]) -> usize;
+    pub fn sarpukten_loose_header(kind: usize, size: u64, out: *mut u8, out_len: usize, answer: &mut [usize; 4]) -> usize;
 }

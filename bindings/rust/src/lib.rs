@@ -15,13 +15,15 @@ pub use tree::{name_order, tree_to_bytes, EntryRef, TreeRef, TreeRefIter};
 
 use std::fmt;
 
-/// A refusal: a number of docs/FORMAT.md, "Numbers", with its place.
+/// A refusal: a number of docs/FORMAT.md, "Numbers", with its place, and with 3 its part.
 #[derive(Clone, Copy, Debug, PartialEq, Eq, Hash)]
 pub struct Error {
     /// Why it was refused; never 0.
     pub number: usize,
     /// Where: an entry's first byte, a record's index, or how much is needed.
     pub place: usize,
+    /// With number 3 the part of the entry that cannot be read: 1 the mode, 2 the NUL after it, 3 the id; else 0.
+    pub part: usize,
     /// With number 11 the field of a commit: 1 tree, 2 author, 3 committer, 4 blank line; else 0.
     pub field: usize,
 }
@@ -65,12 +67,12 @@ impl From<Error> for std::io::Error {
     }
 }
 
-/// Number, place and what was counted, as a result.
-pub(crate) fn counted(answer: [usize; 3]) -> Result<usize, Error> {
-    let [number, place, count] = answer;
+/// Number, place, part and what was counted, as a result.
+pub(crate) fn counted(answer: [usize; 4]) -> Result<usize, Error> {
+    let [number, place, part, count] = answer;
     match number {
         0 => Ok(count),
-        _ => Err(Error { number, place, field: 0 }),
+        _ => Err(Error { number, place, part, field: 0 }),
     }
 }
 
@@ -98,7 +100,7 @@ pub enum ObjectKind {
 /// The header of a loose object: kind word, space, size in decimal, NUL.
 pub fn loose_header(kind: ObjectKind, size: u64) -> Vec<u8> {
     let mut out = vec![0; 28];
-    let mut answer = [0; 3];
+    let mut answer = [0; 4];
     // SAFETY: `out` and `answer` are ours alone, and `out` has the length that is passed.
     unsafe { ffi::sarpukten_loose_header(kind as usize, size, out.as_mut_ptr(), out.len(), &mut answer) };
     let written = counted(answer).expect("one of the four kinds, into the longest header's room");

@@ -29,7 +29,7 @@ impl TryFrom<u32> for EntryMode {
     type Error = Error;
 
     fn try_from(n: u32) -> Result<EntryMode, Error> {
-        let mut answer = [0; 3];
+        let mut answer = [0; 4];
         // SAFETY: `answer` is ours alone.
         unsafe { ffi::sarpukten_mode_from_number(n, &mut answer) };
         counted(answer).map(EntryMode::of_record)
@@ -39,7 +39,7 @@ impl TryFrom<u32> for EntryMode {
 impl EntryMode {
     /// The mode that an octal text says.
     pub fn from_bytes(text: &[u8]) -> Result<EntryMode, Error> {
-        let mut answer = [0; 3];
+        let mut answer = [0; 4];
         // SAFETY: `text` lives through the call, and `answer` is ours alone.
         unsafe { ffi::sarpukten_mode_read(text.as_ptr(), text.len(), &mut answer) };
         counted(answer).map(EntryMode::of_record)

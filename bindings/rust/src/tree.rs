@@ -49,7 +49,7 @@ pub struct TreeRef<'a> {
     records: Vec<usize>,
 }
 
-type Reader = unsafe extern "C" fn(*const u8, usize, usize, *mut usize, usize, &mut [usize; 3]) -> usize;
+type Reader = unsafe extern "C" fn(*const u8, usize, usize, *mut usize, usize, &mut [usize; 4]) -> usize;
 
 impl<'a> TreeRef<'a> {
     /// Reads an object plainly: whatever has the form of entries is taken, in any order.
@@ -65,7 +65,7 @@ impl<'a> TreeRef<'a> {
     fn read(reader: Reader, data: &'a [u8], kind: Kind) -> Result<TreeRef<'a>, Error> {
         let mut records = vec![0; guess(data.len(), kind)];
         loop {
-            let mut answer = [0; 3];
+            let mut answer = [0; 4];
             // SAFETY: `data` lives through the call, `records` and `answer` are ours alone, and the lengths are theirs.
             unsafe { reader(data.as_ptr(), data.len(), kind.len_in_bytes(), records.as_mut_ptr(), records.len(), &mut answer) };
             match counted(answer) {
@@ -107,7 +107,7 @@ impl<'a> TreeRef<'a> {
 
     /// The same, and how many entries were compared.
     pub fn bisect_entry_counted(&self, name: &[u8], is_dir: bool) -> (Option<EntryRef<'a>>, usize) {
-        let mut answer = [0; 4];
+        let mut answer = [0; 5];
         // SAFETY: object, records and name live through the call, `answer` is ours alone, and the lengths are theirs.
         unsafe {
             ffi::sarpukten_bisect_entry(
@@ -122,7 +122,7 @@ impl<'a> TreeRef<'a> {
                 &mut answer,
             )
         };
-        let [number, _, index, compared] = answer;
+        let [number, _, _, index, compared] = answer;
         // The records are the library's own, so beside 15 there is only 2, for a name longer than any object: it is not there either.
         let found = if number == 0 { self.get(index) } else { None };
         (found, compared)
@@ -156,7 +156,7 @@ pub fn tree_to_bytes(entries: &[EntryRef<'_>], kind: Kind) -> Result<Vec<u8>, Er
 }
 
 fn size(data: &[u8], kind: Kind, records: &[usize]) -> Result<usize, Error> {
-    let mut answer = [0; 3];
+    let mut answer = [0; 4];
     // SAFETY: bytes and records live through the call, `answer` is ours alone, and the lengths are theirs.
     unsafe { ffi::sarpukten_tree_size(data.as_ptr(), data.len(), kind.len_in_bytes(), records.as_ptr(), records.len(), &mut answer) };
     counted(answer)
@@ -164,7 +164,7 @@ fn size(data: &[u8], kind: Kind, records: &[usize]) -> Result<usize, Error> {
 
 fn write(data: &[u8], kind: Kind, records: &[usize]) -> Result<Vec<u8>, Error> {
     let mut out = vec![0; size(data, kind, records)?];
-    let mut answer = [0; 3];
+    let mut answer = [0; 4];
     // SAFETY: bytes and records live through the call, `out` and `answer` are ours alone, and the lengths are theirs.
     unsafe {
         ffi::sarpukten_write_tree(
@@ -206,16 +206,16 @@ impl<'a> Iterator for TreeRefIter<'a> {
         if self.ended {
             return None;
         }
-        let mut answer = [0; 8];
+        let mut answer = [0; 9];
         // SAFETY: `data` lives through the call, and `answer` is ours alone.
         unsafe { ffi::sarpukten_tree_step(self.data.as_ptr(), self.data.len(), self.kind.len_in_bytes(), self.at, &mut answer) };
-        let [number, place, found, next, record @ ..] = answer;
+        let [number, place, part, found, next, record @ ..] = answer;
         self.at = next;
         self.ended = found == 0;
         match (number, found) {
             (0, 0) => None,
             (0, _) => Some(Ok(EntryRef::of_record(self.data, self.kind, &record))),
-            (number, _) => Some(Err(Error { number, place, field: 0 })),
+            (number, _) => Some(Err(Error { number, place, part, field: 0 })),
         }
     }
 }

@@ -16,7 +16,7 @@ fn commit(kind: Kind) -> Vec<u8> {
 }
 
 fn refused(number: usize, place: usize, field: usize) -> Error {
-    Error { number, place, field }
+    Error { number, place, part: 0, field }
 }
 
 #[test]

@@ -9,7 +9,7 @@ fn text(m: EntryMode) -> Vec<u8> {
     m.as_bytes(&mut [0; 6]).to_vec()
 }
 
-const BAD: Error = Error { number: 3, place: 0, field: 0 };
+const BAD: Error = Error { number: 3, place: 0, part: 1, field: 0 };
 
 #[test]
 fn the_five() {
@@ -61,7 +61,7 @@ fn texts() {
 #[test]
 fn numbers() {
     assert_eq!(EntryMode::try_from(0o300644), Ok(EntryMode::from(EntryKind::Blob)));
-    assert_eq!(EntryMode::try_from(0o200000), Err(Error { number: 23, place: 0, field: 0 }));
+    assert_eq!(EntryMode::try_from(0o200000), Err(Error { number: 23, place: 0, part: 0, field: 0 }));
     // Every mode's text reads back, but for those that lose their highest bit and for 0.
     for n in 1..=u16::MAX {
         let Ok(m) = EntryMode::try_from(n as u32) else { continue };

@@ -3,7 +3,11 @@ use sarpukten::{name_order, tree_to_bytes, EntryKind, EntryMode, EntryRef, Error
 use std::cmp::Ordering;
 
 fn refused(number: usize, place: usize) -> Error {
-    Error { number, place, field: 0 }
+    Error { number, place, part: 0, field: 0 }
+}
+
+fn broken(place: usize, part: usize) -> Error {
+    Error { number: 3, place, part, field: 0 }
 }
 
 /// An object from mode texts with names; each id is its entry's number, in every byte.
@@ -88,12 +92,12 @@ fn refusals() {
     let o = object(Kind::Sha1, &["100644 a", "40000 b"]);
     assert_eq!(o.len(), 57);
     let cut = &o[..56];
-    assert_eq!(TreeRef::from_bytes(cut, Kind::Sha1).unwrap_err(), refused(3, 29));
+    assert_eq!(TreeRef::from_bytes(cut, Kind::Sha1).unwrap_err(), broken(29, 3));
     assert_eq!(TreeRef::from_bytes(cut, Kind::Sha1).unwrap_err().to_string(), "refused 3 at 29");
-    assert_eq!(TreeRef::from_bytes_strict(cut, Kind::Sha1).unwrap_err(), refused(3, 29));
+    assert_eq!(TreeRef::from_bytes_strict(cut, Kind::Sha1).unwrap_err(), broken(29, 3));
     let mut steps = TreeRefIter::from_bytes(cut, Kind::Sha1);
     assert_eq!(steps.next().unwrap().unwrap().filename, b"a");
-    assert_eq!(steps.next(), Some(Err(refused(3, 29))));
+    assert_eq!(steps.next(), Some(Err(broken(29, 3))));
     assert_eq!(steps.next(), None);
     let strictly = |entries: &[&str]| TreeRef::from_bytes_strict(&object(Kind::Sha1, entries), Kind::Sha1).unwrap_err();
     assert_eq!(strictly(&["100644 a", "100664 b"]), refused(5, 29));

@@ -165,11 +165,13 @@ pub fn check_commit(
                 return Verdict {
                     number: 10,
                     place: k,
+                    part: 0,
                 };
             }
             Verdict {
                 number: 0,
                 place: 0,
+                part: 0,
             }
         }
     }

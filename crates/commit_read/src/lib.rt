@@ -117,6 +117,7 @@ fn actor_at(s: &[u8], at: usize, word: &[u8], field: usize) -> Person
             verdict: Verdict {
                 number: 11,
                 place: at,
+                part: 0,
             },
             field: field,
         }),
@@ -128,6 +129,7 @@ fn actor_at(s: &[u8], at: usize, word: &[u8], field: usize) -> Person
                 verdict: Verdict {
                     number: 12,
                     place: at,
+                    part: 0,
                 },
                 field: 0,
             })
@@ -192,6 +194,7 @@ fn ending(s: &[u8], n: usize, a: usize, e: usize, b: usize, f: usize) -> Outcome
         verdict: Verdict {
             number: 11,
             place: end,
+            part: 0,
         },
         field: 4,
     })
@@ -228,6 +231,7 @@ fn fields(s: &[u8], h: usize) -> Outcome
         verdict: Verdict {
             number: 11,
             place: 0,
+            part: 0,
         },
         field: 1,
     })
@@ -249,6 +253,7 @@ fn decide(s: &[u8], h: usize, np: usize, nh: usize) -> Outcome
                         verdict: Verdict {
                             number: 4,
                             place: n,
+                            part: 0,
                         },
                         field: 0,
                     });
@@ -258,6 +263,7 @@ fn decide(s: &[u8], h: usize, np: usize, nh: usize) -> Outcome
                         verdict: Verdict {
                             number: 4,
                             place: m,
+                            part: 0,
                         },
                         field: 0,
                     });
@@ -339,6 +345,7 @@ fn done(f: Found) -> CommitRead
         verdict: Verdict {
             number: 0,
             place: 0,
+            part: 0,
         },
         field: 0,
         parents: f.parents,

@@ -262,6 +262,7 @@ fn measure(
         verdict: Verdict {
             number: 0,
             place: 0,
+            part: 0,
         },
         count,
     }
@@ -303,6 +304,7 @@ pub fn write_commit(
             verdict: Verdict {
                 number: fault,
                 place: 0,
+                part: 0,
             },
             count: 0,
         };

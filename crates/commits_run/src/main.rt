@@ -186,6 +186,7 @@ fn no_answer() -> Answer {
         verdict: Verdict {
             number: 0,
             place: 0,
+            part: 0,
         },
         count: 0,
     }

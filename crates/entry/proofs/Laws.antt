@@ -7,10 +7,10 @@ use mathlib.Core.List.{List, [], _∷_}
 use lib.Dec.{eqb, leb}
 use lib.ListN.{length, getD, drop, set, length-drop}
 use lib.Seq.{drop-drop}
-use borrow.Author.Tests.{lt-ltb, le-ltb, le-leb, lt-leb, leb-true}
+use borrow.Author.Tests.{eq-eqb, ne-eqb, lt-ltb, le-ltb, le-leb, lt-leb, leb-true}
 use Rattle.ground.specs.Basics.{pick}
 use Rattle.ground.specs.Scan.{countTo, placeFrom}
-use Rattle.ground.specs.Verdict.{verdict, fine, gateOf}
+use Rattle.ground.specs.Verdict.{fine, broken, isPart, gateOf}
 use Rattle.ground.proofs.Laws.{and-left, and-right, place-within}
 use Rattle.ground.specs.declared.Verdict.{Verdict}
 use Rattle.ground.specs.declared.Gate.the-variants.{Open, Shut}
@@ -21,7 +21,7 @@ use Rattle.mode.specs.declared.EntryMode.{EntryMode}
 use Rattle.mode.specs.declared.ModeRead.{ModeRead}
 use Rattle.mode.specs.declared.ModeRead.the-variants.{Mode, Bad}
 use Rattle.entry.specs.Record.{width, many, noRecord, recordsOf, putRecord, wellFormed}
-use Rattle.entry.specs.Decode.{brokenAt, recordAt, decode, decodeMode, decodeName, noEntry, stepOver, stepFrom, stepOf}
+use Rattle.entry.specs.Decode.{brokenAt, shortPart, recordAt, decode, decodeMode, decodeName, noEntry, stepOver, stepFrom, stepOf}
 use Rattle.entry.specs.declared.EntryRecord.{EntryRecord}
 use Rattle.entry.specs.declared.Cursor.{Cursor}
 use Rattle.entry.specs.declared.Decoded.the-variants.{Whole, Broken}
@@ -93,11 +93,11 @@ mode-moved s at m rest e = go (readMode (drop at s)) refl e
     go Bad q e = let z : _≡_ {A = ℕ} 0 1 = cc in absurd (omega arith)
 
 module _ (s : List ℕ) (h at : ℕ) where
-  pub decode-bad : readModeAt s at ≡ Bad → decode h at (drop at s) ≡ brokenAt at
+  pub decode-bad : readModeAt s at ≡ Bad → decode h at (drop at s) ≡ brokenAt at 1
   unfolding decode decodeMode readModeAt
   decode-bad e = go (readMode (drop at s)) e
     where
-      go : (r : ModeRead) → moved at r ≡ Bad → decodeMode h at (drop at s) r ≡ brokenAt at
+      go : (r : ModeRead) → moved at r ≡ Bad → decodeMode h at (drop at s) r ≡ brokenAt at 1
       go (Mode k n) e = let z : _≡_ {A = ℕ} 0 1 = cc in absurd (omega arith)
       go Bad e = refl
 
@@ -110,9 +110,10 @@ module _ (s : List ℕ) (h at : ℕ) where
         let d : drop (w .0) (drop at s) ≡ drop rest s = drop-drop (w .0) at s ∙ ap (λ (k : ℕ). drop k s) (sym (w .2)) in
         (w .0, rw (w .1, d), w .2)
 
-    broken : (n : ℕ) → length (drop rest s) < countTo 0 (drop rest s) + 1 + h → decodeName h at (m .internal) n (drop rest s) ≡ brokenAt at
+    cut-short : (n : ℕ) → length (drop rest s) < countTo 0 (drop rest s) + 1 + h
+        → decodeName h at (m .internal) n (drop rest s) ≡ brokenAt at (shortPart (length (drop rest s) - countTo 0 (drop rest s)))
     unfolding decodeName
-    broken n l = simp (lt-leb (countTo 0 (drop rest s) + 1 + h) (length (drop rest s)) l)
+    cut-short n l = simp (lt-leb (countTo 0 (drop rest s) + 1 + h) (length (drop rest s)) l)
 
     -- the name ends inside the object
     pub name-within : end ≤ length s
@@ -121,9 +122,12 @@ module _ (s : List ℕ) (h at : ℕ) where
         let r = read-next (drop at s) (m .internal) (w .0) (w .1) in
         rw p (place-within 0 s rest (omega (arith, r .1, w .2, length-drop at s)))
 
-    pub decode-short : length s - end ≤ h → decode h at (drop at s) ≡ brokenAt at
+    pub decode-short : length s - end ≤ h → decode h at (drop at s) ≡ brokenAt at (shortPart (length s - end))
     unfolding placeFrom
-    decode-short l = let w = named in w .1 ∙ broken (w .0) (omega (arith, length-drop rest s))
+    decode-short l =
+        let w = named in
+        let z : length (drop rest s) - countTo 0 (drop rest s) ≡ length s - end = omega (arith, length-drop rest s) in
+        w .1 ∙ cut-short (w .0) (omega (arith, length-drop rest s)) ∙ rw z
 
     pub decode-whole : h < length s - end
         → decode h at (drop at s) ≡ Whole (record { mode = m .internal; «name_start» = rest; «name_end» = end; «id_start» = end + 1 }) (record { at = end + 1 + h })
@@ -150,7 +154,7 @@ unfolding decode decodeMode decodeName
 decode-parts h at b e next d = go (readMode b) refl d
   where
     last : (m : EntryMode) (n : ℕ) → readMode b ≡ Mode m n → (v : Bool) → leb (countTo 0 (drop n b) + 1 + h) (length (drop n b)) ≡ v
-        → pick v (Whole (recordAt at (m .internal) n (countTo 0 (drop n b))) (record { at = at + n + (countTo 0 (drop n b) + 1 + h) })) (brokenAt at) ≡ Whole e next → Parts h at b e next
+        → pick v (Whole (recordAt at (m .internal) n (countTo 0 (drop n b))) (record { at = at + n + (countTo 0 (drop n b) + 1 + h) })) (brokenAt at (shortPart (length (drop n b) - countTo 0 (drop n b)))) ≡ Whole e next → Parts h at b e next
     last m n q true p d =
         let r : recordAt at (m .internal) n (countTo 0 (drop n b)) ≡ e = cc in
         let k : _≡_ {A = Cursor} (record { at = at + n + (countTo 0 (drop n b) + 1 + h) }) next = cc in
@@ -168,18 +172,35 @@ decode-parts h at b e next d = go (readMode b) refl d
     go (Mode m n) q d = last m n q (leb (countTo 0 (drop n b) + 1 + h) (length (drop n b))) refl d
     go Bad q d = let z : _≡_ {A = ℕ} 0 1 = cc in absurd (omega arith)
 
--- an entry that cannot be read is refused 3 at its first byte
-pub decode-three : (h at : ℕ) (b : List ℕ) (v : Verdict) → decode h at b ≡ Broken v → v ≡ verdict 3 at
+pub short-none : {left : ℕ} → left ≡ 0 → shortPart left ≡ 2
+unfolding shortPart
+short-none {left} e = simp (eq-eqb left 0 e)
+
+pub short-some : {left : ℕ} → (left ≡ 0 → ⊥) → shortPart left ≡ 3
+unfolding shortPart
+short-some {left} e = simp (ne-eqb left 0 e)
+
+short-is-part : (left : ℕ) → isPart (shortPart left) ≡ true
+unfolding shortPart
+short-is-part left = go (eqb left 0)
+  where
+    go : (none : Bool) → isPart (pick none 2 3) ≡ true
+    go true = refl
+    go false = refl
+
+-- an entry that cannot be read is refused 3 at its first byte, with one of the three parts
+pub decode-three : (h at : ℕ) (b : List ℕ) (v : Verdict) → decode h at b ≡ Broken v → (k : ℕ) × (v ≡ broken at k) × (isPart k ≡ true)
 unfolding decode decodeMode decodeName
 decode-three h at b v d = go (readMode b) d
   where
-    last : (m n t : ℕ) (w : Bool) (c : Cursor) → pick w (Whole (recordAt at m n t) c) (brokenAt at) ≡ Broken v → v ≡ verdict 3 at
-    last m n t true c d = let z : _≡_ {A = ℕ} 0 1 = cc in absurd (omega arith)
-    last m n t false c d = cc
+    last : (m n t left : ℕ) (w : Bool) (c : Cursor) → pick w (Whole (recordAt at m n t) c) (brokenAt at (shortPart left)) ≡ Broken v
+        → (k : ℕ) × (v ≡ broken at k) × (isPart k ≡ true)
+    last m n t left true c d = let z : _≡_ {A = ℕ} 0 1 = cc in absurd (omega arith)
+    last m n t left false c d = (shortPart left, cc, short-is-part left)
 
-    go : (r : ModeRead) → decodeMode h at b r ≡ Broken v → v ≡ verdict 3 at
-    go (Mode m n) d = last (m .internal) n (countTo 0 (drop n b)) (leb (countTo 0 (drop n b) + 1 + h) (length (drop n b))) _ d
-    go Bad d = cc
+    go : (r : ModeRead) → decodeMode h at b r ≡ Broken v → (k : ℕ) × (v ≡ broken at k) × (isPart k ≡ true)
+    go (Mode m n) d = last (m .internal) n (countTo 0 (drop n b)) (length (drop n b) - countTo 0 (drop n b)) (leb (countTo 0 (drop n b) + 1 + h) (length (drop n b))) _ d
+    go Bad d = (1, cc, refl)
 
 -- a whole entry lies inside the object that it was read from, in order, and the cursor stands past it
 pub decode-inside : (h : ℕ) (s : List ℕ) (at : ℕ) (e : EntryRecord) (next : Cursor) → decode h at (drop at s) ≡ Whole e next

@@ -1,12 +1,12 @@
 -- One entry at the front of some bytes, and the step of a cursor over an object (docs/FORMAT.md, "Entries"). Assumes nothing.
-use Prim.Native.Nat.{ℕ, _+_}
+use Prim.Native.Nat.{ℕ, _+_, _-_}
 use mathlib.Core.Bool.{true, false}
 use mathlib.Core.List.{List}
 use lib.ListN.{length, drop}
-use lib.Dec.{leb}
+use lib.Dec.{eqb, leb}
 use Rattle.ground.specs.Basics.{pick}
 use Rattle.ground.specs.Scan.{countTo}
-use Rattle.ground.specs.Verdict.{verdict, fine, gateOf}
+use Rattle.ground.specs.Verdict.{fine, broken, gateOf}
 use Rattle.ground.specs.declared.Verdict.{Verdict}
 use Rattle.ground.specs.declared.Gate.{Gate}
 use Rattle.ground.specs.declared.Gate.the-variants.{Open, Shut}
@@ -20,9 +20,13 @@ use Rattle.entry.specs.declared.Decoded.{Decoded}
 use Rattle.entry.specs.declared.Decoded.the-variants.{Whole, Broken}
 use Rattle.entry.specs.declared.Step.{Step}
 
--- 3, at the entry's first byte
-abbrev pub brokenAt : ℕ → Decoded
-brokenAt at = Broken (verdict 3 at)
+-- 3, at the entry's first byte, with the part that cannot be read
+abbrev pub brokenAt : ℕ → ℕ → Decoded
+brokenAt at part = Broken (broken at part)
+
+-- the part that is missing where so many bytes stand from the name's end on: 2 where there is no NUL, 3 where fewer than h bytes follow it
+unfoldable pub shortPart : ℕ → ℕ
+shortPart left = pick (eqb left 0) 2 3
 
 -- the record of an entry at a place whose mode text and space take n bytes and whose name has t
 abbrev pub recordAt : ℕ → ℕ → ℕ → ℕ → EntryRecord
@@ -32,11 +36,11 @@ recordAt at m n t = record { mode = m; «name_start» = at + n; «name_end» = a
 unfoldable pub decodeName : ℕ → ℕ → ℕ → ℕ → List ℕ → Decoded
 decodeName h at m n c =
     pick (leb (countTo 0 c + 1 + h) (length c))
-    (Whole (recordAt at m n (countTo 0 c)) (record { at = at + n + (countTo 0 c + 1 + h) })) (brokenAt at)
+    (Whole (recordAt at m n (countTo 0 c)) (record { at = at + n + (countTo 0 c + 1 + h) })) (brokenAt at (shortPart (length c - countTo 0 c)))
 
 unfoldable pub decodeMode : ℕ → ℕ → List ℕ → ModeRead → Decoded
 decodeMode h at b (Mode m n) = decodeName h at (m .internal) n (drop n b)
-decodeMode h at b Bad = brokenAt at
+decodeMode h at b Bad = brokenAt at 1
 
 -- the entry at the front of the bytes b, which stand at a place of an object: mode text, name, NUL, id of h bytes
 unfoldable pub decode : ℕ → ℕ → List ℕ → Decoded

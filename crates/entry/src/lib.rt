@@ -2,7 +2,7 @@
 ghost use mathlib.Core.Path.{_≡_};
 ghost use lib.ListN.{getD, drop};
 ghost use Rattle.entry.specs.Record.{recordsOf, noRecord, putRecord, wellFormed, folderOf};
-ghost use Rattle.entry.specs.Decode.{brokenAt, decode, noEntry, stepOf};
+ghost use Rattle.entry.specs.Decode.{brokenAt, shortPart, decode, noEntry, stepOf};
 use ground::Gate;
 use ground::Verdict;
 use ground::bounds;
@@ -111,14 +111,22 @@ pub fn is_folder(e: EntryRecord) -> bool
     m.is_tree()
 }
 
-// Refusal 3: the entry that starts at a place cannot be read.
-fn broken(at: usize) -> Decoded
-    ensures { λ r. ⌜ r ≡ brokenAt at ⌝ }
+// Refusal 3: a part of the entry that starts at a place cannot be read.
+fn broken(at: usize, part: usize) -> Decoded
+    ensures { λ r. ⌜ r ≡ brokenAt at part ⌝ }
 {
     Decoded::Broken(Verdict {
         number: 3,
         place: at,
+        part,
     })
+}
+
+// The part that is missing where so many bytes stand from the name's end on: 2 where no NUL is there, 3 where the id is cut.
+pub fn short_part(left: usize) -> usize
+    ensures { λ r. ⌜ r ≡ shortPart left ⌝ }
+{
+    if left == 0 { 2 } else { 3 }
 }
 
 // A step that found no entry.
@@ -147,8 +155,9 @@ impl Cursor {
         match EntryMode::extract_at(s, at) {
             ModeRead::Mode(m, rest) => {
                 let end = find_nul(s, rest);
-                if s.len() - end <= h {
-                    return broken(at);
+                let left = s.len() - end;
+                if left <= h {
+                    return broken(at, short_part(left));
                 }
                 let id = end + 1;
                 let next = id + h;
@@ -163,7 +172,7 @@ impl Cursor {
                     Cursor { at: next },
                 )
             }
-            ModeRead::Bad => broken(at),
+            ModeRead::Bad => broken(at, 1),
         }
     }
 
@@ -181,6 +190,7 @@ impl Cursor {
                         Verdict {
                             number: 0,
                             place: 0,
+                            part: 0,
                         },
                         self,
                     );
@@ -190,6 +200,7 @@ impl Cursor {
                         verdict: Verdict {
                             number: 0,
                             place: 0,
+                            part: 0,
                         },
                         found: true,
                         entry: e,

@@ -13,7 +13,15 @@ use Rattle.ground.specs.declared.Gate.the-variants.{Open, Shut}
 
 -- a number of the table and its place
 abbrev pub verdict : ℕ → ℕ → Verdict
-verdict n p = record { number = n; place = p }
+verdict n p = record { number = n; place = p; part = 0 }
+
+-- number 3 at a place, with the part of the entry that cannot be read: 1 the mode, 2 the NUL after it, 3 the id
+abbrev pub broken : ℕ → ℕ → Verdict
+broken p part = record { number = 3; place = p; part = part }
+
+-- one of the three parts
+abbrev pub isPart : ℕ → Bool
+isPart k = eqb k 1 || (eqb k 2 || eqb k 3)
 
 -- number 0, place 0
 abbrev pub fine : Verdict

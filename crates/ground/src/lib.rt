@@ -9,10 +9,12 @@ pub const MOST_BYTES: usize = 1073741824;
 
 pub const MOST_RECORDS: usize = 1048576;
 
-// A number of the table with its place; number 0 with place 0 is "done".
+// A number of the table with its place, and with number 3 the part of the entry that cannot be read, else 0;
+// number 0 with place 0 is "done".
 pub struct Verdict {
     pub number: usize,
     pub place: usize,
+    pub part: usize,
 }
 
 // The answer of a call that counts records or bytes: the count is 0 on a refusal.
@@ -35,12 +37,14 @@ pub fn sizes(bytes: usize, records: usize) -> Gate
         return Gate::Shut(Verdict {
             number: 2,
             place: 0,
+            part: 0,
         });
     }
     if MOST_RECORDS < records {
         return Gate::Shut(Verdict {
             number: 2,
             place: 0,
+            part: 0,
         });
     }
     Gate::Open
@@ -59,6 +63,7 @@ pub fn bounds(h: usize, bytes: usize, records: usize) -> Gate
     Gate::Shut(Verdict {
         number: 1,
         place: 0,
+        part: 0,
     })
 }
 

@@ -149,6 +149,7 @@ fn main() {
             Verdict {
                 number: 2,
                 place: 0,
+                part: 0,
             },
         );
         flush(&out, end);

@@ -131,6 +131,11 @@ module _ (h : ℕ) (object name : List ℕ) (folder : Bool) (e : EntryRecord) wh
   unfolding compareEntry
   met-good w = rw w
 
+-- what a comparison said of a record's name, with the sort that was found for it
+pub told-of : (object name : List ℕ) (folder : Bool) (e : EntryRecord) {sort : Bool} {r o : Order} → sort ≡ folderOf e → r ≡ nameOrder (nameOf object e) sort name folder → r ≡ o
+    → nameOrder (nameOf object e) (folderOf e) name folder ≡ o
+told-of object name folder e p q told = ap (λ (s : Bool). nameOrder (nameOf object e) s name folder) (sym p) ∙ sym q ∙ told
+
 -- the search between low and high among records, where e is the one in the middle
 module _ (h : ℕ) (object : List ℕ) (records : List EntryRecord) (name : List ℕ) (folder : Bool) (low high c : ℕ) (l : low < high) where
   abbrev how : ℕ → Met

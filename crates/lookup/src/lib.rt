@@ -51,6 +51,7 @@ fn aimed(low: usize, high: usize, compared: usize) -> Probe
         verdict: Verdict {
             number: 15,
             place: 0,
+            part: 0,
         },
         index: 0,
         compared,
@@ -115,6 +116,7 @@ fn moved(p: Probe, o: Order) -> Probe
             Verdict {
                 number: 0,
                 place: 0,
+                part: 0,
             },
             at,
             compared,
@@ -145,6 +147,7 @@ pub fn step(object: &[u8], name: &[u8], q: Query, p: Probe, e: EntryRecord) -> P
         Verdict {
             number: 10,
             place: at,
+            part: 0,
         },
         0,
         0,
@@ -202,6 +205,7 @@ fn searched(object: &[u8], h: usize, records: &[usize], name: &[u8], folder: boo
                         verdict: Verdict {
                             number: 0,
                             place: 0,
+                            part: 0,
                         },
                         index: middle,
                         compared,
@@ -217,6 +221,7 @@ fn searched(object: &[u8], h: usize, records: &[usize], name: &[u8], folder: boo
             verdict: Verdict {
                 number: 10,
                 place: middle,
+                part: 0,
             },
             index: 0,
             compared: 0,
@@ -226,6 +231,7 @@ fn searched(object: &[u8], h: usize, records: &[usize], name: &[u8], folder: boo
         verdict: Verdict {
             number: 15,
             place: 0,
+            part: 0,
         },
         index: 0,
         compared,

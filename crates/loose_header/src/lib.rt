@@ -80,6 +80,7 @@ pub fn loose_header(kind: usize, size: u64, out: &mut [u8]) -> Answer
             verdict: Verdict {
                 number: 23,
                 place: 0,
+                part: 0,
             },
             count: 0,
         };
@@ -94,6 +95,7 @@ pub fn loose_header(kind: usize, size: u64, out: &mut [u8]) -> Answer
             verdict: Verdict {
                 number: 0,
                 place: 0,
+                part: 0,
             },
             count: need,
         },

@@ -6,7 +6,7 @@ use lib.ListN.{length, getD, take, drop}
 use lib.Dec.{eqb, ltb, leb}
 use Rattle.ground.specs.Basics.{pick}
 use Rattle.ground.specs.Scan.{countTo}
-use Rattle.ground.specs.Verdict.{verdict, sizeGate}
+use Rattle.ground.specs.Verdict.{broken, sizeGate}
 use Rattle.ground.specs.declared.Gate.{Gate}
 use Rattle.ground.specs.declared.Gate.the-variants.{Open, Shut}
 use Rattle.mode.specs.Mode.{accepted, rejected}
@@ -62,10 +62,10 @@ moved at Bad = Bad
 unfoldable pub readModeAt : List ℕ → ℕ → ModeRead
 readModeAt s at = moved at (readMode (drop at s))
 
--- a text that stands alone is refused with 3 where it cannot be read
+-- a text that stands alone is refused with 3, part 1, where it cannot be read
 abbrev pub alone : ModeRead → ModeAnswer
 alone (Mode m n) = accepted m
-alone Bad = rejected (verdict 3 0)
+alone Bad = rejected (broken 0 1)
 
 -- a call that may not begin gives its refusal, any other what it finds
 abbrev pub begun : Gate → ModeAnswer → ModeAnswer

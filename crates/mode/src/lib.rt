@@ -211,6 +211,7 @@ impl ModeAnswer {
             verdict: Verdict {
                 number: 0,
                 place: 0,
+                part: 0,
             },
             mode: mode,
         }
@@ -225,7 +226,7 @@ impl ModeAnswer {
         }
     }
 
-    // A mode text that stands alone: refusal 3 where it cannot be read.
+    // A mode text that stands alone: refusal 3, part 1, where it cannot be read.
     fn alone(read: ModeRead) -> ModeAnswer
         ensures { λ r. ⌜ r ≡ alone read ⌝ }
     {
@@ -234,6 +235,7 @@ impl ModeAnswer {
             ModeRead::Bad => ModeAnswer::refused(Verdict {
                 number: 3,
                 place: 0,
+                part: 1,
             }),
         }
     }
@@ -382,6 +384,7 @@ impl EntryMode {
             return ModeAnswer::refused(Verdict {
                 number: 23,
                 place: 0,
+                part: 0,
             });
         }
         let low = (n % 0o200000) as u16;

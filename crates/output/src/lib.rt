@@ -72,6 +72,7 @@ pub fn fit(room: usize, a: Answer) -> Answer
             verdict: Verdict {
                 number: 8,
                 place: need,
+                part: 0,
             },
             count: 0,
         };

@@ -23,7 +23,7 @@ of-border = record {
   mode-word = keeps-stores _ _ _ _ _ (λ i o m. m);
   mode-text = keeps-stores _ _ _ _ _ (λ i o m. m);
   tree-step = keeps-hands _ _ stepIn _ _ _ _ _ _ (λ i o m. (m .0, m .1, refl))
-      (λ i. each-step (Of _ (λ x. stepIn (stepNumbers x))) _ _ _ (zero refl refl) (zero refl refl) (done refl refl) (zero refl refl) (λ e next. done refl refl)) (λ i z. refl);
+      (λ i. each-step (Of _ (λ x. stepIn (stepNumbers x))) _ _ _ (zero refl refl) (zero refl refl) (done refl refl) (λ k p. zero refl p) (λ e next. done refl refl)) (λ i z. refl);
   read-tree = keeps-hands _ _ saidIn _ _ _ _ _ _ (λ i o m. (m .0, m .1 .0, one-list (m .1 .1))) (λ i. wider (plain-fits _ (now (i .args .0)) (now (i .args .1 .1 .0))) refl)
       (λ i z. one-list (stored-refused _ _ _ z));
   read-tree-strict = keeps-hands _ _ saidIn _ _ _ _ _ _ (λ i o m. (m .0, m .1 .0, one-list (m .1 .1))) (λ i. wider (strict-fits _ (now (i .args .0)) (now (i .args .1 .1 .0))) refl)

@@ -5,7 +5,7 @@ use mathlib.Core.Bool.{_||_}
 use mathlib.Core.List.{List, [], _∷_}
 use lib.Dec.{eqb}
 use lib.ListN.{length}
-use Rattle.ground.specs.Verdict.{verdict}
+use Rattle.ground.specs.Verdict.{verdict, broken}
 use Rattle.mode.specs.Mode.{accepted, rejected, fromNumber}
 use Rattle.mode.specs.Read.{readMode, alone, begun, modeAlone}
 use Rattle.mode.specs.declared.EntryMode.{EntryMode}
@@ -18,7 +18,7 @@ use Rattle.paper.specs.Demand1.{OfGround, OfModes}
 use Rattle.paper.proofs.Laws.{same, Of, done, zero, wider, keeps-reads, keeps-stores, each-pick, each-size, each-gate}
 
 -- every way to read a mode text alone: a mode, 2, 3
-each-alone : (Q : ModeAnswer → Type 0) → ((m : EntryMode) → Q (accepted m)) → Q (rejected (verdict 2 0)) → Q (rejected (verdict 3 0)) → (i : List ℕ) → Q (modeAlone i)
+each-alone : (Q : ModeAnswer → Type 0) → ((m : EntryMode) → Q (accepted m)) → Q (rejected (verdict 2 0)) → Q (rejected (broken 0 1)) → (i : List ℕ) → Q (modeAlone i)
 unfolding modeAlone
 each-alone Q mode two three i = each-size (λ g. Q (begun g (alone (readMode i)))) (read (readMode i)) two (length i) 0
   where

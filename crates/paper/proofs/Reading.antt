@@ -7,7 +7,7 @@ use lib.Dec.{leb}
 use lib.ListN.{length}
 use denote.Ref.{now}
 use Rattle.ground.specs.Basics.{pick}
-use Rattle.ground.specs.Verdict.{verdict, counted, refused, mostRecords}
+use Rattle.ground.specs.Verdict.{verdict, broken, isPart, counted, refused, mostRecords}
 use Rattle.ground.specs.declared.Answer.{Answer}
 use Rattle.ground.proofs.Laws.{stored-refused}
 use Rattle.entry.specs.Record.{many}
@@ -25,7 +25,7 @@ use Rattle.paper.proofs.Laws.{Of, done, zero, wider, keeps-writes, each
 
 -- every way to read: a count, 1, 2, 3, 4; strictly also 5, 6 and 7
 module _ (Q : Answer → Type 0) (count : (n : ℕ) → Q (counted n)) (one : Q (refused (verdict 1 0))) (two : Q (refused (verdict 2 0)))
-    (three : (at : ℕ) → Q (refused (verdict 3 at))) (four : (n : ℕ) → Q (refused (verdict 4 n))) (h : ℕ) (s lent : List ℕ) where
+    (three : (at k : ℕ) → isPart k ≡ true → Q (refused (broken at k))) (four : (n : ℕ) → Q (refused (verdict 4 n))) (h : ℕ) (s lent : List ℕ) where
   abbrev Ends : Listing → Type 0
   Ends = Stops (λ v. Q (refused v))
 
@@ -61,11 +61,11 @@ module _ (Q : Answer → Type 0) (count : (n : ℕ) → Q (counted n)) (one : Q 
         said at false name place z = five at
 
 pub plain-fits : (h : ℕ) (s lent : List ℕ) → Fits (0 ∷ 1 ∷ 2 ∷ 3 ∷ 4 ∷ []) (ofAnswer (readAnswer h s (listing h s) lent))
-plain-fits = each-plain (Of _ ofAnswer) (λ n. done refl refl) (zero refl refl) (zero refl refl) (λ at. zero refl refl) (λ n. zero refl refl)
+plain-fits = each-plain (Of _ ofAnswer) (λ n. done refl refl) (zero refl refl) (zero refl refl) (λ at k p. zero refl p) (λ n. zero refl refl)
 
 pub strict-fits : (h : ℕ) (s lent : List ℕ) → Fits (0 ∷ 1 ∷ 2 ∷ 3 ∷ 4 ∷ 5 ∷ 6 ∷ 7 ∷ []) (ofAnswer (readAnswer h s (strictly gitRules h s) lent))
 strict-fits h s lent =
-    each-strict (Of _ ofAnswer) (λ n. done refl refl) (zero refl refl) (zero refl refl) (λ at. zero refl refl) (λ n. zero refl refl) h s lent
+    each-strict (Of _ ofAnswer) (λ n. done refl refl) (zero refl refl) (zero refl refl) (λ at k p. zero refl p) (λ n. zero refl refl) h s lent
     (λ at. zero refl refl) (λ at. zero refl refl) (λ at. zero refl refl)
 
 pub of-reading : OfReading

@@ -1,25 +1,29 @@
--- The public calls under C names (include/sarpukten.h). Each hands its answer over in numbers that the caller lends for that alone, number and place
--- first, and returns the number; what else it is lent is as with the call that it stands for. Assumes nothing.
+-- The public calls under C names (include/sarpukten.h). Each hands its answer over in numbers that the caller lends for that alone, number, place
+-- and part first, and returns the number; what else it is lent is as with the call that it stands for. Assumes nothing.
 use Prim.Native.Nat.{ℕ}
 use mathlib.Core.List.{List, [], _∷_}
 use lib.ListN.{getD, drop}
 use denote.Ref.{now}
-use Rattle.ground.specs.Verdict.{verdict}
+use Rattle.ground.specs.declared.Verdict.{Verdict}
 use Rattle.sarpukten.proofs as c
 use Rattle.paper.specs.Call.{Call, call, Input, Outcome, Said, Deed}
 use Rattle.paper.specs.Calls.{stores}
 
--- what handed numbers say: after number and place, the counts
+-- number, place and part come first
+abbrev pub verdictIn : List ℕ → Verdict
+verdictIn l = record { number = getD l 0 0; place = getD l 1 0; part = getD l 2 0 }
+
+-- what handed numbers say: after the verdict, the counts
 abbrev pub saidIn : List ℕ → Said
-saidIn l = record { verdict = verdict (getD l 0 0) (getD l 1 0); counts = drop 2 l }
+saidIn l = record { verdict = verdictIn l; counts = drop 3 l }
 
 -- of a step, whether an entry was found, and its record; where the cursor goes on is no count
 abbrev pub stepIn : List ℕ → Said
-stepIn l = record { verdict = verdict (getD l 0 0) (getD l 1 0); counts = getD l 2 0 ∷ drop 4 l }
+stepIn l = record { verdict = verdictIn l; counts = getD l 3 0 ∷ drop 5 l }
 
 -- of a commit, both counts and the parts; the field that failed is no count
 abbrev pub commitIn : List ℕ → Said
-commitIn l = record { verdict = verdict (getD l 0 0) (getD l 1 0); counts = drop 3 l }
+commitIn l = record { verdict = verdictIn l; counts = drop 4 l }
 
 -- a call that hands its answer over
 abbrev pub hands : (d : Call) → ((i : Input d) → Outcome d i → List ℕ) → (List ℕ → Said) → (Input d → List (List ℕ)) → ((i : Input d) → Outcome d i → List (List ℕ)) → Deed

@@ -8,6 +8,8 @@ use lib.Dec.{eqb}
 use contract.Lifetimes.{Lfts}
 use denote.Triple.Clauses.{AtExit}
 use borrow.Fn.Kinds.{Out, PK, RK, Dens, resT, endedOf}
+use Rattle.ground.specs.Basics.{pick}
+use Rattle.ground.specs.Verdict.{isPart}
 use Rattle.ground.specs.declared.Verdict.{Verdict}
 
 -- how many lifetimes it names, the kinds of its parameters and of its result, and its contract: what is promised of the arguments, the result, and the
@@ -73,9 +75,13 @@ among n (k ∷ ks) = eqb n k || among n ks
 abbrev pub placed : List ℕ
 placed = 3 ∷ 4 ∷ 5 ∷ 6 ∷ 7 ∷ 8 ∷ 9 ∷ 10 ∷ 11 ∷ 12 ∷ []
 
+-- a part comes with 3, and is one of the three; with any other number it is 0
+abbrev pub parted : Verdict → Bool
+parted v = pick (eqb (v .number) 3) (isPart (v .part)) (eqb (v .part) 0)
+
 -- a verdict of the table, its number one of these
 abbrev pub listed : List ℕ → Verdict → Bool
-listed numbers v = among (v .number) numbers && (among (v .number) placed || eqb (v .place) 0)
+listed numbers v = among (v .number) numbers && ((among (v .number) placed || eqb (v .place) 0) && parted v)
 
 -- every count is 0
 abbrev pub nothing : List ℕ → Bool

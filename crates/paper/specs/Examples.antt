@@ -7,7 +7,7 @@ use mathlib.Core.List.{List, [], _∷_, _++_, map}
 use lib.IntN.{ℤ, pos, negsuc}
 use lib.ListN.{length, take, replicate}
 use Rattle.ground.specs.Basics.{ascii}
-use Rattle.ground.specs.Verdict.{verdict, counted, refused, idLength, sizeGate, gateOf, stored}
+use Rattle.ground.specs.Verdict.{broken, counted, refused, idLength, sizeGate, gateOf, stored}
 use Rattle.ground.specs.declared.Answer.{Answer}
 use Rattle.output.specs.Output.{fitted, gated}
 use Rattle.mode.specs.Mode.{valueOf, sortOf, executes, kindOf, isTree}
@@ -21,7 +21,7 @@ use Rattle.mode.specs.declared.ModeRead.the-variants.{Mode, Bad}
 use Rattle.order.specs.Order.{byNumber, next, nameOrder, orderNumber}
 use Rattle.entry.specs.Record.{recordsOf, wellFormed, nameOf, idOf}
 use Rattle.entry.specs.Entry.{Entry, entryBytes, asWritten, entryOf, entriesOf}
-use Rattle.entry.specs.Decode.{decodeName, decodeMode, decode}
+use Rattle.entry.specs.Decode.{shortPart, decodeName, decodeMode, decode}
 use Rattle.reading.specs.Listing.{Listing, follow, plain, listing, recordsIn, flats, tally}
 use Rattle.reading.specs.Rules.{judge, textOf, cut, strictly, permitted, standsBefore, isAfter, gitRules}
 use Rattle.reading.specs.Whole.{answerOf, readAnswer, readRecords}
@@ -158,15 +158,20 @@ table =
     ∷ read plainly O is lists (counted 2) entriesOfO
     ∷ read strict O is lists (counted 2) entriesOfO
     ∷ write O (readRecords 20 O (plainly O) room) 57 is writes (counted 57) O
-    -- P12: O without its last byte
-    ∷ read plainly (take 56 O) is lists (refused (verdict 3 29)) []
+    -- P12: O without its last byte: the id is cut
+    ∷ read plainly (take 56 O) is lists (refused (broken 29 3)) []
+    -- an entry that ends in its mode text or its name has no NUL; a mode of digits alone reads
+    ∷ read plainly (take 36 O) is lists (refused (broken 29 2)) []
+    ∷ read plainly (ascii "1") is lists (refused (broken 0 2)) []
+    ∷ read plainly (ascii "1234567") is lists (refused (broken 0 2)) []
+    ∷ read strict (ascii "12345678") is lists (refused (broken 0 1)) []
     -- P13: a value of two lines is folded, and its last LF is kept
     ∷ gives (headerWritten (record { name = ascii "k"; value = lines "a" "b"; mark = 0 })) is gives (lines "k a" " b")
     -- P14: an entry of mode 0 is written, and what was written is refused
     ∷ write (ascii "abc" ++ (32 ∷ replicate 19 7)) (0 ∷ 0 ∷ 3 ∷ 3 ∷ []) 26 is writes (counted 26) zeroMode
-    ∷ read plainly zeroMode is lists (refused (verdict 3 0)) []
+    ∷ read plainly zeroMode is lists (refused (broken 0 1)) []
     ∷ []
 
 pub all-hold : map (λ (r : Row). r .asked) table ≡ map (λ (r : Row). r .answer) table
-unfolding table foldRest foldValue headerWritten octalFrom hasSix textLen settle restAt readMode valueOf sortOf executes kindOf isTree trimmed writeMode rows byNumber next nameOrder orderNumber idLength sizeGate gateOf stored fitted gated recordsOf wellFormed nameOf idOf entryBytes asWritten entryOf decodeName decodeMode decode follow plain recordsIn flats tally judge textOf cut permitted standsBefore isAfter gitRules answerOf refusal judged measured treeAnswer
+unfolding table foldRest foldValue headerWritten octalFrom hasSix textLen settle restAt readMode valueOf sortOf executes kindOf isTree trimmed writeMode rows byNumber next nameOrder orderNumber idLength sizeGate gateOf stored fitted gated recordsOf wellFormed nameOf idOf entryBytes asWritten entryOf shortPart decodeName decodeMode decode follow plain recordsIn flats tally judge textOf cut permitted standsBefore isAfter gitRules answerOf refusal judged measured treeAnswer
 all-hold = refl

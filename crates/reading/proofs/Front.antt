@@ -10,7 +10,7 @@ use Rattle.front.specs.Code.{codeAt}
 use Rattle.front.proofs.Laws.{code-bad, code-mode, code-inside}
 use Rattle.mode.specs.Read.{readModeAt}
 use Rattle.mode.specs.declared.ModeRead.the-variants.{Mode}
-use Rattle.entry.specs.Decode.{brokenAt, decode}
+use Rattle.entry.specs.Decode.{brokenAt, shortPart, decode}
 use Rattle.entry.specs.declared.Decoded.the-variants.{Whole}
 use Rattle.entry.proofs.Laws.{decode-bad, name-within, decode-short, decode-whole}
 use Rattle.reading.specs.Listing.{entry, tally}
@@ -18,7 +18,7 @@ use Rattle.reading.specs.declared.Counted.the-variants.{Total}
 use Rattle.reading.proofs.Laws.{restAt, unbroken, there}
 
 module _ (s : List ℕ) (h at code : ℕ) (q : code ≡ codeAt s at) where
-  pub code-none : code ≡ 0 → decode h at (drop at s) ≡ brokenAt at
+  pub code-none : code ≡ 0 → decode h at (drop at s) ≡ brokenAt at 1
   code-none e = decode-bad s h at (code-bad s at (sym q ∙ e))
 
   module _ (some : code ≡ 0 → ⊥) where
@@ -35,7 +35,7 @@ module _ (s : List ℕ) (h at code : ℕ) (q : code ≡ codeAt s at) where
       pub name-ends : end ≤ length s
       name-ends = name-within s h at _ _ end reads p
 
-      pub name-short : length s - end ≤ h → decode h at (drop at s) ≡ brokenAt at
+      pub name-short : length s - end ≤ h → decode h at (drop at s) ≡ brokenAt at (shortPart (length s - end))
       name-short l = decode-short s h at _ _ end reads p l
 
       pub name-whole : h < length s - end

@@ -10,7 +10,7 @@ use lib.ListN.{length, drop, drop-of-length-le, length-drop}
 use lib.Seq.{sets, drop-drop}
 use borrow.Author.Tests.{eq-eqb, ne-eqb, eqb-false, le-leb, lt-leb, lt-ltb, leb-true, leb-false}
 use Rattle.ground.specs.Basics.{pick}
-use Rattle.ground.specs.Verdict.{verdict, fine, counted, refused, mostRecords, gateOf, stored}
+use Rattle.ground.specs.Verdict.{verdict, fine, broken, isPart, counted, refused, mostRecords, gateOf, stored}
 use Rattle.ground.specs.declared.Verdict.{Verdict}
 use Rattle.ground.specs.declared.Answer.{Answer}
 use Rattle.ground.specs.declared.Gate.{Gate}
@@ -161,8 +161,8 @@ tally-stops P n done v s t = let y : _≡_ {A = ℕ} 0 1 = cc in absurd (omega a
 tally-stops P n (stop w) v s t = let y : w ≡ v = cc in rw y at s
 tally-stops P n (entry at e l) v s t = tally-stops P (n + 1) l v s t
 
--- a plain listing stops with 2, or with 3 at an entry's first byte
-pub plain-stops : (P : Verdict → Type 0) → P (verdict 2 0) → ((at : ℕ) → P (verdict 3 at)) → (h left at : ℕ) (b : List ℕ) → Stops P (plain h left at b)
+-- a plain listing stops with 2, or with 3 at an entry's first byte and one of the three parts
+pub plain-stops : (P : Verdict → Type 0) → P (verdict 2 0) → ((at k : ℕ) → isPart k ≡ true → P (broken at k)) → (h left at : ℕ) (b : List ℕ) → Stops P (plain h left at b)
 unfolding plain follow
 plain-stops P two three h zero at [] = tt
 plain-stops P two three h zero at (x ∷ xs) = two
@@ -171,7 +171,7 @@ plain-stops P two three h (suc left) at (x ∷ xs) = go (plain-stops P two three
   where
     go : ((i : ℕ) (b : List ℕ) → Stops P (plain h left i b)) → (d : Decoded) → decode h at (x ∷ xs) ≡ d → Stops P (follow (plain h left) at (x ∷ xs) d)
     go ih (Whole e next) q = ih (next .at) (drop (next .at - at) (x ∷ xs))
-    go ih (Broken v) q = rw (decode-three h at (x ∷ xs) v q) (three at)
+    go ih (Broken v) q = let w = decode-three h at (x ∷ xs) v q in rw (w .1) (three at (w .0) (w .2))
 
 -- a listing cut by rules stops so too, or with what they say at an entry's first byte
 pub cut-stops : (P : Verdict → Type 0) (R : Rules) → ((before : List Entry) (text : List ℕ) (e : Entry) (at : ℕ) → (judge R before text e ≡ 0 → ⊥) → P (verdict (judge R before text e) at))
@@ -193,7 +193,7 @@ abbrev pub Refusal : Verdict → Type 0
 Refusal v = v .number ≡ 0 → ⊥
 
 pub plain-refuses : (h : ℕ) (s : List ℕ) → Stops Refusal (listing h s)
-plain-refuses h s = plain-stops Refusal (λ e. omega arith) (λ at e. omega arith) h mostRecords 0 s
+plain-refuses h s = plain-stops Refusal (λ e. omega arith) (λ at k p e. omega arith) h mostRecords 0 s
 
 pub cut-refuses : (R : Rules) (h : ℕ) (s : List ℕ) → Stops Refusal (strictly R h s)
 cut-refuses R h s = cut-stops Refusal R (λ before text e at z. z) h s [] (listing h s) (plain-refuses h s)

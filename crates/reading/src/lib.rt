@@ -19,6 +19,7 @@ use entry::EntryRecord;
 use entry::WIDTH;
 use entry::is_folder;
 use entry::put_entry;
+use entry::short_part;
 use front::code_at;
 use front::quick_code;
 use ground::Answer;
@@ -68,6 +69,7 @@ fn count_plain(s: &[u8], h: usize) -> Counted
             return Counted::Stopped(Verdict {
                 number: 2,
                 place: 0,
+                part: 0,
             });
         }
         let code = mode_code(s, at);
@@ -75,13 +77,17 @@ fn count_plain(s: &[u8], h: usize) -> Counted
             return Counted::Stopped(Verdict {
                 number: 3,
                 place: at,
+                part: 1,
             });
         }
         let end = find_nul(s, at + code % 16);
-        if s.len() - end <= h {
+        let left = s.len() - end;
+        if left <= h {
+            let part = short_part(left);
             return Counted::Stopped(Verdict {
                 number: 3,
                 place: at,
+                part,
             });
         }
         at = end + 1 + h;
@@ -184,6 +190,7 @@ fn count_strict(s: &[u8], h: usize) -> Counted
             return Counted::Stopped(Verdict {
                 number: 2,
                 place: 0,
+                part: 0,
             });
         }
         match c.decode(s, h) {
@@ -191,7 +198,11 @@ fn count_strict(s: &[u8], h: usize) -> Counted
                 let at = c.at;
                 let number = judge_entry(s, last, at, e);
                 if number != 0 {
-                    return Counted::Stopped(Verdict { number, place: at });
+                    return Counted::Stopped(Verdict {
+                        number,
+                        place: at,
+                        part: 0,
+                    });
                 }
                 last = Last::After(e);
                 c = next;
@@ -242,6 +253,7 @@ fn finish(s: &[u8], h: usize, count: usize, records: &mut [usize]) -> Answer
             verdict: Verdict {
                 number: 4,
                 place: count,
+                part: 0,
             },
             count: 0,
         };
@@ -251,6 +263,7 @@ fn finish(s: &[u8], h: usize, count: usize, records: &mut [usize]) -> Answer
         verdict: Verdict {
             number: 0,
             place: 0,
+            part: 0,
         },
         count,
     }

@@ -160,6 +160,15 @@ impl Mark {
             .number(s, a.count)
     }
 
+    // The next four numbers are those of an answer with its part.
+    pub fn reading(self, s: &[u8], a: Answer) -> Mark {
+        let v = a.verdict;
+        self.number(s, v.number)
+            .number(s, v.place)
+            .number(s, v.part)
+            .number(s, a.count)
+    }
+
     // The next bytes stand at the front of what was lent, and the others are as they were.
     pub fn written(self, s: &[u8], lent: &[u8]) -> Mark {
         let at = self.at;

@@ -60,6 +60,7 @@ fn mode_text(s: &[u8], at: usize) -> Mark {
         .number(s, mode)
         .number(s, t.rest)
         .holds(v.place == 0)
+        .holds(v.part == worth(v.number == 3, 1))
         .holds(t.mode == mode)
 }
 
@@ -167,7 +168,7 @@ fn read_in_room(
         return m.holds(false);
     }
     let a = read_tree(object, h, &mut lent[0..room]);
-    m.answer(s, a)
+    m.reading(s, a)
 }
 
 fn read_strictly_in_room(
@@ -182,7 +183,7 @@ fn read_strictly_in_room(
         return m.holds(false);
     }
     let a = read_tree_strict(object, h, &mut lent[0..room]);
-    m.answer(s, a)
+    m.reading(s, a)
 }
 
 fn read(m: Mark, s: &[u8], object: &[u8], h: usize, room: usize) -> Mark {
@@ -259,18 +260,20 @@ fn went_as(w: Walked, len: usize, a: Answer) -> bool {
     if right.number == 1 {
         return v.number == 1 && w.end == 0 && w.found == 0;
     }
-    v.number == right.number && v.place == right.place && w.end == len
+    v.number == right.number && v.place == right.place && v.part == right.part && w.end == len
 }
 
 // The answer that stands in the list at a place.
 fn answer_at(s: &[u8], at: usize) -> Answer {
     let number = number_at(s, at);
     let place = number_at(s, number.next);
-    let count = number_at(s, place.next);
+    let part = number_at(s, place.next);
+    let count = number_at(s, part.next);
     Answer {
         verdict: Verdict {
             number: number.value,
             place: place.value,
+            part: part.value,
         },
         count: count.value,
     }
@@ -288,7 +291,8 @@ fn step(m: Mark, s: &[u8], object: &[u8], h: usize, answer: usize, records: usiz
 fn past_answer(s: &[u8], at: usize) -> usize {
     let number = number_at(s, at);
     let place = number_at(s, number.next);
-    let count = number_at(s, place.next);
+    let part = number_at(s, place.next);
+    let count = number_at(s, part.next);
     count.next
 }
 

@@ -32,8 +32,8 @@ as-number false = refl
 pub flag-number : {t s : Bool} → t ≡ s → boolByte t ≡ yes s
 flag-number {t} e = as-number t ∙ ap yes e
 
-pub step-numbers : (s : Step) → s .verdict .number ∷ s .verdict .place ∷ boolByte (s .found) ∷ s .next .at ∷ flat (s .entry) ≡ stepNumbers s
-step-numbers s = ap (λ x. s .verdict .number ∷ s .verdict .place ∷ x ∷ s .next .at ∷ flat (s .entry)) (as-number (s .found))
+pub step-numbers : (s : Step) → s .verdict .number ∷ s .verdict .place ∷ s .verdict .part ∷ boolByte (s .found) ∷ s .next .at ∷ flat (s .entry) ≡ stepNumbers s
+step-numbers s = ap (λ x. s .verdict .number ∷ s .verdict .place ∷ s .verdict .part ∷ x ∷ s .next .at ∷ flat (s .entry)) (as-number (s .found))
 
 -- the answer of a comparison fits eight bits
 pub order-fits : (o : Order) → toZ w8 (ofZ w8 (orderNumber o)) ≡ orderNumber o

@@ -1,4 +1,4 @@
--- How answers lie in the numbers that a caller lends (include/sarpukten.h): the verdict's number and place, then the rest. Assumes nothing.
+-- How answers lie in the numbers that a caller lends (include/sarpukten.h): the verdict's number, place and part, then the rest. Assumes nothing.
 use Prim.Native.Nat.{ℕ}
 use mathlib.Core.Bool.{Bool, cond, not}
 use mathlib.Core.List.{List, [], _∷_, _++_}
@@ -18,15 +18,15 @@ use Rattle.commit_read.specs.declared.CommitRead.{CommitRead}
 abbrev pub yes : Bool → ℕ
 yes b = cond b 1 0
 
--- number, place
+-- number, place, part
 abbrev pub verdictNumbers : Verdict → List ℕ
-verdictNumbers v = v .number ∷ v .place ∷ []
+verdictNumbers v = v .number ∷ v .place ∷ v .part ∷ []
 
--- number, place, count
+-- the verdict, count
 abbrev pub answerNumbers : Answer → List ℕ
 answerNumbers a = verdictNumbers (a .verdict) ++ a .count ∷ []
 
--- number, place, mode
+-- the verdict, mode
 abbrev pub modeNumbers : ModeAnswer → List ℕ
 modeNumbers a = verdictNumbers (a .verdict) ++ a .mode .internal ∷ []
 
@@ -42,11 +42,11 @@ modeAsked m =
     ∷ yes (eqb (sortOf m) 0o160000)
     ∷ []
 
--- number, place, whether an entry was found, where the cursor goes on, and the entry's four numbers
+-- the verdict, whether an entry was found, where the cursor goes on, and the entry's four numbers
 abbrev pub stepNumbers : Step → List ℕ
 stepNumbers s = verdictNumbers (s .verdict) ++ yes (s .found) ∷ s .next .at ∷ flat (s .entry)
 
--- number, place, index, how many records were compared
+-- the verdict, index, how many records were compared
 abbrev pub lookedNumbers : Looked → List ℕ
 lookedNumbers l = verdictNumbers (l .verdict) ++ l .index ∷ l .compared ∷ []
 
@@ -81,6 +81,6 @@ partsOf l =
       «message_end» = getD l 9 0;
     }
 
--- number, place, field, how many parents, how many headers, and the parts
+-- the verdict, field, how many parents, how many headers, and the parts
 abbrev pub commitNumbers : CommitRead → List ℕ
 commitNumbers c = verdictNumbers (c .verdict) ++ c .field ∷ c .parents ∷ c .headers ∷ partsNumbers (c .parts)

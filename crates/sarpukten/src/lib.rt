@@ -1,5 +1,5 @@
 // The library that C and Rust link: every call under a C name (include/sarpukten.h). A call's answer stands in an array of fixed
-// length that the caller lends, its number and place first (specs/Border.antt); the number is also returned.
+// length that the caller lends, its number, place and part first (specs/Border.antt); the number is also returned.
 ghost use mathlib.Core.Path.{_≡_};
 ghost use lib.ListN.{length};
 ghost use Rattle.ground.specs.Verdict.{stored};
@@ -32,32 +32,34 @@ use mode::ModeAnswer;
 use mode::written_of;
 
 // Hands over an answer, and returns its number.
-fn hand(a: Answer, answer: &mut [usize; 3]) -> usize
+fn hand(a: Answer, answer: &mut [usize; 4]) -> usize
     ensures { λ r. ⌜ r ≡ a .verdict .number ⌝ }
     ensures { λ _. ⌜ now (answer .exit) ≡ answerNumbers a ⌝ }
 {
     let number = a.verdict.number;
     let place = a.verdict.place;
+    let part = a.verdict.part;
     let count = a.count;
-    *answer = [number, place, count];
+    *answer = [number, place, part, count];
     number
 }
 
 // The same for a mode.
-fn hand_mode(a: ModeAnswer, answer: &mut [usize; 3]) -> usize
+fn hand_mode(a: ModeAnswer, answer: &mut [usize; 4]) -> usize
     ensures { λ r. ⌜ r ≡ a .verdict .number ⌝ }
     ensures { λ _. ⌜ now (answer .exit) ≡ modeNumbers a ⌝ }
 {
     let number = a.verdict.number;
     let place = a.verdict.place;
+    let part = a.verdict.part;
     let mode = a.mode.internal as usize;
-    *answer = [number, place, mode];
+    *answer = [number, place, part, mode];
     number
 }
 
 // A mode text that stands alone.
 #[no_mangle]
-pub extern "C" fn sarpukten_mode_read(text: &[u8], answer: &mut [usize; 3]) -> usize
+pub extern "C" fn sarpukten_mode_read(text: &[u8], answer: &mut [usize; 4]) -> usize
     ensures { λ r. ⌜ r ≡ modeAlone (now (text .entry)) .verdict .number ⌝ }
     ensures { λ _. ⌜ now (answer .exit) ≡ modeNumbers (modeAlone (now (text .entry))) ⌝ }
 {
@@ -66,7 +68,7 @@ pub extern "C" fn sarpukten_mode_read(text: &[u8], answer: &mut [usize; 3]) -> u
 
 // A mode from a 32-bit number.
 #[no_mangle]
-pub extern "C" fn sarpukten_mode_from_number(n: u32, answer: &mut [usize; 3]) -> usize
+pub extern "C" fn sarpukten_mode_from_number(n: u32, answer: &mut [usize; 4]) -> usize
     ensures { λ r. ⌜ r ≡ fromNumber n .verdict .number ⌝ }
     ensures { λ _. ⌜ now (answer .exit) ≡ modeNumbers (fromNumber n) ⌝ }
 {
@@ -149,7 +151,7 @@ pub extern "C" fn sarpukten_tree_step(
     bytes: &[u8],
     h: usize,
     at: usize,
-    answer: &mut [usize; 8],
+    answer: &mut [usize; 9],
 ) -> usize
     ensures { λ r. ⌜ r ≡ stepOf h (now (bytes .entry)) (record { at = at }) .verdict .number ⌝ }
     ensures { λ _. ⌜ now (answer .exit) ≡ stepNumbers (stepOf h (now (bytes .entry)) (record { at = at })) ⌝ }
@@ -158,13 +160,14 @@ pub extern "C" fn sarpukten_tree_step(
     let s = c.step(bytes, h);
     let number = s.verdict.number;
     let place = s.verdict.place;
+    let part = s.verdict.part;
     let found = s.found as usize;
     let next = s.next.at;
     let mode = s.entry.mode;
     let name = s.entry.name_start;
     let end = s.entry.name_end;
     let id = s.entry.id_start;
-    *answer = [number, place, found, next, mode, name, end, id];
+    *answer = [number, place, part, found, next, mode, name, end, id];
     number
 }
 
@@ -174,7 +177,7 @@ pub extern "C" fn sarpukten_read_tree(
     bytes: &[u8],
     h: usize,
     records: &mut [usize],
-    answer: &mut [usize; 3],
+    answer: &mut [usize; 4],
 ) -> usize
     ensures { λ r. ⌜ r ≡ readAnswer h (now (bytes .entry)) (listing h (now (bytes .entry))) (now (records .entry)) .verdict .number ⌝ }
     ensures { λ _. ⌜ now (answer .exit) ≡ answerNumbers (readAnswer h (now (bytes .entry)) (listing h (now (bytes .entry))) (now (records .entry))) ⌝ }
@@ -189,7 +192,7 @@ pub extern "C" fn sarpukten_read_tree_strict(
     bytes: &[u8],
     h: usize,
     records: &mut [usize],
-    answer: &mut [usize; 3],
+    answer: &mut [usize; 4],
 ) -> usize
     ensures { λ r. ⌜ r ≡ readAnswer h (now (bytes .entry)) (strictly gitRules h (now (bytes .entry))) (now (records .entry)) .verdict .number ⌝ }
     ensures { λ _. ⌜ now (answer .exit) ≡ answerNumbers (readAnswer h (now (bytes .entry)) (strictly gitRules h (now (bytes .entry))) (now (records .entry))) ⌝ }
@@ -206,7 +209,7 @@ pub extern "C" fn sarpukten_bisect_entry(
     records: &[usize],
     name: &[u8],
     folder: bool,
-    answer: &mut [usize; 4],
+    answer: &mut [usize; 5],
 ) -> usize
     ensures { λ r. ⌜ r ≡ lookupIn h (now (object .entry)) (recordsOf (now (records .entry))) (now (name .entry)) folder .verdict .number ⌝ }
     ensures { λ _. ⌜ now (answer .exit) ≡ lookedNumbers (lookupIn h (now (object .entry)) (recordsOf (now (records .entry))) (now (name .entry)) folder) ⌝ }
@@ -214,9 +217,10 @@ pub extern "C" fn sarpukten_bisect_entry(
     let l = lookup::bisect_entry(object, h, records, name, folder);
     let number = l.verdict.number;
     let place = l.verdict.place;
+    let part = l.verdict.part;
     let index = l.index;
     let compared = l.compared;
-    *answer = [number, place, index, compared];
+    *answer = [number, place, part, index, compared];
     number
 }
 
@@ -234,7 +238,7 @@ pub extern "C" fn sarpukten_tree_size(
     bytes: &[u8],
     h: usize,
     records: &[usize],
-    answer: &mut [usize; 3],
+    answer: &mut [usize; 4],
 ) -> usize
     ensures { λ r. ⌜ r ≡ treeSize h (now (bytes .entry)) (now (records .entry)) .verdict .number ⌝ }
     ensures { λ _. ⌜ now (answer .exit) ≡ answerNumbers (treeSize h (now (bytes .entry)) (now (records .entry))) ⌝ }
@@ -249,7 +253,7 @@ pub extern "C" fn sarpukten_write_tree(
     h: usize,
     records: &[usize],
     out: &mut [u8],
-    answer: &mut [usize; 3],
+    answer: &mut [usize; 4],
 ) -> usize
     ensures { λ r. ⌜ r ≡ treeAnswer h (now (bytes .entry)) (now (records .entry)) (length (now (out .entry))) .verdict .number ⌝ }
     ensures { λ _. ⌜ now (answer .exit) ≡ answerNumbers (treeAnswer h (now (bytes .entry)) (now (records .entry)) (length (now (out .entry)))) ⌝ }
@@ -264,7 +268,7 @@ pub extern "C" fn sarpukten_loose_header(
     kind: usize,
     size: u64,
     out: &mut [u8],
-    answer: &mut [usize; 3],
+    answer: &mut [usize; 4],
 ) -> usize
     ensures { λ r. ⌜ r ≡ headerAnswer kind size (length (now (out .entry))) .verdict .number ⌝ }
     ensures { λ _. ⌜ now (answer .exit) ≡ answerNumbers (headerAnswer kind size (length (now (out .entry)))) ⌝ }
@@ -280,7 +284,7 @@ pub extern "C" fn sarpukten_read_commit(
     h: usize,
     parents: &mut [usize],
     headers: &mut [usize],
-    answer: &mut [usize; 15],
+    answer: &mut [usize; 16],
 ) -> usize
     ensures { λ r. ⌜ r ≡ commitAnswer (now (bytes .entry)) h (now (parents .entry)) (now (headers .entry)) .verdict .number ⌝ }
     ensures { λ _. ⌜ now (answer .exit) ≡ commitNumbers (commitAnswer (now (bytes .entry)) h (now (parents .entry)) (now (headers .entry))) ⌝ }
@@ -290,6 +294,7 @@ pub extern "C" fn sarpukten_read_commit(
     let c = commit_read::read_commit(bytes, h, parents, headers);
     let number = c.verdict.number;
     let place = c.verdict.place;
+    let part = c.verdict.part;
     let field = c.field;
     let np = c.parents;
     let nh = c.headers;
@@ -306,6 +311,7 @@ pub extern "C" fn sarpukten_read_commit(
     *answer = [
         number,
         place,
+        part,
         field,
         np,
         nh,
@@ -329,7 +335,7 @@ pub extern "C" fn sarpukten_unfold(
     bytes: &[u8],
     header: &[usize; 5],
     out: &mut [u8],
-    answer: &mut [usize; 3],
+    answer: &mut [usize; 4],
 ) -> usize
     ensures { λ r. ⌜ r ≡ unfoldAnswer (now (bytes .entry)) (headerAt (now (header .entry)) 0) (now (out .entry)) .verdict .number ⌝ }
     ensures { λ _. ⌜ now (answer .exit) ≡ answerNumbers (unfoldAnswer (now (bytes .entry)) (headerAt (now (header .entry)) 0) (now (out .entry))) ⌝ }
@@ -365,7 +371,7 @@ pub extern "C" fn sarpukten_commit_size(
     parts: &[usize; 10],
     parents: &[usize],
     headers: &[usize],
-    answer: &mut [usize; 3],
+    answer: &mut [usize; 4],
 ) -> usize
     ensures { λ r. ⌜ r ≡ commitSize h (now (bytes .entry)) (partsOf (now (parts .entry))) (now (parents .entry)) (now (headers .entry)) .verdict .number ⌝ }
     ensures { λ _. ⌜ now (answer .exit) ≡ answerNumbers (commitSize h (now (bytes .entry)) (partsOf (now (parts .entry))) (now (parents .entry)) (now (headers .entry))) ⌝ }
@@ -386,7 +392,7 @@ pub extern "C" fn sarpukten_write_commit(
     parents: &[usize],
     headers: &[usize],
     out: &mut [u8],
-    answer: &mut [usize; 3],
+    answer: &mut [usize; 4],
 ) -> usize
     ensures { λ r. ⌜ r ≡ writing.commitAnswer h (now (bytes .entry)) (partsOf (now (parts .entry))) (now (parents .entry)) (now (headers .entry)) (length (now (out .entry))) .verdict .number ⌝ }
     ensures { λ _. ⌜ now (answer .exit) ≡ answerNumbers (writing.commitAnswer h (now (bytes .entry)) (partsOf (now (parts .entry))) (now (parents .entry)) (now (headers .entry)) (length (now (out .entry)))) ⌝ }

@@ -78,7 +78,11 @@ fn measure(bytes: &[u8], h: usize, records: &[usize], writing: bool) -> Answer
         let number = refuse(bytes, h, writing, e);
         if number != 0 {
             return Answer {
-                verdict: Verdict { number, place: i },
+                verdict: Verdict {
+                    number,
+                    place: i,
+                    part: 0,
+                },
                 count: 0,
             };
         }
@@ -89,6 +93,7 @@ fn measure(bytes: &[u8], h: usize, records: &[usize], writing: bool) -> Answer
         verdict: Verdict {
             number: 0,
             place: 0,
+            part: 0,
         },
         count: sum,
     }

@@ -33,6 +33,7 @@ fn answer(a: Answer) {
     let v = a.verdict;
     number(v.number);
     number(v.place);
+    number(v.part);
     number(a.count);
 }
 
@@ -50,7 +51,10 @@ fn take(sum: usize, x: usize) -> usize {
 
 fn take_answer(sum: usize, a: Answer) -> usize {
     let v = a.verdict;
-    take(take(take(sum, v.number), v.place), a.count)
+    take(
+        take(take(take(sum, v.number), v.place), v.part),
+        a.count,
+    )
 }
 
 fn take_record(sum: usize, e: EntryRecord) -> usize {
@@ -429,6 +433,7 @@ fn no_answer() -> Answer {
         verdict: Verdict {
             number: 0,
             place: 0,
+            part: 0,
         },
         count: 0,
     }
@@ -588,6 +593,7 @@ fn step_at(s: &[u8], h: usize, at: usize) {
     let next = step.next;
     number(v.number);
     number(v.place);
+    number(v.part);
     whether(step.found, b" found", b" none");
     number(next.at);
 }
@@ -602,6 +608,7 @@ fn walk_through(word: &[u8], s: &[u8], h: usize) {
     say(b" then");
     number(v.number);
     number(v.place);
+    number(v.part);
     say(b" at");
     number(w.at);
     say(b" then");

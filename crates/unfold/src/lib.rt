@@ -94,6 +94,7 @@ pub fn unfold(bytes: &[u8], x: HeaderRecord, out: &mut [u8]) -> Answer
                             verdict: Verdict {
                                 number: 8,
                                 place: need,
+                                part: 0,
                             },
                             count: 0,
                         };
@@ -103,6 +104,7 @@ pub fn unfold(bytes: &[u8], x: HeaderRecord, out: &mut [u8]) -> Answer
                         verdict: Verdict {
                             number: 0,
                             place: 0,
+                            part: 0,
                         },
                         count: need,
                     };
@@ -111,6 +113,7 @@ pub fn unfold(bytes: &[u8], x: HeaderRecord, out: &mut [u8]) -> Answer
                     verdict: Verdict {
                         number: 10,
                         place: 0,
+                        part: 0,
                     },
                     count: 0,
                 };
@@ -119,6 +122,7 @@ pub fn unfold(bytes: &[u8], x: HeaderRecord, out: &mut [u8]) -> Answer
                 verdict: Verdict {
                     number: 10,
                     place: 0,
+                    part: 0,
                 },
                 count: 0,
             }

@@ -2,11 +2,12 @@
 use borrow.Author.Needs.{needs}
 use Rattle.reading.proofs.count_plain.Statement.{statement}
 use Rattle.reading.proofs.count_plain.Tie as tie
-use Prim.Native.Nat.{_≤_, _-_}
+use Prim.Native.Nat.{ℕ, _≤_, _-_}
 use mathlib.Core.Path.{_≡_, refl, sym, ap, _∙_}
 use native.Mathlib.Omega.{arith}
-use Rattle.ground.specs.Verdict.{mostRecords}
+use Rattle.ground.specs.Verdict.{mostRecords, broken}
 use Rattle.reading.specs.Listing.{listing, tally}
+use Rattle.reading.specs.declared.Counted.the-variants.{Stopped}
 use Rattle.reading.proofs.Laws.{restAt, rest-end, rest-full, rest-broken, rest-whole}
 use Rattle.reading.proofs.Front.{code-none, name-starts, name-ends, name-short, name-whole}
 
@@ -46,23 +47,27 @@ add-find-nul c =
 find-nul-requires : tie.Need-find-nul-requires Inv-loop μ-loop
 find-nul-requires c κs = search needs
 
-sub-if3 : tie.Need-sub-if3 Inv-loop μ-loop
-sub-if3 c =
+sub-left : tie.Need-sub-left Inv-loop μ-loop
+sub-left c =
     let mode-code = c .before .before .mode-code in
     let loop = c .before .before .before .before .before .loop in
     let args = c .before .before .before .before .before .before .before .args in
     name-ends (args .s .now) (args .h) (loop .at) _ (mode-code .ensures) (c .before .if2 .left) _ (c .find-nul .ensures)
 
+short-part-requires : tie.Need-short-part-requires Inv-loop μ-loop
+short-part-requires c κs = search needs
+
 returns-3 : tie.Need-returns-3 Inv-loop μ-loop
 unfolding tally
 returns-3 c =
-    let if2 = c .before .before .if2 in
-    let mode-code = c .before .before .before .mode-code in
-    let if1 = c .before .before .before .before .if1 in
-    let loop-test = c .before .before .before .before .before .loop-test in
-    let loop = c .before .before .before .before .before .before .loop in
-    let args = c .before .before .before .before .before .before .before .before .args in
-    sym (loop .inv .1 ∙ ap (tally (loop .n)) (rest-broken _ _ _ _ (loop-test .taken) (if1 .left) (name-short (args .s .now) (args .h) (loop .at) _ (mode-code .ensures) (if2 .left) _ (c .before .find-nul .ensures) (c .if3 .taken))))
+    let if2 = c .before .before .before .if2 in
+    let mode-code = c .before .before .before .before .mode-code in
+    let if1 = c .before .before .before .before .before .if1 in
+    let loop-test = c .before .before .before .before .before .before .loop-test in
+    let loop = c .before .before .before .before .before .before .before .loop in
+    let args = c .before .before .before .before .before .before .before .before .before .args in
+    ap (λ (k : ℕ). Stopped (broken (loop .at) k)) (c .short-part .ensures)
+    ∙ sym (loop .inv .1 ∙ ap (tally (loop .n)) (rest-broken _ _ _ _ (loop-test .taken) (if1 .left) (name-short (args .s .now) (args .h) (loop .at) _ (mode-code .ensures) (if2 .left) _ (c .before .before .find-nul .ensures) (c .before .if3 .taken))))
 
 add-at : tie.Need-add-at Inv-loop μ-loop
 add-at c = search needs
@@ -103,7 +108,8 @@ count-plain-spec =
     returns-2
     add-find-nul
     find-nul-requires
-    sub-if3
+    sub-left
+    short-part-requires
     returns-3
     add-at
     add-at-2

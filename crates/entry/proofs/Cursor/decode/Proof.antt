@@ -2,7 +2,8 @@
 use borrow.Author.Needs.{needs}
 use Rattle.entry.proofs.Cursor.decode.Statement.{statement}
 use Rattle.entry.proofs.Cursor.decode.Tie as tie
-use mathlib.Core.Path.{sym, _∙_}
+use mathlib.Core.Path.{sym, ap, _∙_}
+use Rattle.entry.specs.Decode.{brokenAt}
 use Rattle.entry.proofs.Laws.{decode-bad, name-within, decode-short, decode-whole}
 
 extract-at-requires : tie.Need-extract-at-requires
@@ -14,23 +15,27 @@ enum-known-m c = search needs
 find-nul-requires : tie.Need-find-nul-requires
 find-nul-requires c κs = search needs
 
-sub-if1 : tie.Need-sub-if1
-sub-if1 c =
+sub-left : tie.Need-sub-left
+sub-left c =
     let m = c .before .before .m in
     let extract-at = c .before .before .before .before .extract-at in
     let args = c .before .before .before .before .before .before .args in
     name-within (args .s .now) (args .h) (args .self .at) _ _ _ (sym (extract-at .ensures) ∙ m .given .1) (c .find-nul .ensures)
+
+short-part-requires : tie.Need-short-part-requires
+short-part-requires c κs = search needs
 
 broken-requires : tie.Need-broken-requires
 broken-requires c κs = search needs
 
 returns : tie.Need-returns
 returns c =
-    let find-nul = c .before .before .find-nul in
-    let m = c .before .before .before .before .m in
-    let extract-at = c .before .before .before .before .before .before .extract-at in
-    let args = c .before .before .before .before .before .before .before .before .args in
-    c .broken .ensures ∙ sym (decode-short (args .s .now) (args .h) (args .self .at) _ _ _ (sym (extract-at .ensures) ∙ m .given .1) (find-nul .ensures) (c .before .if1 .taken))
+    let find-nul = c .before .before .before .find-nul in
+    let m = c .before .before .before .before .before .m in
+    let extract-at = c .before .before .before .before .before .before .before .extract-at in
+    let args = c .before .before .before .before .before .before .before .before .before .args in
+    c .broken .ensures ∙ ap (brokenAt (args .self .at)) (c .before .short-part .ensures)
+    ∙ sym (decode-short (args .s .now) (args .h) (args .self .at) _ _ _ (sym (extract-at .ensures) ∙ m .given .1) (find-nul .ensures) (c .before .before .if1 .taken))
 
 add-id : tie.Need-add-id
 add-id c = search needs
@@ -68,7 +73,8 @@ decode-spec =
     extract-at-requires
     enum-known-m
     find-nul-requires
-    sub-if1
+    sub-left
+    short-part-requires
     broken-requires
     returns
     add-id
