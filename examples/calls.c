@@ -91,38 +91,38 @@ static void names(void)
 
 static void trees(void)
 {
-    static const size_t step[9] = {0, 0, 0, 1, 57, 040000, 35, 36, 37}, end[9] = {0, 0, 0, 0, 57, 0, 0, 0, 0};
+    static const size_t step[10] = {0, 0, 0, 1, 57, 040000, 35, 36, 37, 29}, end[10] = {0, 0, 0, 0, 57, 0, 0, 0, 0, 0};
     static const size_t found[5] = {0, 0, 0, 1, 1}, absent[5] = {SARPUKTEN_NOT_THERE, 0, 0, 0, 2};
-    static const size_t both[9] = {0100644, 7, 8, 9, 040000, 35, 36, 37, GUARD};
+    static const size_t both[11] = {0100644, 7, 8, 9, 0, 040000, 35, 36, 37, 29, GUARD};
     uint8_t object[57], out[60];
-    size_t records[9], i;
+    size_t records[11], i;
 
     memcpy(object, "100644 a", 9);
     memset(object + 9, 0x11, 20);
     memcpy(object + 29, "40000 b", 8);
     memset(object + 37, 0x22, 20);
-    for (i = 0; i < 9; i++)
+    for (i = 0; i < 11; i++)
         records[i] = GUARD;
 
-    HOLD(answers(sarpukten_tree_step(object, 57, SARPUKTEN_SHA1, 29, answer), 9, step));
-    HOLD(answers(sarpukten_tree_step(object, 57, SARPUKTEN_SHA1, 57, answer), 9, end));
-    HOLD(three(sarpukten_read_tree(object, 57, SARPUKTEN_SHA1, records, 7, answer), SARPUKTEN_FEW_RECORDS, 2, 0));
+    HOLD(answers(sarpukten_tree_step(object, 57, SARPUKTEN_SHA1, 29, answer), 10, step));
+    HOLD(answers(sarpukten_tree_step(object, 57, SARPUKTEN_SHA1, 57, answer), 10, end));
+    HOLD(three(sarpukten_read_tree(object, 57, SARPUKTEN_SHA1, records, 9, answer), SARPUKTEN_FEW_RECORDS, 2, 0));
     HOLD(records[0] == GUARD);
-    HOLD(three(sarpukten_read_tree(object, 57, SARPUKTEN_SHA1, records, 9, answer), SARPUKTEN_DONE, 0, 2));
+    HOLD(three(sarpukten_read_tree(object, 57, SARPUKTEN_SHA1, records, 11, answer), SARPUKTEN_DONE, 0, 2));
     HOLD(memcmp(records, both, sizeof both) == 0);
-    HOLD(four(sarpukten_read_tree_strict(object, 56, SARPUKTEN_SHA1, records, 9, answer), SARPUKTEN_BROKEN_ENTRY, 29, SARPUKTEN_CUT_ID, 0));
-    HOLD(four(sarpukten_read_tree(object, 36, SARPUKTEN_SHA1, records, 9, answer), SARPUKTEN_BROKEN_ENTRY, 29, SARPUKTEN_NO_NUL, 0));
-    HOLD(three(sarpukten_read_tree_strict(object, 57, 21, records, 9, answer), SARPUKTEN_ID_LENGTH, 0, 0));
-    HOLD(three(sarpukten_read_tree_strict(object, 57, SARPUKTEN_SHA1, records, 8, answer), SARPUKTEN_DONE, 0, 2));
+    HOLD(four(sarpukten_read_tree_strict(object, 56, SARPUKTEN_SHA1, records, 11, answer), SARPUKTEN_BROKEN_ENTRY, 29, SARPUKTEN_CUT_ID, 0));
+    HOLD(four(sarpukten_read_tree(object, 36, SARPUKTEN_SHA1, records, 11, answer), SARPUKTEN_BROKEN_ENTRY, 29, SARPUKTEN_NO_NUL, 0));
+    HOLD(three(sarpukten_read_tree_strict(object, 57, 21, records, 11, answer), SARPUKTEN_ID_LENGTH, 0, 0));
+    HOLD(three(sarpukten_read_tree_strict(object, 57, SARPUKTEN_SHA1, records, 10, answer), SARPUKTEN_DONE, 0, 2));
     HOLD(memcmp(records, both, sizeof both) == 0);
-    HOLD(answers(sarpukten_bisect_entry(object, 57, SARPUKTEN_SHA1, records, 8, BYTES("b"), 1, true, answer), 5, found));
-    HOLD(answers(sarpukten_bisect_entry(object, 57, SARPUKTEN_SHA1, records, 8, BYTES("b"), 1, false, answer), 5, absent));
+    HOLD(answers(sarpukten_bisect_entry(object, 57, SARPUKTEN_SHA1, records, 10, BYTES("b"), 1, true, answer), 5, found));
+    HOLD(answers(sarpukten_bisect_entry(object, 57, SARPUKTEN_SHA1, records, 10, BYTES("b"), 1, false, answer), 5, absent));
     HOLD(sarpukten_most_comparisons(0) == 0 && sarpukten_most_comparisons(2) == 2);
-    HOLD(three(sarpukten_tree_size(object, 57, SARPUKTEN_SHA1, records, 8, answer), SARPUKTEN_DONE, 0, 57));
+    HOLD(three(sarpukten_tree_size(object, 57, SARPUKTEN_SHA1, records, 10, answer), SARPUKTEN_DONE, 0, 57));
     memset(out, GUARD, sizeof out);
-    HOLD(three(sarpukten_write_tree(object, 57, SARPUKTEN_SHA1, records, 8, out, 56, answer), SARPUKTEN_SHORT_OUTPUT, 57, 0));
+    HOLD(three(sarpukten_write_tree(object, 57, SARPUKTEN_SHA1, records, 10, out, 56, answer), SARPUKTEN_SHORT_OUTPUT, 57, 0));
     HOLD(untouched(out, sizeof out));
-    HOLD(three(sarpukten_write_tree(object, 57, SARPUKTEN_SHA1, records, 8, out, 60, answer), SARPUKTEN_DONE, 0, 57));
+    HOLD(three(sarpukten_write_tree(object, 57, SARPUKTEN_SHA1, records, 10, out, 60, answer), SARPUKTEN_DONE, 0, 57));
     HOLD(memcmp(out, object, 57) == 0 && untouched(out + 57, 3));
 }
 

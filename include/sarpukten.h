@@ -72,13 +72,14 @@ enum {
 #define SARPUKTEN_MOST_RECORDS ((size_t)1048576)  /* the longest list, in records */
 
 /* ---- Records ----
- * An entry of a tree: mode, where its name starts and ends (its end is past its last byte), where its id of h bytes starts.
+ * An entry of a tree: mode, where its name starts and ends (its end is past its last byte), where its id of h bytes starts, where its mode
+ * text starts. Readers give the entry's first byte for that; to be well formed it is not above the name's start, and nothing is written of it.
  * An extra header of a commit: where its name starts and ends, where its value starts and ends, and its mark: 1 where the value is folded
  * over several lines (it then runs through its last LF), else 0.
  * A parent: where its 2h hex digits start.
  * Every position is one in the lent bytes.
  */
-#define SARPUKTEN_ENTRY 4   /* numbers of an entry's record */
+#define SARPUKTEN_ENTRY 5   /* numbers of an entry's record */
 #define SARPUKTEN_HEADER 5  /* numbers of a header's record */
 #define SARPUKTEN_PARENT 1  /* numbers of a parent's record */
 
@@ -142,11 +143,11 @@ int8_t sarpukten_name_order(const uint8_t *a, size_t a_len, bool a_is_tree, cons
 /* ---- Trees ---- */
 
 /* The entry that starts at a place of a tree object, without counting entries. Refuses 1, 2, 3.
- * answer: number, place, part; 1 if an entry was found, else 0; where to go on; the entry's four numbers (all 0 if none was found).
+ * answer: number, place, part; 1 if an entry was found, else 0; where to go on; the entry's five numbers (all 0 if none was found).
  * At or past the end it is done and finds nothing. After a 3 it goes on at the end, after a 1 or 2 where it stood. */
-size_t sarpukten_tree_step(const uint8_t *bytes, size_t bytes_len, size_t h, size_t at, size_t answer[9]);
+size_t sarpukten_tree_step(const uint8_t *bytes, size_t bytes_len, size_t h, size_t at, size_t answer[10]);
 
-/* All entries of a tree object into lent records, four numbers each; records_len is in numbers. Refuses 1, 2, 3, 4.
+/* All entries of a tree object into lent records, five numbers each; records_len is in numbers. Refuses 1, 2, 3, 4.
  * An object of n bytes has at most n / (h + 2) entries, one that is read strictly at most n / (h + 8): so many records are enough (but
  * not more than SARPUKTEN_MOST_RECORDS may be lent). An empty list asks how many are needed: that is the place with 4.
  * answer: number, place, part, how many entries (0 on a refusal). */

@@ -51,15 +51,20 @@ def name_order(a, a_tree, b, b_tree):
     return Case("trees", 4, [a, a_tree, b, b_tree], [out], (), spaced("order", hexed(a), int(a_tree), hexed(b), int(b_tree)), str(out))
 
 
+def for_rust(numbers):
+    """The records without where their mode text starts, which the Rust does not keep."""
+    return [r[:4] for r in paper.by(paper.WIDTH, numbers)]
+
+
 def tree_reading(h, object, room):
     """The plain and the strict reader. The Rust speaks of the plain one: entries, or the place of a 3."""
     plain, records = paper.tree_read(h, object, room, strict=False)
     strict, _same = paper.tree_read(h, object, room, strict=True)
     question = expected = None
     if h in (20, 32):                      # the Rust's list grows: it is asked as with room enough
-        (n, place, _part, count), all_records = paper.tree_read(h, object, 4 * len(object), strict=False)
+        (n, place, _part, count), all_records = paper.tree_read(h, object, paper.WIDTH * len(object), strict=False)
         question = spaced("tree", h, hexed(object))
-        expected = spaced("no", place) if n else spaced("ok", count, *all_records)
+        expected = spaced("no", place) if n else spaced("ok", count, *sum(for_rust(all_records), ()))
     return Case("trees", 5, [h, object, room], [*plain, records, *strict], (plain[0], strict[0]), question, expected)
 
 
@@ -67,14 +72,14 @@ def lookup(h, object, numbers, name, is_tree):
     """Bisection. The Rust speaks within the document's domain only, and does not count."""
     out = paper.lookup(h, object, numbers, name, is_tree)
     question = expected = None
-    records = paper.by(4, numbers)
+    records = paper.by(paper.WIDTH, numbers)
     assert out[3] <= len(records).bit_length()            # "at most as many as n has binary digits"
     if h in (20, 32) and all(paper.entry_well_formed(r, object, h) for r in records):
         keys = [(object[r[1]:r[2]], paper.is_tree(r[0])) for r in records]
         ascending = all(paper.order(*x, *y) == -1 for x, y in zip(keys, keys[1:]))
         if ascending and not any(b"/" in n for n in [name] + [k[0] for k in keys]):       # the document's domain
-            question = spaced("find", h, hexed(object), len(records), *sum(records, ()), hexed(name), int(is_tree))
-            expected = spaced("ok", *records[out[2]]) if out[0] == 0 else "no"
+            question = spaced("find", h, hexed(object), len(records), *sum(for_rust(numbers), ()), hexed(name), int(is_tree))
+            expected = spaced("ok", *for_rust(numbers)[out[2]]) if out[0] == 0 else "no"
     return Case("trees", 6, [h, object, numbers, name, is_tree], list(out), out[:1], question, expected)
 
 
@@ -84,11 +89,11 @@ def tree_writing(h, bytes, numbers, room):
     write, written = paper.tree_write(h, bytes, numbers, room)
     question = expected = None
     if size[0] == 0:
-        records = paper.by(4, numbers)
-        question = spaced("write", h, hexed(bytes), len(records), *sum(records, ()))
+        records = paper.by(paper.WIDTH, numbers)
+        question = spaced("write", h, hexed(bytes), len(records), *sum(for_rust(numbers), ()))
         (n, at, _count), all_written = paper.tree_write(h, bytes, numbers, size[2])
         if n == paper.NUL_IN_NAME:         # the Rust has then written what is before the name
-            all_written = paper.tree_write(h, bytes, numbers[:4 * at], size[2])[1] + paper.mode_written(records[at][0]) + b" "
+            all_written = paper.tree_write(h, bytes, numbers[:paper.WIDTH * at], size[2])[1] + paper.mode_written(records[at][0]) + b" "
         expected = spaced(size[2], "no" if n else "ok", hexed(all_written))
     return Case("trees", 7, [h, bytes, numbers, room], [*size, *write, written], (size[0], write[0]), question, expected)
 

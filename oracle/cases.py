@@ -140,22 +140,22 @@ def random_tree_reading():
         object = damaged(object)
     if chance(4):
         h = 52 - h if h in (20, 32) else h          # read with the other length
-    n = paper.tree_read(h, object, 4 * len(object), False)[0][3]
-    return tree_reading(h, object, around(n, 4))
+    n = paper.tree_read(h, object, paper.WIDTH * len(object), False)[0][3]
+    return tree_reading(h, object, around(n, paper.WIDTH))
 
 
 def some_records(h, most):
     """Bytes with records into them: an object that was read, or names and one id that all records share."""
     if chance(40):
         object = some_tree(h)
-        return object, paper.tree_read(h, object, 4 * len(object), False)[1]
+        return object, paper.tree_read(h, object, paper.WIDTH * len(object), False)[1]
     names = rnd.sample([bytes([x]) for x in range(97, 123)] + NAMES[2:], rnd.randint(0, most))
     if chance(20):
         names.append(rnd.choice(REFUSED + [b"a\0b", b"\0", b"\0c", b"b\0"]))
     bytes_, records = ids(h), []
     for name in names:
         mode = rnd.choice([16384, 33188, 33261, 40960, 57344, 49152, 0, 49645, 65535, rnd.randrange(65536)])
-        records.append([mode, len(bytes_), len(bytes_) + len(name), 0])
+        records.append([mode, len(bytes_), len(bytes_) + len(name), 0, len(bytes_) // 2])
         bytes_ += name
     key = lambda r: bytes_[r[1]:r[2]] + (b"/" if paper.is_tree(r[0]) else b"")
     records.sort(key=key)
@@ -167,7 +167,7 @@ def some_records(h, most):
 def random_lookup():
     h = some_h()
     object, numbers = some_records(h if h in (20, 32) else 20, 20)
-    records = paper.by(4, numbers)
+    records = paper.by(paper.WIDTH, numbers)
     name, is_tree = rnd.choice(NAMES + [b"m", b"q", b"", b"a/b"]), chance(30)
     if records and chance(75):
         r = rnd.choice(records)
@@ -354,25 +354,25 @@ def exhaustive(long):
 
     # The document's object O, cut at every length, and with every byte made a space, a NUL, a slash or an eight.
     for n in range(len(O) + 1):
-        yield tree_reading(20, O[:n], 8)
+        yield tree_reading(20, O[:n], 10)
         for letter in b" \0/8" if long or n < 10 or n in range(28, 38) else b"":
-            yield tree_reading(20, O[:n] + bytes([letter]) + O[n + 1:], 8)
-    for room in range(12):
+            yield tree_reading(20, O[:n] + bytes([letter]) + O[n + 1:], 10)
+    for room in range(15):
         yield tree_reading(20, O, room)
     for h in BAD_H + [20, 32]:
         for object in (b"", O, b"8"):
-            yield tree_reading(h, object, 8)
+            yield tree_reading(h, object, 10)
             yield lookup(h, object, [], b"a", False)
-            yield lookup(h, object, [33188, 7, 8, 9], b"a", False)
+            yield lookup(h, object, [33188, 7, 8, 9, 0], b"a", False)
             yield tree_writing(h, object, [], 0)
-            yield tree_writing(h, object, [33188, 7, 8, 9], 50)
+            yield tree_writing(h, object, [33188, 7, 8, 9, 0], 50)
     # P14, and every mode that the writer treats apart.
     for mode in (0, 1, 16384, 16385, 16877, 32768, 33188, 49152, 49645, 53247, 53248, 57344, 65535, 65536):
-        yield tree_writing(20, b"abc" + b" " * 20, [mode, 0, 3, 3], 32)
+        yield tree_writing(20, b"abc" + b" " * 20, [mode, 0, 3, 3, 0], 32)
     # Lookups in listings of every length up to 20: every index, and every gap.
     for n in range(0, 40 if long else 21):
         bytes_ = b"\x11" * 20 + bytes(range(98, 98 + 2 * n, 2))
-        numbers = [x for i in range(n) for x in (33188, 20 + i, 21 + i, 0)]
+        numbers = [x for i in range(n) for x in (33188, 20 + i, 21 + i, 0, 0)]
         for letter in range(97, 98 + 2 * n) if long or n in (0, 1, 2, 3, 4, 7, 8, 15, 16, 20) else (97, 97 + n, 98 + 2 * n):
             yield lookup(20, bytes_, numbers, bytes([letter]), False)
     for kind in range(6):
@@ -410,13 +410,13 @@ def exhaustive(long):
     # Long ones: lengths and counts of more than one LEB128 byte.
     names = [b"%04d" % i for i in range(150)]
     object = b"".join(b"100644 " + name + b"\0" + b"\x11" * 20 for name in names)
-    numbers = paper.tree_read(20, object, 4 * len(names), True)[1]
-    for room in (600, 599):
+    numbers = paper.tree_read(20, object, paper.WIDTH * len(names), True)[1]
+    for room in (750, 749):
         yield tree_reading(20, object, room)
     for name in (b"0000", b"0074", b"0075", b"0149", b"0150", b"", b"00745"):
         yield lookup(20, object, numbers, name, False)
     yield tree_writing(20, object, numbers, len(object))
-    yield tree_reading(32, b"40000 " + b"n" * 4096 + b"\0" + b"\x11" * 32, 4)
+    yield tree_reading(32, b"40000 " + b"n" * 4096 + b"\0" + b"\x11" * 32, 5)
     yield commit_reading(20, TOP + (b"parent " + b"a" * 40 + b"\n") * 140 + PEOPLE + b"\n", 140, 0)
     yield commit_reading(20, TOP + (b"parent " + b"a" * 40 + b"\n") * 140 + PEOPLE + b"\n", 139, 0)
     long_headers = TOP + PEOPLE + b"k v\n" * 70 + b"k a\n b\n" * 70 + b"\n" + b"m" * 300
@@ -426,7 +426,7 @@ def exhaustive(long):
     yield commit_writing(20, long_headers, parents * 140, numbers, ranges, len(long_headers))
     if long:                                # every byte of O and of a commit, changed to every other
         for n, letter in itertools.product(range(len(O)), range(256)):
-            yield tree_reading(20, O[:n] + bytes([letter]) + O[n + 1:], 8)
+            yield tree_reading(20, O[:n] + bytes([letter]) + O[n + 1:], 10)
         small = TOP + b"parent " + b"a" * 40 + b"\n" + PEOPLE + b"encoding x\nk v\nj a\n b\n\nm"
         for n, letter in itertools.product(range(len(small)), range(256)):
             yield commit_reading(20, small[:n] + bytes([letter]) + small[n + 1:], 1, 10)
@@ -443,10 +443,10 @@ def from_git():
     for h in (20, 32):
         for kind, object in git_objects.objects(h):
             if kind == "tree":
-                numbers = paper.tree_read(h, object, 400, True)[1]
+                numbers = paper.tree_read(h, object, 500, True)[1]
                 yield tree_reading(h, object, len(numbers))
                 yield tree_writing(h, object, numbers, len(object))
-                for r in paper.by(4, numbers):
+                for r in paper.by(paper.WIDTH, numbers):
                     yield lookup(h, object, numbers, object[r[1]:r[2]], paper.is_tree(r[0]))
                     yield lookup(h, object, numbers, object[r[1]:r[2]] + b"-", paper.is_tree(r[0]))
             else:

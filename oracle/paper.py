@@ -12,6 +12,7 @@ MAX_RECORDS = 1_048_576        # "any list at most"
 DONE, BAD_H, OVER, UNREADABLE, FEW_RECORDS, BAD_MODE_TEXT, BAD_NAME, NOT_AFTER = range(8)
 SHORT_OUTPUT, NUL_IN_NAME, BAD_RECORD, FIELD, ACTOR, EMPTY_ENCODING, LF_ENCODING, NOT_THERE = range(8, 16)
 NOT_ACCEPTABLE = 23
+WIDTH = 5                      # the numbers of an entry's record
 NO_MODE, NO_NUL, CUT_ID = 1, 2, 3      # the parts of UNREADABLE
 
 SPACE, LF, NUL, SLASH = 32, 10, 0, 47
@@ -141,7 +142,7 @@ def entry_at(object, at, h):
         return None, NO_NUL
     if name_end + 1 + h > len(object):
         return None, CUT_ID
-    return (mode, name, name_end, name_end + 1), name_end + 1 + h
+    return (mode, name, name_end, name_end + 1, at), name_end + 1 + h
 
 
 def permitted(name):
@@ -151,7 +152,7 @@ def permitted(name):
 
 def tree_read(h, object, room, strict):
     """Entries and Strict reader; "Order. Reading". `room` is in numbers. (number, place, part, count), records (flat)."""
-    lent = room // 4
+    lent = room // WIDTH
     if bad_h(h):
         return (BAD_H, 0, 0, 0), []
     if over([len(object)], [lent]):
@@ -163,7 +164,7 @@ def tree_read(h, object, room, strict):
         entry, after = entry_at(object, at, h)
         if entry is None:
             return (UNREADABLE, at, after, 0), []
-        mode, name, name_end, id = entry
+        mode, name, name_end, _id, _first = entry
         now = (object[name:name_end], is_tree(mode))
         if strict:
             if object[at:name - 1] not in [text for text, _word in KINDS]:
@@ -173,7 +174,7 @@ def tree_read(h, object, room, strict):
             if before is not None and order(*before, *now) != -1:
                 return (NOT_AFTER, at, 0, 0), []
         before = now
-        records.append((mode, name, name_end, id))
+        records.append(entry)
         at = after
     if len(records) > lent:
         return (FEW_RECORDS, len(records), 0, 0), []
@@ -192,15 +193,15 @@ def forward(start, end, bytes):
 
 def entry_well_formed(record, bytes, h):
     """Entries: "It is well formed when ..."."""
-    mode, name, name_end, id = record
-    return mode <= 65535 and forward(name, name_end, bytes) and id + h <= len(bytes)
+    mode, name, name_end, id, text_start = record
+    return mode <= 65535 and forward(name, name_end, bytes) and id + h <= len(bytes) and text_start <= name
 
 
 # ---------------------------------------------------------------- Lookup
 
 def lookup(h, object, numbers, name, tree):
     """Lookup: (number, place, index, compared)."""
-    records = by(4, numbers)
+    records = by(WIDTH, numbers)
     if bad_h(h):
         return BAD_H, 0, 0, 0
     if over([len(object), len(name)], [len(records)]):
@@ -226,13 +227,13 @@ def lookup(h, object, numbers, name, tree):
 
 def entry_written(record, bytes, h):
     """Tree writing: "Mode text, space, name, NUL, id"."""
-    mode, name, name_end, id = record
+    mode, name, name_end, id, _text_start = record
     return mode_written(mode) + b" " + bytes[name:name_end] + b"\0" + bytes[id:id + h]
 
 
 def tree_size(h, bytes, numbers):
     """Tree writing: "Sizes, asked alone, refuse only 1, 2 and 10": (number, place, count)."""
-    records = by(4, numbers)
+    records = by(WIDTH, numbers)
     if bad_h(h):
         return BAD_H, 0, 0
     if over([len(bytes)], [len(records)]):
@@ -245,7 +246,7 @@ def tree_size(h, bytes, numbers):
 
 def tree_write(h, bytes, numbers, room):
     """Tree writing; "Order. Writing": (number, place, count), bytes written."""
-    records = by(4, numbers)
+    records = by(WIDTH, numbers)
     if bad_h(h):
         return (BAD_H, 0, 0), b""
     if over([len(bytes), room], [len(records)]):
@@ -492,12 +493,12 @@ def examples():
     assert all(order(*x, *y) == -1 for x, y in zip(ascending, ascending[1:]))                                  # P8
     assert order(b"a", True, b"a/b", False) == 0                                                               # P9
     assert all(tree_read(20, b"", 0, strict) == ((0, 0, 0, 0), []) for strict in (False, True))                # P10
-    (number, _place, _part, count), records = tree_read(20, o, 8, True)
+    (number, _place, _part, count), records = tree_read(20, o, 10, True)
     assert len(o) == 57 and (number, count) == (0, 2) and tree_write(20, o, records, 57) == ((0, 0, 57), o)    # P11
-    assert tree_read(20, o[:-1], 8, False)[0] == (3, 29, 3, 0)                                                 # P12
+    assert tree_read(20, o[:-1], 10, False)[0] == (3, 29, 3, 0)                                                 # P12
     assert header_written((0, 1, 1, 5, 0), b"ka\nb\n") == b"k a\n b\n"                                         # P13
-    answer, written = tree_write(20, b"abc" + b" " * 20, [0, 0, 3, 3], 26)
-    assert answer == (0, 0, 26) and tree_read(20, written, 4, False)[0] == (3, 0, 1, 0)                        # P14
+    answer, written = tree_write(20, b"abc" + b" " * 20, [0, 0, 3, 3, 0], 26)
+    assert answer == (0, 0, 26) and tree_read(20, written, 5, False)[0] == (3, 0, 1, 0)                        # P14
     assert mode_from_number(0o300644) == (0, 33188) and mode_from_number(0o200000) == (23, 0)
 
 

@@ -37,7 +37,7 @@ int main(void) {
         double began = now();
         read(object, shorter, 20, records, room, answer);
         fine &= told(strict ? "strict, at the bound" : "plain, at the bound", answer[0], answer[1], answer[3], 0, most, now() - began);
-        fine &= records[room - 4] == 0100644 && records[room - 1] == shorter - 20;
+        fine &= records[room - 5] == 0100644 && records[room - 2] == shorter - 20 && records[room - 1] == shorter - 36;
         began = now();
         read(object, size, 20, records, room, answer);
         fine &= told(strict ? "strict, one past it" : "plain, one past it", answer[0], answer[1], answer[3], SARPUKTEN_BOUND, 0, now() - began);

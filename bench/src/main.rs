@@ -38,9 +38,14 @@ fn place(whole: &[u8], part: &[u8]) -> usize {
     part.as_ptr() as usize - whole.as_ptr() as usize
 }
 
-fn numbers(object: &[u8], entry: &EntryRef) -> [usize; 4] {
+/// The numbers of an entry's record.
+const WIDTH: usize = 5;
+
+fn numbers(object: &[u8], entry: &EntryRef) -> [usize; WIDTH] {
     let name = place(object, entry.filename);
-    [entry.mode.value() as usize, name, name + entry.filename.len(), place(object, entry.oid.as_bytes())]
+    // The Rust does not keep where the mode text starts: here every mode is written as Git writes it.
+    let first = name - 1 - entry.mode.as_bytes(&mut Default::default()).len();
+    [entry.mode.value() as usize, name, name + entry.filename.len(), place(object, entry.oid.as_bytes()), first]
 }
 
 /// The Rust's iterator into a lent list, as Sarpukten stores it.
@@ -49,7 +54,7 @@ fn iterate(object: &[u8], out: &mut [usize]) -> usize {
     let mut n = 0;
     for entry in TreeRefIter::from_bytes(object, SHA1) {
         let Ok(entry) = entry else { return usize::MAX };
-        out[n * 4..n * 4 + 4].copy_from_slice(&numbers(object, &entry));
+        out[n * WIDTH..(n + 1) * WIDTH].copy_from_slice(&numbers(object, &entry));
         n += 1;
     }
     n
@@ -58,8 +63,8 @@ fn iterate(object: &[u8], out: &mut [usize]) -> usize {
 fn trees(how: How, len: usize, n: usize) {
     let (names, object) = inputs::tree(n, len);
     let object = &object[..];
-    let mut records = vec![7; n * 4 + 3];
-    let mut other = vec![7; n * 4 + 3];
+    let mut records = vec![7; n * WIDTH + 3];
+    let mut other = vec![7; n * WIDTH + 3];
 
     // The same answers, before anything is counted.
     let rust = TreeRef::from_bytes(object, SHA1).expect("a tree");
@@ -67,11 +72,11 @@ fn trees(how: How, len: usize, n: usize) {
     assert!(git.parse(object) && git.len() == n && rust.entries.len() == n);
     assert_eq!(sarpukten::read_tree(object, &mut records), [0, 0, 0, n]);
     assert_eq!(sarpukten::read_tree_strict(object, &mut other), [0, 0, 0, n]);
-    assert!(records == other && records[n * 4..] == [7, 7, 7]);
+    assert!(records == other && records[n * WIDTH..] == [7, 7, 7]);
     assert_eq!(iterate(object, &mut other), n);
     assert!(records == other);
     for (i, entry) in rust.entries.iter().enumerate() {
-        assert_eq!(records[i * 4..i * 4 + 4], numbers(object, entry));
+        assert_eq!(records[i * WIDTH..(i + 1) * WIDTH], numbers(object, entry));
         let (mode, name, id) = libgit2::told(git.entry(i));
         assert!(mode == entry.mode.value() as u32 && name == &entry.filename[..] && id == entry.oid.as_bytes());
     }
@@ -91,7 +96,7 @@ fn trees(how: How, len: usize, n: usize) {
         let e = git.find(name);
         match rust.bisect_entry(name.to_bytes().as_bstr(), *folder) {
             Some(found) => {
-                assert!(a[0] == 0 && records[a[3] * 4..a[3] * 4 + 4] == numbers(object, &found));
+                assert!(a[0] == 0 && records[a[3] * WIDTH..(a[3] + 1) * WIDTH] == numbers(object, &found));
                 assert_eq!(libgit2::told(e).1, name.to_bytes());
             }
             None => assert!(a[0] == 15 && e.is_null()),
@@ -137,7 +142,7 @@ fn trees(how: How, len: usize, n: usize) {
     });
     measure(how, &key("load", "sarpukten"), || {
         let n = sarpukten::read_tree_strict(black_box(object), &mut other)[3];
-        sarpukten::bisect_entry(object, &other[..n * 4], name.to_bytes(), *folder)
+        sarpukten::bisect_entry(object, &other[..n * WIDTH], name.to_bytes(), *folder)
     });
 
     measure(how, &key("write", "rust"), || {

@@ -83,7 +83,7 @@ def damages(s, h, entries):
 
     for kind in range(len(LABELS) if entries else 0):
         made = []
-        for i, (_mode, name, end, id) in enumerate(entries):
+        for i, (_mode, name, end, id, _first) in enumerate(entries):
             if i % (1 + len(entries) // 32) != 0:
                 continue
             first, next, after = at(i), at(i + 1), at(min(i + 2, len(entries)))
@@ -105,7 +105,7 @@ def damages(s, h, entries):
 def report(name, h, s):
     print(readers(f"{name}{h} {len(s)}: ", s, h))
     _, numbers = paper.tree_read(h, s, ROOM, False)
-    entries = paper.by(4, numbers)
+    entries = paper.by(paper.WIDTH, numbers)
     print(f"  records sum {total(numbers)}" + readers("; other H ", s, 52 - h) + readers("; H 21 ", s, 21))
     if entries:
         print(readers("  a record short ", s, h, len(numbers) - 1))
@@ -113,7 +113,7 @@ def report(name, h, s):
     if s:
         print(walk("  steps of all but a byte", s[:-1], h))
     looked = []
-    for mode, start, end, _ in entries:
+    for mode, start, end, _, _ in entries:
         looked += [paper.lookup(h, s, numbers, s[start:end], sort) for sort in (paper.is_tree(mode), not paper.is_tree(mode))]
     right = sum(a[0] == 0 and a[2] == i for i, a in enumerate(looked[0::2]))
     absent = sum(a[0] == 15 for a in looked[1::2])

@@ -9,7 +9,7 @@ extern "C" {
     pub fn sarpukten_mode_word(mode: u16, word: &mut [u8; 6]) -> usize;
     pub fn sarpukten_mode_text(mode: u16, text: &mut [u8; 6]) -> usize;
     pub fn sarpukten_name_order(a: *const u8, a_len: usize, a_is_tree: bool, b: *const u8, b_len: usize, b_is_tree: bool) -> i8;
-    pub fn sarpukten_tree_step(bytes: *const u8, bytes_len: usize, h: usize, at: usize, answer: &mut [usize; 9]) -> usize;
+    pub fn sarpukten_tree_step(bytes: *const u8, bytes_len: usize, h: usize, at: usize, answer: &mut [usize; 10]) -> usize;
     pub fn sarpukten_read_tree(
         bytes: *const u8,
         bytes_len: usize,

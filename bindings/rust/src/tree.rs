@@ -3,8 +3,8 @@ use crate::{counted, ffi, EntryMode, Error, Kind, ObjectId, MOST_RECORDS};
 use std::cmp::Ordering;
 use std::io;
 
-/// The numbers of an entry's record: mode, name start, name end, id start.
-const WIDTH: usize = 4;
+/// The numbers of an entry's record: mode, name start, name end, id start, mode text start.
+const WIDTH: usize = 5;
 
 /// How many numbers to lend at first for an object of so many bytes: enough for every object that can be read strictly.
 fn guess(bytes: usize, kind: Kind) -> usize {
@@ -150,7 +150,7 @@ pub fn tree_to_bytes(entries: &[EntryRef<'_>], kind: Kind) -> Result<Vec<u8>, Er
         data.extend_from_slice(e.oid);
         // A place outside stands for an id that is none: the library refuses the record.
         let id = if e.oid.len() == kind.len_in_bytes() { end } else { usize::MAX };
-        records.extend([e.mode.in_record(), start, end, id]);
+        records.extend([e.mode.in_record(), start, end, id, start]);
     }
     write(&data, kind, &records)
 }
@@ -206,7 +206,7 @@ impl<'a> Iterator for TreeRefIter<'a> {
         if self.ended {
             return None;
         }
-        let mut answer = [0; 9];
+        let mut answer = [0; 10];
         // SAFETY: `data` lives through the call, and `answer` is ours alone.
         unsafe { ffi::sarpukten_tree_step(self.data.as_ptr(), self.data.len(), self.kind.len_in_bytes(), self.at, &mut answer) };
         let [number, place, part, found, next, record @ ..] = answer;

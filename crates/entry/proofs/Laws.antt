@@ -34,40 +34,52 @@ records-many [] = omega arith
 records-many (m ∷ []) = omega arith
 records-many (m ∷ s ∷ []) = omega arith
 records-many (m ∷ s ∷ e ∷ []) = omega arith
-records-many (m ∷ s ∷ e ∷ i ∷ rest) = omega (arith, records-many rest)
+records-many (m ∷ s ∷ e ∷ i ∷ []) = omega arith
+records-many (m ∷ s ∷ e ∷ i ∷ t ∷ rest) = omega (arith, records-many rest)
 
--- record i is the four numbers from 4 i on
+-- record i is the five numbers from 5 i on
 pub records-at : (l : List ℕ) (i : ℕ) → i < many (length l)
-    → getD (recordsOf l) i noRecord ≡ record { mode = getD l (i * width) 0; «name_start» = getD l (i * width + 1) 0; «name_end» = getD l (i * width + 2) 0; «id_start» = getD l (i * width + 3) 0 }
+    → getD (recordsOf l) i noRecord ≡ record { mode = getD l (i * width) 0; «name_start» = getD l (i * width + 1) 0; «name_end» = getD l (i * width + 2) 0; «id_start» = getD l (i * width + 3) 0; «text_start» = getD l (i * width + 4) 0 }
 unfolding recordsOf
 records-at [] i p = absurd (omega arith)
 records-at (m ∷ []) i p = absurd (omega arith)
 records-at (m ∷ s ∷ []) i p = absurd (omega arith)
 records-at (m ∷ s ∷ e ∷ []) i p = absurd (omega arith)
-records-at (m ∷ s ∷ e ∷ d ∷ rest) zero p = refl
-records-at (m ∷ s ∷ e ∷ d ∷ rest) (suc i) p =
-    let z : suc i * width ≡ suc (suc (suc (suc (i * width)))) = omega arith in
-    let z1 : suc i * width + 1 ≡ suc (suc (suc (suc (i * width + 1)))) = omega arith in
-    let z2 : suc i * width + 2 ≡ suc (suc (suc (suc (i * width + 2)))) = omega arith in
-    let z3 : suc i * width + 3 ≡ suc (suc (suc (suc (i * width + 3)))) = omega arith in
-    rw (z1, z2, z3, z) (records-at rest i (omega arith))
+records-at (m ∷ s ∷ e ∷ d ∷ []) i p = absurd (omega arith)
+records-at (m ∷ s ∷ e ∷ d ∷ t ∷ rest) zero p = refl
+records-at (m ∷ s ∷ e ∷ d ∷ t ∷ rest) (suc i) p =
+    let z : suc i * width ≡ suc (suc (suc (suc (suc (i * width))))) = omega arith in
+    let z1 : suc i * width + 1 ≡ suc (suc (suc (suc (suc (i * width + 1))))) = omega arith in
+    let z2 : suc i * width + 2 ≡ suc (suc (suc (suc (suc (i * width + 2))))) = omega arith in
+    let z3 : suc i * width + 3 ≡ suc (suc (suc (suc (suc (i * width + 3))))) = omega arith in
+    let z4 : suc i * width + 4 ≡ suc (suc (suc (suc (suc (i * width + 4))))) = omega arith in
+    rw (z1, z2, z3, z4, z) (records-at rest i (omega arith))
 
 pub well-parts : (h len : ℕ) (e : EntryRecord) → wellFormed h len e ≡ true
-    → (e .mode ≤ 65535) × (e .«name_start» ≤ e .«name_end») × (e .«name_end» ≤ len) × (e .«id_start» + h ≤ len)
+    → (e .mode ≤ 65535) × (e .«name_start» ≤ e .«name_end») × (e .«name_end» ≤ len) × (e .«id_start» + h ≤ len) × (e .«text_start» ≤ e .«name_start»)
 unfolding wellFormed
 well-parts h len e w =
     let b = and-right (leb (e .mode) 65535) _ w in
-    let c = and-right (leb (e .«name_start») (e .«name_end»)) _ b in (
+    let c = and-right (leb (e .«name_start») (e .«name_end»)) _ b in
+    let d = and-right (leb (e .«name_end») len) _ c in (
       leb-true _ _ (and-left (leb (e .mode) 65535) _ w),
       leb-true _ _ (and-left (leb (e .«name_start») (e .«name_end»)) _ b),
       leb-true _ _ (and-left (leb (e .«name_end») len) _ c),
-      leb-true _ _ (and-right (leb (e .«name_end») len) _ c),
+      leb-true _ _ (and-left (leb (e .«id_start» + h) len) _ d),
+      leb-true _ _ (and-right (leb (e .«id_start» + h) len) _ d),
     )
 
 pub well-made : (h len : ℕ) (e : EntryRecord) → e .mode ≤ 65535 → e .«name_start» ≤ e .«name_end» → e .«name_end» ≤ len → e .«id_start» + h ≤ len
-    → wellFormed h len e ≡ true
+    → e .«text_start» ≤ e .«name_start» → wellFormed h len e ≡ true
 unfolding wellFormed
-well-made h len e a b c d = simp (le-leb (e .mode) 65535 a, le-leb (e .«name_start») (e .«name_end») b, le-leb (e .«name_end») len c, le-leb (e .«id_start» + h) len d)
+well-made h len e a b c d f =
+    simp (
+      le-leb (e .mode) 65535 a,
+      le-leb (e .«name_start») (e .«name_end») b,
+      le-leb (e .«name_end») len c,
+      le-leb (e .«id_start» + h) len d,
+      le-leb (e .«text_start») (e .«name_start») f,
+    )
 
 -- a folder's mode is told by its low 16 bits
 pub folder-low : (m : ℕ) → isTree (m % 65536) ≡ isTree m
@@ -130,7 +142,7 @@ module _ (s : List ℕ) (h at : ℕ) where
         w .1 ∙ cut-short (w .0) (omega (arith, length-drop rest s)) ∙ rw z
 
     pub decode-whole : h < length s - end
-        → decode h at (drop at s) ≡ Whole (record { mode = m .internal; «name_start» = rest; «name_end» = end; «id_start» = end + 1 }) (record { at = end + 1 + h })
+        → decode h at (drop at s) ≡ Whole (record { mode = m .internal; «name_start» = rest; «name_end» = end; «id_start» = end + 1; «text_start» = at }) (record { at = end + 1 + h })
     unfolding placeFrom decodeName
     decode-whole l =
         let w = named in
@@ -202,9 +214,10 @@ decode-three h at b v d = go (readMode b) d
     go (Mode m n) d = last (m .internal) n (countTo 0 (drop n b)) (length (drop n b) - countTo 0 (drop n b)) (leb (countTo 0 (drop n b) + 1 + h) (length (drop n b))) _ d
     go Bad d = (1, cc, refl)
 
--- a whole entry lies inside the object that it was read from, in order, and the cursor stands past it
+-- a whole entry lies inside the object that it was read from, in order, its mode text first, and the cursor stands past it
 pub decode-inside : (h : ℕ) (s : List ℕ) (at : ℕ) (e : EntryRecord) (next : Cursor) → decode h at (drop at s) ≡ Whole e next
     → (at ≤ e .«name_start») × (e .«name_start» ≤ e .«name_end») × (e .«id_start» ≡ e .«name_end» + 1) × (next .at ≡ e .«id_start» + h) × (next .at ≤ length s)
+    × (e .«text_start» ≡ at)
 decode-inside h s at e next d =
     let p = decode-parts h at (drop at s) e next d in
     let a : e .«name_start» ≡ at + p .size = ap (λ (x : EntryRecord). x .«name_start») (p .laid) in
@@ -212,7 +225,7 @@ decode-inside h s at e next d =
     let c : e .«id_start» ≡ at + p .size + (countTo 0 (drop (p .size) (drop at s)) + 1) = ap (λ (x : EntryRecord). x .«id_start») (p .laid) in
     let l = length-drop (p .size) (drop at s) in
     let k = length-drop at s in
-    (omega arith, omega arith, omega arith, omega (arith, p .past), omega (arith, p .past, p .inside))
+    (omega arith, omega arith, omega arith, omega (arith, p .past), omega (arith, p .past, p .inside), ap (λ (x : EntryRecord). x .«text_start») (p .laid))
 
 -- ---- the step
 
@@ -247,10 +260,12 @@ unfolding putRecord
 put-none records i e p = simp (le-ltb i (many (length records)) p)
 
 pub put-fits : (records : List ℕ) (i : ℕ) (e : EntryRecord) → i < many (length records)
-    → putRecord records i e ≡ set (set (set (set records (i * width) (e .mode)) (i * width + 1) (e .«name_start»)) (i * width + 2) (e .«name_end»)) (i * width + 3) (e .«id_start»)
+    → putRecord records i e
+    ≡ set (set (set (set (set records (i * width) (e .mode)) (i * width + 1) (e .«name_start»)) (i * width + 2) (e .«name_end»)) (i * width + 3) (e .«id_start»)) (i * width + 4) (e .«text_start»)
 unfolding putRecord
 put-fits records i e p =
     let a : i * width + 1 ≡ suc (i * width) = omega arith in
     let b : i * width + 2 ≡ suc (suc (i * width)) = omega arith in
     let c : i * width + 3 ≡ suc (suc (suc (i * width))) = omega arith in
-    simp (lt-ltb i (many (length records)) p) (rw (a, b, c))
+    let d : i * width + 4 ≡ suc (suc (suc (suc (i * width)))) = omega arith in
+    simp (lt-ltb i (many (length records)) p) (rw (a, b, c, d))

@@ -30,7 +30,7 @@ shortPart left = pick (eqb left 0) 2 3
 
 -- the record of an entry at a place whose mode text and space take n bytes and whose name has t
 abbrev pub recordAt : ℕ → ℕ → ℕ → ℕ → EntryRecord
-recordAt at m n t = record { mode = m; «name_start» = at + n; «name_end» = at + n + t; «id_start» = at + n + (t + 1) }
+recordAt at m n t = record { mode = m; «name_start» = at + n; «name_end» = at + n + t; «id_start» = at + n + (t + 1); «text_start» = at }
 
 -- past the mode text: the name runs to the first NUL, and h bytes follow it
 unfoldable pub decodeName : ℕ → ℕ → ℕ → ℕ → List ℕ → Decoded

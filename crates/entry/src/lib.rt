@@ -11,14 +11,15 @@ use mode::ModeRead;
 use scan::find_nul;
 
 // The numbers of a record, as they lie in a flat list.
-pub const WIDTH: usize = 4;
+pub const WIDTH: usize = 5;
 
-// An entry by its mode and by positions in the lent bytes.
+// An entry by its mode and by positions in the lent bytes; the last is where its mode text starts.
 pub struct EntryRecord {
     pub mode: usize,
     pub name_start: usize,
     pub name_end: usize,
     pub id_start: usize,
+    pub text_start: usize,
 }
 
 // A place in an object, from which the next entry is read.
@@ -50,6 +51,7 @@ pub fn entry_at(records: &[usize], i: usize) -> EntryRecord
             name_start: 0,
             name_end: 0,
             id_start: 0,
+            text_start: 0,
         };
     }
     let at = i * WIDTH;
@@ -57,11 +59,13 @@ pub fn entry_at(records: &[usize], i: usize) -> EntryRecord
     let name_start = records[at + 1];
     let name_end = records[at + 2];
     let id_start = records[at + 3];
+    let text_start = records[at + 4];
     EntryRecord {
         mode,
         name_start,
         name_end,
         id_start,
+        text_start,
     }
 }
 
@@ -77,9 +81,10 @@ pub fn put_entry(records: &mut [usize], i: usize, e: EntryRecord)
     records[at + 1] = e.name_start;
     records[at + 2] = e.name_end;
     records[at + 3] = e.id_start;
+    records[at + 4] = e.text_start;
 }
 
-// Whether a record names a mode, a name and an id of h bytes inside so many bytes.
+// Whether a record names a mode, a name and an id of h bytes inside so many bytes, and no mode text that starts after the name does.
 pub fn well_formed(h: usize, len: usize, e: EntryRecord) -> bool
     ensures { λ r. ⌜ r ≡ wellFormed h len e ⌝ }
 {
@@ -96,6 +101,9 @@ pub fn well_formed(h: usize, len: usize, e: EntryRecord) -> bool
         return false;
     }
     if len - h < e.id_start {
+        return false;
+    }
+    if e.name_start < e.text_start {
         return false;
     }
     true
@@ -141,6 +149,7 @@ fn no_entry(verdict: Verdict, next: Cursor) -> Step
             name_start: 0,
             name_end: 0,
             id_start: 0,
+            text_start: 0,
         },
         next,
     }
@@ -168,6 +177,7 @@ impl Cursor {
                         name_start: rest,
                         name_end: end,
                         id_start: id,
+                        text_start: at,
                     },
                     Cursor { at: next },
                 )

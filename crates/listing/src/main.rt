@@ -120,7 +120,7 @@ fn refused(out: &mut [u8], v: Verdict) -> usize {
 
 // An entry has at least 22 bytes (no mode digit, a space, no name, NUL, its id), so the records have room for all.
 fn listing(out: &mut [u8], object: &[u8]) -> usize {
-    let mut records = [0usize; 12288];
+    let mut records = [0usize; 15360];
     let a = read_tree(object, 20, &mut records);
     let v = a.verdict;
     if v.number != 0 {

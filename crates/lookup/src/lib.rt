@@ -171,11 +171,13 @@ fn record_at(records: &[usize], i: usize) -> EntryRecord
     let name_start = records[at + 1];
     let name_end = records[at + 2];
     let id_start = records[at + 3];
+    let text_start = records[at + 4];
     EntryRecord {
         mode,
         name_start,
         name_end,
         id_start,
+        text_start,
     }
 }
 

@@ -73,7 +73,7 @@ names a b = compares (orderNumber (nameOrder (a .name) (a .tree) (b .name) (b .t
 
 -- how an object is read, with ids of 20 bytes and room for two records
 abbrev pub room : List ℕ
-room = replicate 8 0
+room = replicate 10 0
 
 abbrev pub read : (List ℕ → Listing) → List ℕ → Told
 read by s = told (readAnswer 20 s (by s) room)
@@ -168,7 +168,7 @@ table =
     -- P13: a value of two lines is folded, and its last LF is kept
     ∷ gives (headerWritten (record { name = ascii "k"; value = lines "a" "b"; mark = 0 })) is gives (lines "k a" " b")
     -- P14: an entry of mode 0 is written, and what was written is refused
-    ∷ write (ascii "abc" ++ (32 ∷ replicate 19 7)) (0 ∷ 0 ∷ 3 ∷ 3 ∷ []) 26 is writes (counted 26) zeroMode
+    ∷ write (ascii "abc" ++ (32 ∷ replicate 19 7)) (0 ∷ 0 ∷ 3 ∷ 3 ∷ 0 ∷ []) 26 is writes (counted 26) zeroMode
     ∷ read plainly zeroMode is lists (refused (broken 0 1)) []
     ∷ []
 

@@ -39,7 +39,7 @@ module _ (s : List ℕ) (h at code : ℕ) (q : code ≡ codeAt s at) where
       name-short l = decode-short s h at _ _ end reads p l
 
       pub name-whole : h < length s - end
-          → decode h at (drop at s) ≡ Whole (record { mode = code / 16; «name_start» = at + code % 16; «name_end» = end; «id_start» = end + 1 }) (record { at = end + 1 + h })
+          → decode h at (drop at s) ≡ Whole (record { mode = code / 16; «name_start» = at + code % 16; «name_end» = end; «id_start» = end + 1; «text_start» = at }) (record { at = end + 1 + h })
       name-whole l = decode-whole s h at _ _ end reads p l
 
 -- where a count is known and not reached, there is a code, and the entry is whole
@@ -56,5 +56,5 @@ module _ (s : List ℕ) (h at n count : ℕ) (t : tally n (restAt h s at n) ≡ 
         ]
 
     pub entry-there : restAt h s at n
-        ≡ entry at (record { mode = code / 16; «name_start» = at + code % 16; «name_end» = end; «id_start» = end + 1 }) (restAt h s (end + 1 + h) (n + 1))
+        ≡ entry at (record { mode = code / 16; «name_start» = at + code % 16; «name_end» = end; «id_start» = end + 1; «text_start» = at }) (restAt h s (end + 1 + h) (n + 1))
     entry-there = there h s at n count t l (name-whole s h at code q code-there end p whole-there)

@@ -235,6 +235,7 @@ fn fill(s: &[u8], h: usize, count: usize, records: &mut [usize])
             name_start,
             name_end,
             id_start,
+            text_start: at,
         };
         put_entry(records, n, e);
         at = id_start + h;
@@ -269,7 +270,7 @@ fn finish(s: &[u8], h: usize, count: usize, records: &mut [usize]) -> Answer
     }
 }
 
-// The object's entries as records, four numbers each; a refusal changes none of the numbers lent.
+// The object's entries as records, five numbers each; a refusal changes none of the numbers lent.
 pub fn read_tree(bytes: &[u8], h: usize, records: &mut [usize]) -> Answer
     ensures answer { λ r. ⌜ r ≡ readAnswer h (now (bytes .entry)) (listing h (now (bytes .entry))) (now (records .entry)) ⌝ }
     ensures records { λ r. ⌜ now (records .exit) ≡ readRecords h (now (bytes .entry)) (listing h (now (bytes .entry))) (now (records .entry)) ⌝ }

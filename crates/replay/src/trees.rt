@@ -221,6 +221,7 @@ fn same_record(a: EntryRecord, b: EntryRecord) -> bool {
         && a.name_start == b.name_start
         && a.name_end == b.name_end
         && a.id_start == b.id_start
+        && a.text_start == b.text_start
 }
 
 fn walk(object: &[u8], h: usize, want: &[usize]) -> Walked {

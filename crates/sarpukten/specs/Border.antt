@@ -42,7 +42,7 @@ modeAsked m =
     ∷ yes (eqb (sortOf m) 0o160000)
     ∷ []
 
--- the verdict, whether an entry was found, where the cursor goes on, and the entry's four numbers
+-- the verdict, whether an entry was found, where the cursor goes on, and the entry's five numbers
 abbrev pub stepNumbers : Step → List ℕ
 stepNumbers s = verdictNumbers (s .verdict) ++ yes (s .found) ∷ s .next .at ∷ flat (s .entry)
 

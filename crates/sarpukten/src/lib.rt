@@ -151,7 +151,7 @@ pub extern "C" fn sarpukten_tree_step(
     bytes: &[u8],
     h: usize,
     at: usize,
-    answer: &mut [usize; 9],
+    answer: &mut [usize; 10],
 ) -> usize
     ensures { λ r. ⌜ r ≡ stepOf h (now (bytes .entry)) (record { at = at }) .verdict .number ⌝ }
     ensures { λ _. ⌜ now (answer .exit) ≡ stepNumbers (stepOf h (now (bytes .entry)) (record { at = at })) ⌝ }
@@ -167,7 +167,8 @@ pub extern "C" fn sarpukten_tree_step(
     let name = s.entry.name_start;
     let end = s.entry.name_end;
     let id = s.entry.id_start;
-    *answer = [number, place, part, found, next, mode, name, end, id];
+    let text = s.entry.text_start;
+    *answer = [number, place, part, found, next, mode, name, end, id, text];
     number
 }
 

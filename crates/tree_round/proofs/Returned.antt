@@ -96,7 +96,7 @@ plain-good h s (suc k) at (x ∷ xs) q = go (plain-good h s k) (x ∷ xs) q (dec
         let p = decode-parts h at b e next d in
         let z : at + (next .at - at) ≡ next .at = omega arith in
         let r : drop (next .at) s ≡ drop (next .at - at) b = sym (ap (drop (next .at - at)) (sym q) ∙ drop-drop (next .at - at) at s ∙ ap (λ (x : ℕ). drop x s) z) in
-        (well-made h (length s) e (omega (arith, read-small b (e .mode) (p .size) (p .reads))) (omega arith) (omega arith) (omega arith), ih (next .at) (drop (next .at - at) b) r)
+        (well-made h (length s) e (omega (arith, read-small b (e .mode) (p .size) (p .reads))) (omega arith) (omega arith) (omega arith) (omega arith), ih (next .at) (drop (next .at - at) b) r)
 
 good-at : (h len : ℕ) (rs : List EntryRecord) → AllGood h len rs → (i : ℕ) → i < length rs → wellFormed h len (nth rs i) ≡ true
 good-at h len [] g i l = absurd (not-suc-le-zero l)

@@ -29,7 +29,7 @@ examples =
     -- an object of 57 bytes from its own records, into two bytes more than it needs
     record {
       bytes = twoEntries;
-      records = 0o100644 ∷ 7 ∷ 8 ∷ 9 ∷ 0o40000 ∷ 35 ∷ 36 ∷ 37 ∷ [];
+      records = 0o100644 ∷ 7 ∷ 8 ∷ 9 ∷ 0 ∷ 0o40000 ∷ 35 ∷ 36 ∷ 37 ∷ 29 ∷ [];
       room = replicate 59 9;
       answer = counted 57;
       size = counted 57;
@@ -38,7 +38,7 @@ examples =
     -- mode 0, a name, and an id that starts with a space
     ∷ record {
       bytes = ascii "abc" ++ (32 ∷ replicate 19 7);
-      records = 0 ∷ 0 ∷ 3 ∷ 3 ∷ [];
+      records = 0 ∷ 0 ∷ 3 ∷ 3 ∷ 0 ∷ [];
       room = replicate 26 9;
       answer = counted 26;
       size = counted 26;
@@ -47,7 +47,7 @@ examples =
     -- too little room: 8 with the bytes needed, and nothing is written; the numbers past the second record are no record
     ∷ record {
       bytes = twoEntries;
-      records = 0o100644 ∷ 7 ∷ 8 ∷ 9 ∷ 0o40000 ∷ 35 ∷ 36 ∷ 37 ∷ 65536 ∷ 0 ∷ 0 ∷ [];
+      records = 0o100644 ∷ 7 ∷ 8 ∷ 9 ∷ 0 ∷ 0o40000 ∷ 35 ∷ 36 ∷ 37 ∷ 29 ∷ 65536 ∷ 0 ∷ 0 ∷ 0 ∷ [];
       room = replicate 56 9;
       answer = refused (verdict 8 57);
       size = counted 57;
@@ -56,10 +56,19 @@ examples =
     -- a NUL in the second name: 9 at its index, before 10 at the next, which is all that the size refuses
     ∷ record {
       bytes = twoEntries;
-      records = 0o100644 ∷ 7 ∷ 8 ∷ 9 ∷ 0o40000 ∷ 7 ∷ 9 ∷ 9 ∷ 65536 ∷ 7 ∷ 8 ∷ 9 ∷ [];
+      records = 0o100644 ∷ 7 ∷ 8 ∷ 9 ∷ 0 ∷ 0o40000 ∷ 7 ∷ 9 ∷ 9 ∷ 0 ∷ 65536 ∷ 7 ∷ 8 ∷ 9 ∷ 0 ∷ [];
       room = 9 ∷ [];
       answer = refused (verdict 9 1);
       size = refused (verdict 10 2);
+      output = 9 ∷ [];
+    }
+    -- a mode text may start anywhere up to the name, and is not written; one that starts after the name does is 10
+    ∷ record {
+      bytes = twoEntries;
+      records = 0o100644 ∷ 7 ∷ 8 ∷ 9 ∷ 7 ∷ 0o40000 ∷ 35 ∷ 36 ∷ 37 ∷ 36 ∷ [];
+      room = 9 ∷ [];
+      answer = refused (verdict 10 1);
+      size = refused (verdict 10 1);
       output = 9 ∷ [];
     }
     ∷ []

@@ -101,7 +101,7 @@ fn measure(bytes: &[u8], h: usize, records: &[usize], writing: bool) -> Answer
 
 // Writes an entry at a place, and gives the place past it.
 fn write_entry(out: &mut [u8], at: usize, bytes: &[u8], h: usize, e: EntryRecord) -> usize
-    requires { ⌜ (e .mode ≤ 65535) × (e .«name_start» ≤ e .«name_end») × (e .«name_end» ≤ length (now bytes)) × (e .«id_start» + h ≤ length (now bytes)) ⌝ }
+    requires { ⌜ (e .mode ≤ 65535) × (e .«name_start» ≤ e .«name_end») × (e .«name_end» ≤ length (now bytes)) × (e .«id_start» + h ≤ length (now bytes)) × (e .«text_start» ≤ e .«name_start») ⌝ }
     requires { ⌜ at + entrySize h e ≤ length (now out) ⌝ }
     ensures { λ r. ⌜ r ≡ at + entrySize h e ⌝ }
     ensures { λ _. ⌜ now (out .exit) ≡ sets (now (out .entry)) at (entryBytes (entryOf h (now (bytes .entry)) e)) ⌝ }

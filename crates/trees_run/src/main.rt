@@ -51,16 +51,16 @@ fn take(sum: usize, x: usize) -> usize {
 
 fn take_answer(sum: usize, a: Answer) -> usize {
     let v = a.verdict;
-    take(
-        take(take(take(sum, v.number), v.place), v.part),
-        a.count,
-    )
+    take(take(take(take(sum, v.number), v.place), v.part), a.count)
 }
 
 fn take_record(sum: usize, e: EntryRecord) -> usize {
     take(
-        take(take(take(sum, e.mode), e.name_start), e.name_end),
-        e.id_start,
+        take(
+            take(take(take(sum, e.mode), e.name_start), e.name_end),
+            e.id_start,
+        ),
+        e.text_start,
     )
 }
 

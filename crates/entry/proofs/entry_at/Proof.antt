@@ -47,9 +47,18 @@ mul-id-start c = search needs
 shared-slice-read-id-start : tie.Need-shared-slice-read-id-start
 shared-slice-read-id-start c = search needs
 
+add-text-start : tie.Need-add-text-start
+add-text-start c = search needs
+
+mul-text-start : tie.Need-mul-text-start
+mul-text-start c = search needs
+
+shared-slice-read-text-start : tie.Need-shared-slice-read-text-start
+shared-slice-read-text-start c = search needs
+
 returns-2 : tie.Need-returns-2
 returns-2 c =
-    let args = c .before .before .before .before .before .args in
+    let args = c .before .before .before .before .before .before .args in
     sym (records-at (args .records .now) (args .i) (omega arith))
 
 pub entry-at-spec : {M : Type 1} → statement M
@@ -69,4 +78,7 @@ entry-at-spec =
     add-id-start
     mul-id-start
     shared-slice-read-id-start
+    add-text-start
+    mul-text-start
+    shared-slice-read-text-start
     returns-2)

@@ -46,6 +46,15 @@ mul-records-4 c = search needs
 slice-write-records-4 : tie.Need-slice-write-records-4
 slice-write-records-4 c = simp length-set (omega arith)
 
+add-records-4 : tie.Need-add-records-4
+add-records-4 c = search needs
+
+mul-records-5 : tie.Need-mul-records-5
+mul-records-5 c = search needs
+
+slice-write-records-5 : tie.Need-slice-write-records-5
+slice-write-records-5 c = simp length-set (omega arith)
+
 same-length : tie.Need-same-length
 same-length c = search needs
 
@@ -69,5 +78,8 @@ put-entry-spec =
     add-records-3
     mul-records-4
     slice-write-records-4
+    add-records-4
+    mul-records-5
+    slice-write-records-5
     same-length
     returns-2)

@@ -22,7 +22,10 @@ returns-5 : tie.Need-returns-5
 returns-5 c = sym (is-false _ (λ e. omega (arith, well-parts _ _ _ e)))
 
 returns-6 : tie.Need-returns-6
-returns-6 c = sym (well-made _ _ _ (omega arith) (omega arith) (omega arith) (omega arith))
+returns-6 c = sym (is-false _ (λ e. omega (arith, well-parts _ _ _ e)))
+
+returns-7 : tie.Need-returns-7
+returns-7 c = sym (well-made _ _ _ (omega arith) (omega arith) (omega arith) (omega arith) (omega arith))
 
 pub well-formed-spec : {M : Type 1} → statement M
-well-formed-spec = tie.close (tie.spec returns returns-2 returns-3 returns-4 returns-5 returns-6)
+well-formed-spec = tie.close (tie.spec returns returns-2 returns-3 returns-4 returns-5 returns-6 returns-7)

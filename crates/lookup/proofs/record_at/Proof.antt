@@ -41,10 +41,19 @@ mul-id-start c = search needs
 shared-slice-read-id-start : tie.Need-shared-slice-read-id-start
 shared-slice-read-id-start c = search needs
 
+add-text-start : tie.Need-add-text-start
+add-text-start c = search needs
+
+mul-text-start : tie.Need-mul-text-start
+mul-text-start c = search needs
+
+shared-slice-read-text-start : tie.Need-shared-slice-read-text-start
+shared-slice-read-text-start c = search needs
+
 returns : tie.Need-returns
 returns c =
-    let args = c .before .before .before .before .args in
-    sym (records-at (args .records .now) (args .i) (c .before .before .before .before .pre))
+    let args = c .before .before .before .before .before .args in
+    sym (records-at (args .records .now) (args .i) (c .before .before .before .before .before .pre))
 
 pub record-at-spec : {M : Type 1} → statement M
 record-at-spec =
@@ -62,4 +71,7 @@ record-at-spec =
     add-id-start
     mul-id-start
     shared-slice-read-id-start
+    add-text-start
+    mul-text-start
+    shared-slice-read-text-start
     returns)

@@ -352,10 +352,10 @@ module _ {M : Type 1} (𝓤 : URA M) (H : Heap 𝓤) (A : Atoms 𝓤) (W : Given
           -- _11 = p.on, which is true
           fills ! 11 (of-opd ! (field-of ! 19 refl refl refl)) refl (tt, tt) $ rewrite ! 11 (λ (t : Bool). ‵ (fat fullShare tyBool l₁₁ 0 (vbool t))) on refl $
           stays ! (local ! 11 refl) $
-          -- _12 = p.at * 32; _13 = records + _12
+          -- _12 = p.at * 40; _13 = records + _12
           fills ! 9 (bin ! (field-of ! 19 refl refl refl) (lit ! tt) (record { fits = small })) refl (tt, record { fits = small }) $
           fills ! 7 (bin ! (field-of ! 27 refl refl refl) (local ! 9 refl) tt) refl (tt, tt) $
-          rewrite ! 7 (λ (j : ℕ). ‵ (fat fullShare tyPtr l₁₃ 0 (vptr (ptr records .0) j))) (sym (place-is 32 (ptr records .1) (x .p .at))) refl $
+          rewrite ! 7 (λ (j : ℕ). ‵ (fat fullShare tyPtr l₁₃ 0 (vptr (ptr records .0) j))) (sym (place-is 40 (ptr records .1) (x .p .at))) refl $
           -- _14 = *_13, for the token of the records: [records; TokR; Toks; object; name; _14; ..], and [the record; what it owns; the other records;
           -- what shuts them; the borrow; records; Toks; object; name; _14; ..]
           move ! (4 ∷ 1 ∷ []) $ takes-out κ₂ q₂ records (x .p .at) inside ! tt (named 1) (λ share isE.
@@ -385,7 +385,7 @@ module _ {M : Type 1} (𝓤 : URA M) (H : Heap 𝓤) (A : Atoms 𝓤) (W : Given
           inside : x .p .at < length (now records)
           inside = going-inside (now object) (now name) q (now records) (x .p) on (x .going)
 
-          small : x .p .at * 32 < 2 ^ 64
+          small : x .p .at * 40 < 2 ^ 64
           small = omega (arith, inside, roomR .1)
 
       -- ---- the loop, from any search

@@ -83,7 +83,7 @@ returns c =
     let a = at-args .args in
     let p = at-args .pre .0 in
     let t = at-mode-text .mode-text .ensures in
-    (omega arith, entry-stored (a .h) (a .bytes .now) (a .e) (well-made _ _ _ (p .0) (p .1) (p .2) (p .3)) _ _ _ _ _ _ _ _ (t .3) (omega arith) (omega arith) (at-put-ended .put-ended .ensures) (at-put-ended2 .put-ended2 .ensures) (c .before .before .put .ensures))
+    (omega arith, entry-stored (a .h) (a .bytes .now) (a .e) (well-made _ _ _ (p .0) (p .1) (p .2) (p .3) (p .4)) _ _ _ _ _ _ _ _ (t .3) (omega arith) (omega arith) (at-put-ended .put-ended .ensures) (at-put-ended2 .put-ended2 .ensures) (c .before .before .put .ensures))
 
 pub write-entry-spec : {M : Type 1} → statement M
 write-entry-spec =
