@@ -89,6 +89,28 @@ static void names(void)
     HOLD(sarpukten_name_order(BYTES("a"), 1, true, BYTES("a/b"), 3, false) == 0);
 }
 
+/* Reads an object of one or two entries strictly: their texts as given, and an id after the NUL of each. */
+static size_t strict(const char *first, const char *second)
+{
+    uint8_t object[80];
+    size_t records[2 * SARPUKTEN_ENTRY], len = strlen(first) + 21;
+
+    memset(object, 0x11, sizeof object);
+    memcpy(object, first, len - 20);
+    if (second) {
+        memcpy(object + len, second, strlen(second) + 1);
+        len += strlen(second) + 21;
+    }
+    return sarpukten_read_tree_strict(object, len, SARPUKTEN_SHA1, records, 2 * SARPUKTEN_ENTRY, answer);
+}
+
+static void rules(void)
+{
+    HOLD(three(strict("40000 .Git", NULL), SARPUKTEN_DOT_GIT, 0, 0));
+    HOLD(three(strict("100644 a", "40000 .giT"), SARPUKTEN_DOT_GIT, 29, 0));
+    HOLD(three(strict("40000 .GITx", "100644 a"), SARPUKTEN_DONE, 0, 2));
+}
+
 static void trees(void)
 {
     static const size_t step[10] = {0, 0, 0, 1, 57, 040000, 35, 36, 37, 29}, end[10] = {0, 0, 0, 0, 57, 0, 0, 0, 0, 0};
@@ -180,6 +202,7 @@ int main(void)
         numbers[i] = GUARD;
     modes();
     names();
+    rules();
     trees();
     commits();
     loose();

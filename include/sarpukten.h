@@ -54,6 +54,7 @@ enum {
     SARPUKTEN_EMPTY_ENCODING = 13,   /* writing: the encoding is there and empty; place 0 */
     SARPUKTEN_LF_IN_ENCODING = 14,   /* writing: the encoding has an LF; place 0 */
     SARPUKTEN_NOT_THERE = 15,        /* lookup: no such entry; place 0 */
+    SARPUKTEN_DOT_GIT = 18,          /* strict: the name is .git with letters in upper case; place: the entry's first byte */
     SARPUKTEN_NO_MODE_OR_KIND = 23   /* a number is no mode, or no kind of object; place 0 */
 };
 
@@ -154,7 +155,7 @@ size_t sarpukten_tree_step(const uint8_t *bytes, size_t bytes_len, size_t h, siz
 size_t sarpukten_read_tree(
     const uint8_t *bytes, size_t bytes_len, size_t h, size_t *records, size_t records_len, size_t answer[4]);
 
-/* The same for an object as Git writes it. Refuses also 5, 6, 7. For an object from outside this is the one to call: two objects that it
+/* The same for an object as Git writes it. Refuses also 5, 6, 7, 18. For an object from outside this is the one to call: two objects that it
  * takes with the same entries are the same bytes, and so have the same id. */
 size_t sarpukten_read_tree_strict(
     const uint8_t *bytes, size_t bytes_len, size_t h, size_t *records, size_t records_len, size_t answer[4]);

@@ -359,6 +359,12 @@ def exhaustive(long):
             yield tree_reading(20, O[:n] + bytes([letter]) + O[n + 1:], 10)
     for room in range(15):
         yield tree_reading(20, O, room)
+    # `.git` with its letters in either case, and what is near it; after an entry that it may not follow; with a mode text of its own fault.
+    near = [b".GITX", b"GIT", b".GI", b".G", b".GIT.", b"x.GIT", b"\x0eGIT", b"\x0egit", b".\x07it", b".g\tt", b".gi\x14", b".g@t", b".[it", b".gi\xf4"]
+    for name in [bytes(x) for x in itertools.product(b".", b"gG", b"iI", b"tT")] + near:
+        for mode in (b"40000 ", b"100644 ", b"100664 "):
+            yield tree_reading(20, mode + name + b"\0" + b"\x11" * 20, 10)
+            yield tree_reading(20, b"100644 z\0" + b"\x11" * 20 + mode + name + b"\0" + b"\x11" * 20, 10)
     for h in BAD_H + [20, 32]:
         for object in (b"", O, b"8"):
             yield tree_reading(h, object, 10)

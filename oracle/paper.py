@@ -11,7 +11,7 @@ MAX_RECORDS = 1_048_576        # "any list at most"
 # "The numbers"
 DONE, BAD_H, OVER, UNREADABLE, FEW_RECORDS, BAD_MODE_TEXT, BAD_NAME, NOT_AFTER = range(8)
 SHORT_OUTPUT, NUL_IN_NAME, BAD_RECORD, FIELD, ACTOR, EMPTY_ENCODING, LF_ENCODING, NOT_THERE = range(8, 16)
-NOT_ACCEPTABLE = 23
+DOT_GIT, NOT_ACCEPTABLE = 18, 23
 WIDTH = 5                      # the numbers of an entry's record
 NO_MODE, NO_NUL, CUT_ID = 1, 2, 3      # the parts of UNREADABLE
 
@@ -171,6 +171,8 @@ def tree_read(h, object, room, strict):
                 return (BAD_MODE_TEXT, at, 0, 0), []
             if not permitted(now[0]):
                 return (BAD_NAME, at, 0, 0), []
+            if now[0].lower() == b".git":
+                return (DOT_GIT, at, 0, 0), []
             if before is not None and order(*before, *now) != -1:
                 return (NOT_AFTER, at, 0, 0), []
         before = now

@@ -105,6 +105,9 @@ fn refusals() {
     for name in ["", ".", "..", ".git", "a/b"] {
         assert_eq!(strictly(&[&format!("100644 {name}")]), refused(6, 0));
     }
+    for name in [".Git", ".gIt", ".giT", ".GIT"] {
+        assert_eq!(strictly(&[&format!("40000 {name}")]), refused(18, 0));
+    }
     assert_eq!(strictly(&["100644 a", "100644 a"]), refused(7, 29));
     assert_eq!(strictly(&["40000 a", "100644 a.b"]), refused(7, 28));
 }

@@ -3,7 +3,7 @@ use Prim.Native.Nat.{ℕ, suc}
 use native.Mathlib.Omega.{arith}
 use mathlib.Core.Path.{_≡_, refl, sym, ap}
 use mathlib.Core.Bool.{Bool, true, false, not, _||_, false≢true}
-use mathlib.Core.List.{List, [], _∷_}
+use mathlib.Core.List.{List, [], _∷_, map}
 use mathlib.Core.Logic.{_⊎_, inl, inr, _↔_}
 use lib.Dec.{eqb}
 use borrow.Author.Tests.{eqb-true}
@@ -15,7 +15,7 @@ use Rattle.mode.specs.Write.{writeMode, trimmed, again}
 use Rattle.order.specs.declared.Order.{Order}
 use Rattle.order.specs.declared.Order.the-variants.{Below, Same, Above}
 use Rattle.entry.specs.Entry.{Entry}
-use Rattle.reading.specs.Rules.{permitted, isBelow, standsBefore, isAfter, gitRules}
+use Rattle.reading.specs.Rules.{orElse, permitted, lower, isDotGit, nameNumber, isBelow, standsBefore, isAfter, gitRules}
 use Rattle.reading.proofs.Judging.{permitted-parts}
 use Rattle.one_listing.specs.Sound.{isMode, Permitted, Sound, SoundEntry, Before, Ascending, EachSound, SoundListing}
 use Rattle.one_listing.specs.Demand.{OneListing, ShortRoom, OneObject}
@@ -63,12 +63,22 @@ before-after : (p : Entry) (ps : List Entry) (e : Entry) → Before p e → isAf
 unfolding isAfter standsBefore
 before-after p ps e q = ap isBelow q
 
+-- a name that is not refused is permitted, and not `.git` in letters of either case
+named-parts : (n : List ℕ) → nameNumber n ≡ 0 → (permitted n ≡ true) × (isDotGit n ≡ false)
+unfolding nameNumber
+named-parts n e = go (permitted n) (isDotGit n) e
+  where
+    go : (p g : Bool) → _≡_ {A = ℕ} (orElse (pick p 0 6) (pick g 18 0)) 0 → (p ≡ true) × (g ≡ false)
+    go true true e = absurd (omega arith)
+    go true false e = (refl, refl)
+    go false g e = absurd (omega arith)
+
 pub git-ok : RulesOk gitRules
 unfolding gitRules
 git-ok =
     record {
       modes = rows-ok;
-      names = λ n e. permitted-parts n (passed (permitted n) 5 e) .1;
+      names = λ n e. permitted-parts n (named-parts n e .0) .1;
       after = λ p ps e q. after-before p ps e (passed (isAfter (p ∷ ps) e) 6 q);
     }
 
@@ -122,9 +132,10 @@ this-not : (n t : List ℕ) → (n ≡ t → ⊥) → sameBytes n t ≡ false
 this-not n t f = is-false (sameBytes n t) (λ e. f (same-true n t e))
 
 permitted-plain : (h : ℕ) (before : List Entry) (e : Entry) → Permitted gitRules h before e → SoundEntry h e
-unfolding gitRules
+unfolding gitRules isDotGit
 permitted-plain h before e p =
-    let n = permitted-parts (e .name) (passed (permitted (e .name)) 5 (p .named)) in
+    let m = named-parts (e .name) (p .named) in
+    let n = permitted-parts (e .name) (m .0) in
     record {
       mode = mode-five (e .mode) (p .known);
       some = not-this (e .name) [] (n .0);
@@ -132,19 +143,27 @@ permitted-plain h before e p =
       slashless = n .2;
       no-dot = not-this (e .name) (ascii ".") (n .3);
       no-dots = not-this (e .name) (ascii "..") (n .4);
-      no-git = not-this (e .name) (ascii ".git") (n .5);
+      no-git = not-this (map lower (e .name)) (ascii ".git") (ap not (m .1));
       sized = p .sized;
     }
 
-name-permitted : (h : ℕ) (e : Entry) → SoundEntry h e → permitted (e .name) ≡ true
-unfolding permitted
-name-permitted h e s =
-    rw (this-not (e .name) [] (s .some), s .nulless, s .slashless, this-not (e .name) (ascii ".") (s .no-dot), this-not (e .name) (ascii "..") (s .no-dots), this-not (e .name) (ascii ".git") (s .no-git))
+name-fine : (h : ℕ) (e : Entry) → SoundEntry h e → nameNumber (e .name) ≡ 0
+unfolding nameNumber permitted isDotGit
+name-fine h e s =
+    rw (
+      this-not (e .name) [] (s .some),
+      s .nulless,
+      s .slashless,
+      this-not (e .name) (ascii ".") (s .no-dot),
+      this-not (e .name) (ascii "..") (s .no-dots),
+      this-not (e .name) (ascii ".git") (λ q. s .no-git (ap (map lower) q)),
+      this-not (map lower (e .name)) (ascii ".git") (s .no-git),
+    )
 
 plain-permitted : (h : ℕ) (before : List Entry) (e : Entry) → SoundEntry h e → isAfter before e ≡ true → Permitted gitRules h before e
 unfolding gitRules
 plain-permitted h before e s a =
-    record { known = five-mode (e .mode) (s .mode); named = fine (permitted (e .name)) 5 (name-permitted h e s); placed = fine (isAfter before e) 6 a; sized = s .sized }
+    record { known = five-mode (e .mode) (s .mode); named = name-fine h e s; placed = fine (isAfter before e) 6 a; sized = s .sized }
 
 sound-each : (h : ℕ) (before es : List Entry) → Sound gitRules h before es → EachSound h es
 sound-each h before [] s = tt

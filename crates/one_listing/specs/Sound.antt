@@ -2,7 +2,7 @@
 use Prim.Native.Nat.{ℕ}
 use mathlib.Core.Path.{_≡_}
 use mathlib.Core.Bool.{Bool, true, false, _||_}
-use mathlib.Core.List.{List, [], _∷_}
+use mathlib.Core.List.{List, [], _∷_, map}
 use mathlib.Core.Logic.{_⊎_}
 use lib.Dec.{eqb}
 use lib.ListN.{length}
@@ -13,7 +13,7 @@ use Rattle.mode.specs.declared.Written.{Written}
 use Rattle.order.specs.Order.{nameOrder}
 use Rattle.order.specs.declared.Order.the-variants.{Below}
 use Rattle.entry.specs.Entry.{Entry}
-use Rattle.reading.specs.Rules.{Rules}
+use Rattle.reading.specs.Rules.{Rules, lower}
 
 -- a mode of one of the rows
 unfoldable pub isMode : List Written → ℕ → Bool
@@ -34,7 +34,8 @@ Sound R h before (e ∷ es) = Permitted R h before e × Sound R h (e ∷ before)
 
 -- ---- in plain words
 
--- one of Git's five modes; a name that is not empty, has no NUL and no slash, and is none of `.`, `..`, `.git`; an id of h bytes
+-- one of Git's five modes; a name that is not empty, has no NUL and no slash, and is none of `.`, `..` and, in
+-- letters of either case, `.git`; an id of h bytes
 pub record SoundEntry (h : ℕ) (e : Entry) : Type 0 where
   pub mode : (e .mode ≡ 0o40000) ⊎ ((e .mode ≡ 0o100644) ⊎ ((e .mode ≡ 0o100755) ⊎ ((e .mode ≡ 0o120000) ⊎ (e .mode ≡ 0o160000))))
   pub some : e .name ≡ [] → ⊥
@@ -42,7 +43,7 @@ pub record SoundEntry (h : ℕ) (e : Entry) : Type 0 where
   pub slashless : freeOf 47 (e .name) ≡ true
   pub no-dot : e .name ≡ ascii "." → ⊥
   pub no-dots : e .name ≡ ascii ".." → ⊥
-  pub no-git : e .name ≡ ascii ".git" → ⊥
+  pub no-git : map lower (e .name) ≡ ascii ".git" → ⊥
   pub sized : length (e .id) ≡ h
 
 -- one entry stands strictly before another in Git's order

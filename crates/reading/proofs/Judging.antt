@@ -5,12 +5,12 @@ use mathlib.Core.Path.{_≡_, refl, sym, _∙_}
 use mathlib.Core.Bool.{Bool, true, false, not, _||_, false≢true}
 use mathlib.Core.List.{List, [], _∷_, map}
 use lib.Dec.{ltb, leb}
-use lib.ListN.{length, getD, take, drop, length-append}
+use lib.ListN.{length, getD, take, drop, length-append, length-map}
 use lib.Seq.{take-take, take-append-seam}
-use borrow.Author.Tests.{ltb-true}
+use borrow.Author.Tests.{ltb-true, le-leb, lt-leb}
 use Rattle.ground.specs.Basics.{pick, ascii, part}
 use Rattle.ground.specs.Scan.{countTo, sameBytes, freeOf}
-use Rattle.ground.proofs.Laws.{is-false, and-left, and-right, whole-free, free-whole, same-refl, same-true}
+use Rattle.ground.proofs.Laws.{is-false, and-left, and-right, whole-free, free-whole, same-refl, same-true, same-length}
 use Rattle.ground.proofs.Table.{rows-agree}
 use Rattle.front.specs.Code.{coded, codeAt, spaced, codeIn, quickAt}
 use Rattle.front.proofs.Laws.{quick-is-code}
@@ -23,7 +23,7 @@ use Rattle.order.specs.declared.Order.{Order}
 use Rattle.entry.specs.Record.{nameOf, folderOf}
 use Rattle.entry.specs.Entry.{entryOf}
 use Rattle.entry.specs.declared.EntryRecord.{EntryRecord}
-use Rattle.reading.specs.Rules.{isText, judge, textOf, permitted, isBelow, standsBefore, isAfter, gitRules}
+use Rattle.reading.specs.Rules.{isText, judge, textOf, permitted, lower, isDotGit, nameNumber, isBelow, standsBefore, isAfter, gitRules}
 use Rattle.reading.specs.Code.{LastWithin, lastOf, afterAt, judgeAt}
 use Rattle.reading.specs.declared.Last.{Last}
 use Rattle.reading.specs.declared.Last.the-variants.{Nothing, After}
@@ -147,6 +147,30 @@ module _ (n : List ℕ) where
   unfolding permitted
   name-fine a b c d e f = rw (some-same a, b, free-whole 47 n c, d, e, f)
 
+-- a byte that is no letter in upper case, and one that is
+pub lower-below : (b : ℕ) → b < 65 → lower b ≡ b
+lower-below b h = rw (lt-leb 65 b h)
+
+pub lower-above : (b : ℕ) → 90 < b → lower b ≡ b
+lower-above b h = rw (le-leb 65 b (omega arith), lt-leb b 90 h)
+
+pub lower-letter : (b : ℕ) → 65 ≤ b → b ≤ 90 → lower b ≡ b + 32
+lower-letter b h k = rw (le-leb 65 b h, le-leb b 90 k)
+
+pub git-length : (n : List ℕ) → (length n ≡ 4 → ⊥) → isDotGit n ≡ false
+unfolding isDotGit
+git-length n f = same-length (map lower n) (ascii ".git") (λ e. f (sym (length-map n lower) ∙ e))
+
+-- four bytes, in lower case
+pub git-four : (n : List ℕ) → length n ≡ 4 → isDotGit n ≡ sameBytes (lower (getD n 0 0) ∷ lower (getD n 1 0) ∷ lower (getD n 2 0) ∷ lower (getD n 3 0) ∷ []) (ascii ".git")
+unfolding isDotGit
+git-four (a ∷ b ∷ c ∷ d ∷ []) e = refl
+git-four [] e = absurd (omega arith)
+git-four (a ∷ []) e = absurd (omega arith)
+git-four (a ∷ b ∷ []) e = absurd (omega arith)
+git-four (a ∷ b ∷ c ∷ []) e = absurd (omega arith)
+git-four (a ∷ b ∷ c ∷ d ∷ x ∷ xs) e = absurd (omega arith)
+
 -- ---- an entry after the one before
 
 -- the entry before lies inside
@@ -172,12 +196,16 @@ module _ (s : List ℕ) (last : Last) (at : ℕ) (e : EntryRecord) where
 
   module _ (t : isText rows (textOf s at e) ≡ true) where
     pub judge-name : permitted (nameOf s e) ≡ false → judgeAt s last at e ≡ 6
-    unfolding judgeAt
+    unfolding judgeAt nameNumber
     judge-name p = rw (t, p)
 
-    pub judge-after : permitted (nameOf s e) ≡ true → judgeAt s last at e ≡ afterAt s last e
-    unfolding judgeAt
-    judge-after p = rw (t, p)
+    pub judge-git : permitted (nameOf s e) ≡ true → isDotGit (nameOf s e) ≡ true → judgeAt s last at e ≡ 18
+    unfolding judgeAt nameNumber
+    judge-git p g = rw (t, p, g)
+
+    pub judge-after : permitted (nameOf s e) ≡ true → isDotGit (nameOf s e) ≡ false → judgeAt s last at e ≡ afterAt s last e
+    unfolding judgeAt nameNumber
+    judge-after p g = rw (t, p, g)
 
 -- the leaves say what the rules say over the entries that were read before, the nearest first
 pub judges : (h : ℕ) (s : List ℕ) (seen : List EntryRecord) (at : ℕ) (e : EntryRecord)

@@ -6,7 +6,7 @@ use Rattle.mode.specs.Table.{rows}
 use Rattle.order.specs.Order.{nameOrder}
 use Rattle.entry.specs.Record.{nameOf, folderOf}
 use Rattle.entry.specs.declared.EntryRecord.{EntryRecord}
-use Rattle.reading.specs.Rules.{orElse, isText, textOf, permitted, isBelow}
+use Rattle.reading.specs.Rules.{orElse, isText, textOf, nameNumber, isBelow}
 use Rattle.reading.specs.declared.Last.{Last}
 use Rattle.reading.specs.declared.Last.the-variants.{Nothing, After}
 
@@ -29,4 +29,4 @@ afterAt s Nothing e = 0
 afterAt s (After p) e = pick (isBelow (nameOrder (nameOf s p) (folderOf p) (nameOf s e) (folderOf e))) 0 7
 
 unfoldable pub judgeAt : List ℕ → Last → ℕ → EntryRecord → ℕ
-judgeAt s last at e = orElse (pick (isText rows (textOf s at e)) 0 5) (orElse (pick (permitted (nameOf s e)) 0 6) (afterAt s last e))
+judgeAt s last at e = orElse (pick (isText rows (textOf s at e)) 0 5) (orElse (nameNumber (nameOf s e)) (afterAt s last e))

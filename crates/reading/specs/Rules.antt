@@ -1,9 +1,9 @@
 -- Strict reading: a listing, cut at the first entry that its rules do not permit; and the rules themselves (docs/FORMAT.md, "Strict reading").
 -- Assumes nothing.
-use Prim.Native.Nat.{ℕ, zero, suc, _-_}
+use Prim.Native.Nat.{ℕ, zero, suc, _+_, _-_}
 use mathlib.Core.Bool.{Bool, true, false, not, _&&_, _||_}
-use mathlib.Core.List.{List, [], _∷_}
-use lib.Dec.{eqb}
+use mathlib.Core.List.{List, [], _∷_, map}
+use lib.Dec.{eqb, leb}
 use Rattle.ground.specs.Basics.{pick, ascii, part}
 use Rattle.ground.specs.Scan.{sameBytes, freeOf}
 use Rattle.ground.specs.Verdict.{verdict}
@@ -62,6 +62,18 @@ permitted n =
     not (sameBytes n []) && (freeOf 0 n && (freeOf 47 n
     && (not (sameBytes n (ascii ".")) && (not (sameBytes n (ascii "..")) && not (sameBytes n (ascii ".git"))))))
 
+-- an ASCII letter in lower case, and any other byte as it is
+abbrev pub lower : ℕ → ℕ
+lower b = pick (leb 65 b && leb b 90) (b + 32) b
+
+-- `.git`, each letter in either case
+unfoldable pub isDotGit : List ℕ → Bool
+isDotGit n = sameBytes (map lower n) (ascii ".git")
+
+-- 6 for a name that is not permitted; 18 for `.git` with letters in upper case
+unfoldable pub nameNumber : List ℕ → ℕ
+nameNumber n = orElse (pick (permitted n) 0 6) (pick (isDotGit n) 18 0)
+
 abbrev pub isBelow : Order → Bool
 isBelow Below = true
 isBelow Same = false
@@ -76,6 +88,6 @@ unfoldable pub isAfter : List Entry → Entry → Bool
 isAfter [] e = true
 isAfter (p ∷ ps) e = standsBefore p e
 
--- the five written modes; 6 for a name; 7 for an entry that does not stand after the one before
+-- the five written modes; 6 or 18 for a name; 7 for an entry that does not stand after the one before
 unfoldable pub gitRules : Rules
-gitRules = record { modes = rows; nameNo = λ n. pick (permitted n) 0 6; afterNo = λ before e. pick (isAfter before e) 0 7 }
+gitRules = record { modes = rows; nameNo = nameNumber; afterNo = λ before e. pick (isAfter before e) 0 7 }

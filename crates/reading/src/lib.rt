@@ -10,7 +10,7 @@ ghost use Rattle.mode.specs.Table.{rows};
 ghost use Rattle.entry.specs.Record.{many, nameOf};
 ghost use Rattle.front.specs.Code.{codeAt};
 ghost use Rattle.reading.specs.Listing.{listing, tally, recordsIn, flats};
-ghost use Rattle.reading.specs.Rules.{isText, textOf, permitted, gitRules, strictly};
+ghost use Rattle.reading.specs.Rules.{isText, textOf, permitted, lower, isDotGit, gitRules, strictly};
 ghost use Rattle.reading.specs.Whole.{inRoom, readAnswer, readRecords};
 ghost use Rattle.reading.specs.Code.{Within, LastWithin, afterAt, judgeAt};
 use entry::Cursor;
@@ -120,6 +120,33 @@ fn name_permitted(name: &[u8]) -> bool
     true
 }
 
+// An ASCII letter in lower case, and any other byte as it is.
+fn in_lower(b: u8) -> u8
+    ensures { λ r. ⌜ r ≡ lower b ⌝ }
+{
+    if b < 65 {
+        return b;
+    }
+    if 90 < b {
+        return b;
+    }
+    b + 32
+}
+
+// Whether a name is `.git`, each letter in either case.
+fn is_dot_git(name: &[u8]) -> bool
+    ensures { λ r. ⌜ r ≡ isDotGit (now (name .entry)) ⌝ }
+{
+    if name.len() != 4 {
+        return false;
+    }
+    let a = in_lower(name[0]);
+    let b = in_lower(name[1]);
+    let c = in_lower(name[2]);
+    let d = in_lower(name[3]);
+    same_bytes(&[a, b, c, d], b".git")
+}
+
 // 7 where an entry does not stand after the one before, else 0.
 fn after_number(s: &[u8], last: Last, e: EntryRecord) -> usize
     requires { ⌜ LastWithin (length (now s)) last ⌝ }
@@ -159,7 +186,7 @@ fn is_written(s: &[u8], at: usize, e: EntryRecord) -> bool
     }
 }
 
-// What the strict rules say of an entry at a place, as it was decoded there: 0, 5, 6 or 7.
+// What the strict rules say of an entry at a place, as it was decoded there: 0, 5, 6, 18 or 7.
 fn judge_entry(s: &[u8], last: Last, at: usize, e: EntryRecord) -> usize
     requires { ⌜ LastWithin (length (now s)) last ⌝ }
     requires { ⌜ Within (length (now s)) at e ⌝ }
@@ -171,6 +198,9 @@ fn judge_entry(s: &[u8], last: Last, at: usize, e: EntryRecord) -> usize
         let start = e.name_start;
         let end = e.name_end;
         if name_permitted(&s[start..end]) {
+            if is_dot_git(&s[start..end]) {
+                return 18;
+            }
             return after_number(s, last, e);
         }
         return 6;

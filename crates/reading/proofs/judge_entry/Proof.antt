@@ -4,7 +4,7 @@ use Rattle.reading.proofs.judge_entry.Statement.{statement}
 use Rattle.reading.proofs.judge_entry.Tie as tie
 use mathlib.Core.Path.{sym, _∙_}
 use Rattle.entry.specs.Record.{nameOf}
-use Rattle.reading.proofs.Judging.{judge-text, judge-name, judge-after}
+use Rattle.reading.proofs.Judging.{judge-text, judge-name, judge-git, judge-after}
 
 is-written-requires : tie.Need-is-written-requires
 is-written-requires c κs = search needs
@@ -20,31 +20,59 @@ part-name-permitted-end c = search needs
 
 name-permitted-requires : tie.Need-name-permitted-requires
 unfolding nameOf
-name-permitted-requires c κs = c .before .before .before .before .pre .1 .1 .0
+name-permitted-requires c κs =
+    let pre = c .before .before .before .before .pre in
+    pre .1 .1 .0
 
-after-number-requires : tie.Need-after-number-requires
-after-number-requires c κs = search needs
+sub-is-dot-git : tie.Need-sub-is-dot-git
+sub-is-dot-git c = search needs
+
+part-is-dot-git-start : tie.Need-part-is-dot-git-start
+part-is-dot-git-start c = search needs
+
+part-is-dot-git-end : tie.Need-part-is-dot-git-end
+part-is-dot-git-end c = search needs
+
+is-dot-git-requires : tie.Need-is-dot-git-requires
+is-dot-git-requires c κs = search needs
 
 returns : tie.Need-returns
 unfolding nameOf
 returns c =
-    let name-permitted = c .before .before .name-permitted in
-    let if1 = c .before .before .before .before .if1 in
-    let is-written = c .before .before .before .before .before .is-written in
-    let args = c .before .before .before .before .before .before .before .args in
-    c .after-number .ensures
-    ∙ sym (judge-after (args .s .now) _ _ _ (sym (is-written .ensures) ∙ if1 .taken) (sym (name-permitted .ensures) ∙ c .before .if2 .taken))
+    let if2 = c .before .before .before .if2 in
+    let name-permitted = c .before .before .before .before .name-permitted in
+    let if1 = c .before .before .before .before .before .before .if1 in
+    let is-written = c .before .before .before .before .before .before .before .is-written in
+    let args = c .before .before .before .before .before .before .before .before .before .args in
+    sym (judge-git (args .s .now) _ _ _ (sym (is-written .ensures) ∙ if1 .taken) (sym (name-permitted .ensures) ∙ if2 .taken) (sym (c .before .is-dot-git .ensures) ∙ c .if3 .taken))
+
+after-number-requires : tie.Need-after-number-requires
+after-number-requires c κs = search needs
 
 returns-2 : tie.Need-returns-2
 unfolding nameOf
 returns-2 c =
+    let is-dot-git = c .before .before .is-dot-git in
+    let if2 = c .before .before .before .before .if2 in
+    let name-permitted = c .before .before .before .before .before .name-permitted in
+    let if1 = c .before .before .before .before .before .before .before .if1 in
+    let is-written = c .before .before .before .before .before .before .before .before .is-written in
+    let args = c .before .before .before .before .before .before .before .before .before .before .args in
+    c .after-number .ensures
+    ∙ sym (judge-after (args .s .now) _ _ _ (sym (is-written .ensures) ∙ if1 .taken) (sym (name-permitted .ensures) ∙ if2 .taken) (sym (is-dot-git .ensures) ∙ c .before .if3 .left))
+
+returns-3 : tie.Need-returns-3
+unfolding nameOf
+returns-3 c =
     let if1 = c .before .before .before .if1 in
     let is-written = c .before .before .before .before .is-written in
     let args = c .before .before .before .before .before .before .args in
     sym (judge-name (args .s .now) _ _ _ (sym (is-written .ensures) ∙ if1 .taken) (sym (c .before .name-permitted .ensures) ∙ c .if2 .left))
 
-returns-3 : tie.Need-returns-3
-returns-3 c = sym (judge-text (c .before .before .before .args .s .now) _ _ _ (sym (c .before .is-written .ensures) ∙ c .if1 .left))
+returns-4 : tie.Need-returns-4
+returns-4 c =
+    let args = c .before .before .before .args in
+    sym (judge-text (args .s .now) _ _ _ (sym (c .before .is-written .ensures) ∙ c .if1 .left))
 
 pub judge-entry-spec : {M : Type 1} → statement M
 judge-entry-spec =
@@ -55,7 +83,12 @@ judge-entry-spec =
     part-name-permitted-start
     part-name-permitted-end
     name-permitted-requires
-    after-number-requires
+    sub-is-dot-git
+    part-is-dot-git-start
+    part-is-dot-git-end
+    is-dot-git-requires
     returns
+    after-number-requires
     returns-2
-    returns-3)
+    returns-3
+    returns-4)
