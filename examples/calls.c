@@ -90,7 +90,7 @@ static void names(void)
 }
 
 /* Reads an object of one or two entries strictly: their texts as given, and an id after the NUL of each. */
-static size_t strict(const char *first, const char *second)
+static size_t strict(uint16_t rules, const char *first, const char *second)
 {
     uint8_t object[80];
     size_t records[2 * SARPUKTEN_ENTRY], len = strlen(first) + 21;
@@ -101,14 +101,16 @@ static size_t strict(const char *first, const char *second)
         memcpy(object + len, second, strlen(second) + 1);
         len += strlen(second) + 21;
     }
-    return sarpukten_read_tree_strict(object, len, SARPUKTEN_SHA1, records, 2 * SARPUKTEN_ENTRY, answer);
+    return sarpukten_read_tree_strict(object, len, SARPUKTEN_SHA1, rules, records, 2 * SARPUKTEN_ENTRY, answer);
 }
 
 static void rules(void)
 {
-    HOLD(three(strict("40000 .Git", NULL), SARPUKTEN_DOT_GIT, 0, 0));
-    HOLD(three(strict("100644 a", "40000 .giT"), SARPUKTEN_DOT_GIT, 29, 0));
-    HOLD(three(strict("40000 .GITx", "100644 a"), SARPUKTEN_DONE, 0, 2));
+    HOLD(three(strict(SARPUKTEN_PRESENT, "40000 .Git", NULL), SARPUKTEN_DOT_GIT, 0, 0));
+    HOLD(three(strict(SARPUKTEN_PRESENT, "100644 a", "40000 .giT"), SARPUKTEN_DOT_GIT, 29, 0));
+    HOLD(three(strict(SARPUKTEN_PRESENT, "40000 .GITx", "100644 a"), SARPUKTEN_DONE, 0, 2));
+    HOLD(three(strict(SARPUKTEN_PRESENT, "100644 a", "100664 b"), SARPUKTEN_MODE_TEXT, 29, 0));
+    HOLD(three(strict(SARPUKTEN_WITH_100664, "100644 a", "100664 b"), SARPUKTEN_DONE, 0, 2));
 }
 
 static void trees(void)
@@ -132,10 +134,11 @@ static void trees(void)
     HOLD(records[0] == GUARD);
     HOLD(three(sarpukten_read_tree(object, 57, SARPUKTEN_SHA1, records, 11, answer), SARPUKTEN_DONE, 0, 2));
     HOLD(memcmp(records, both, sizeof both) == 0);
-    HOLD(four(sarpukten_read_tree_strict(object, 56, SARPUKTEN_SHA1, records, 11, answer), SARPUKTEN_BROKEN_ENTRY, 29, SARPUKTEN_CUT_ID, 0));
+    HOLD(four(sarpukten_read_tree_strict(object, 56, SARPUKTEN_SHA1, SARPUKTEN_PRESENT, records, 11, answer), SARPUKTEN_BROKEN_ENTRY, 29, SARPUKTEN_CUT_ID, 0));
     HOLD(four(sarpukten_read_tree(object, 36, SARPUKTEN_SHA1, records, 11, answer), SARPUKTEN_BROKEN_ENTRY, 29, SARPUKTEN_NO_NUL, 0));
-    HOLD(three(sarpukten_read_tree_strict(object, 57, 21, records, 11, answer), SARPUKTEN_ID_LENGTH, 0, 0));
-    HOLD(three(sarpukten_read_tree_strict(object, 57, SARPUKTEN_SHA1, records, 10, answer), SARPUKTEN_DONE, 0, 2));
+    HOLD(three(sarpukten_read_tree_strict(object, 57, 21, 3, records, 11, answer), SARPUKTEN_ID_LENGTH, 0, 0));
+    HOLD(three(sarpukten_read_tree_strict(object, 57, SARPUKTEN_SHA1, 3, records, 11, answer), SARPUKTEN_RULE_SET, 0, 0));
+    HOLD(three(sarpukten_read_tree_strict(object, 57, SARPUKTEN_SHA1, SARPUKTEN_PRESENT, records, 10, answer), SARPUKTEN_DONE, 0, 2));
     HOLD(memcmp(records, both, sizeof both) == 0);
     HOLD(answers(sarpukten_bisect_entry(object, 57, SARPUKTEN_SHA1, records, 10, BYTES("b"), 1, true, answer), 5, found));
     HOLD(answers(sarpukten_bisect_entry(object, 57, SARPUKTEN_SHA1, records, 10, BYTES("b"), 1, false, answer), 5, absent));

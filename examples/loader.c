@@ -78,7 +78,7 @@ int main(int argc, char **argv)
         return 2;
     }
 
-    number = sarpukten_read_tree_strict(object, len, h, records, SARPUKTEN_ENTRY * lent, answer);
+    number = sarpukten_read_tree_strict(object, len, h, SARPUKTEN_PRESENT, records, SARPUKTEN_ENTRY * lent, answer);
     place = answer[1];
     if (number == SARPUKTEN_DONE) {
         number = sarpukten_bisect_entry(

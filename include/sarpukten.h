@@ -43,7 +43,7 @@ enum {
     SARPUKTEN_BOUND = 2,             /* a buffer or list is over its bound, or an object has more entries than that; place 0 */
     SARPUKTEN_BROKEN_ENTRY = 3,      /* an entry cannot be read; place: its first byte. A mode text alone: place 0 */
     SARPUKTEN_FEW_RECORDS = 4,       /* the lent list is too short; place: how many records are needed */
-    SARPUKTEN_MODE_TEXT = 5,         /* strict: the mode text is none of the five; place: the entry's first byte */
+    SARPUKTEN_MODE_TEXT = 5,         /* strict: the mode text is none of the rule set's; place: the entry's first byte */
     SARPUKTEN_NAME = 6,              /* strict: the name is not permitted; place: the entry's first byte */
     SARPUKTEN_ORDER = 7,             /* strict: the entry is not after the one before; place: the entry's first byte */
     SARPUKTEN_SHORT_OUTPUT = 8,      /* the output is too short; place: how many bytes are needed */
@@ -55,6 +55,7 @@ enum {
     SARPUKTEN_LF_IN_ENCODING = 14,   /* writing: the encoding has an LF; place 0 */
     SARPUKTEN_NOT_THERE = 15,        /* lookup: no such entry; place 0 */
     SARPUKTEN_DOT_GIT = 18,          /* strict: the name is .git with letters in upper case; place: the entry's first byte */
+    SARPUKTEN_RULE_SET = 19,         /* strict: there is no such rule set; place 0 */
     SARPUKTEN_NO_MODE_OR_KIND = 23   /* a number is no mode, or no kind of object; place 0 */
 };
 
@@ -69,6 +70,8 @@ enum {
 
 #define SARPUKTEN_SHA1 ((size_t)20)               /* the two lengths of ids in bytes: `h` below */
 #define SARPUKTEN_SHA256 ((size_t)32)
+#define SARPUKTEN_WITH_100664 ((uint16_t)1)       /* the two rule sets of strict reading */
+#define SARPUKTEN_PRESENT ((uint16_t)2)
 #define SARPUKTEN_MOST_BYTES ((size_t)1073741824) /* the longest byte buffer */
 #define SARPUKTEN_MOST_RECORDS ((size_t)1048576)  /* the longest list, in records */
 
@@ -155,10 +158,11 @@ size_t sarpukten_tree_step(const uint8_t *bytes, size_t bytes_len, size_t h, siz
 size_t sarpukten_read_tree(
     const uint8_t *bytes, size_t bytes_len, size_t h, size_t *records, size_t records_len, size_t answer[4]);
 
-/* The same for an object as Git writes it. Refuses also 5, 6, 7, 18. For an object from outside this is the one to call: two objects that it
+/* The same for an object as Git writes it, by a rule set: SARPUKTEN_PRESENT, or SARPUKTEN_WITH_100664, which permits that mode besides
+ * the five. Refuses also 19 (after 1 and before 2), 5, 6, 7, 18. For an object from outside this is the one to call: two objects that it
  * takes with the same entries are the same bytes, and so have the same id. */
 size_t sarpukten_read_tree_strict(
-    const uint8_t *bytes, size_t bytes_len, size_t h, size_t *records, size_t records_len, size_t answer[4]);
+    const uint8_t *bytes, size_t bytes_len, size_t h, uint16_t rules, size_t *records, size_t records_len, size_t answer[4]);
 
 /* The entry with a name, of a folder (true) or not, by halving. Among the records of an object that was read strictly, and for a name
  * without a slash, it is found exactly where it is there; `a/b` is answered as folder `a` is. Refuses 1, 2, 10 (for a record that it

@@ -56,16 +56,16 @@ def for_rust(numbers):
     return [r[:4] for r in paper.by(paper.WIDTH, numbers)]
 
 
-def tree_reading(h, object, room):
+def tree_reading(h, object, room, rules=2):
     """The plain and the strict reader. The Rust speaks of the plain one: entries, or the place of a 3."""
     plain, records = paper.tree_read(h, object, room, strict=False)
-    strict, _same = paper.tree_read(h, object, room, strict=True)
+    strict, _same = paper.tree_read(h, object, room, strict=True, rules=rules)
     question = expected = None
     if h in (20, 32):                      # the Rust's list grows: it is asked as with room enough
         (n, place, _part, count), all_records = paper.tree_read(h, object, paper.WIDTH * len(object), strict=False)
         question = spaced("tree", h, hexed(object))
         expected = spaced("no", place) if n else spaced("ok", count, *sum(for_rust(all_records), ()))
-    return Case("trees", 5, [h, object, room], [*plain, records, *strict], (plain[0], strict[0]), question, expected)
+    return Case("trees", 5, [h, object, room, rules], [*plain, records, *strict], (plain[0], strict[0]), question, expected)
 
 
 def lookup(h, object, numbers, name, is_tree):

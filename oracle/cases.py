@@ -22,6 +22,7 @@ from lists import LIST, read_list
 
 HUGE = [2**64 - 1, 2**64 - 20, 2**63, 2**32, 65536]
 BAD_H = [0, 1, 19, 21, 31, 33, 40, 64, 2**32 + 20, 2**64 - 1]
+RULE_SETS = [0, 1, 2, 3, 4, 258, 2**15, 2**16 - 1]
 rnd = random.Random(20)
 
 # ---------------------------------------------------------------- making cases: helpers
@@ -141,7 +142,7 @@ def random_tree_reading():
     if chance(4):
         h = 52 - h if h in (20, 32) else h          # read with the other length
     n = paper.tree_read(h, object, paper.WIDTH * len(object), False)[0][3]
-    return tree_reading(h, object, around(n, paper.WIDTH))
+    return tree_reading(h, object, around(n, paper.WIDTH), rnd.choice([2] * 60 + [1] * 30 + RULE_SETS))
 
 
 def some_records(h, most):
@@ -359,6 +360,13 @@ def exhaustive(long):
             yield tree_reading(20, O[:n] + bytes([letter]) + O[n + 1:], 10)
     for room in range(15):
         yield tree_reading(20, O, room)
+    # Rule sets: of each mode text, with each id length, and before a list without room.
+    for rules in RULE_SETS:
+        for mode in [*FIVE, b"100664", b"0100664", b"1100664", b"100664 ", b"10066", b"100600", b"040000"]:
+            yield tree_reading(20, mode + b" a\0" + b"\x11" * 20, 5, rules)
+        for h in (19, 20, 32):
+            for object, room in itertools.product((b"", O, b"8", O[:56], b"100664 a\0" + b"\x11" * 20 + b"100664 .GIT\0" + b"\x22" * 20), (4, 10)):
+                yield tree_reading(h, object, room, rules)
     # `.git` with its letters in either case, and what is near it; after an entry that it may not follow; with a mode text of its own fault.
     near = [b".GITX", b"GIT", b".GI", b".G", b".GIT.", b"x.GIT", b"\x0eGIT", b"\x0egit", b".\x07it", b".g\tt", b".gi\x14", b".g@t", b".[it", b".gi\xf4"]
     for name in [bytes(x) for x in itertools.product(b".", b"gG", b"iI", b"tT")] + near:

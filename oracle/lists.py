@@ -23,7 +23,7 @@ def number(n):
 
 # The fields of each call, in and out: n a number, b bytes, l a list of numbers, r a room in bytes, m one in numbers.
 SHAPES = {("trees", 1): ("b", "nnn"), ("trees", 2): ("n", "nnnbb"), ("trees", 3): ("n", "nn"), ("trees", 4): ("bnbn", "n"),
-          ("trees", 5): ("nbm", "nnnnlnnnn"), ("trees", 6): ("nblbn", "nnnn"), ("trees", 7): ("nblr", "nnnnnnb"), ("trees", 8): ("nnr", "nnnb"),
+          ("trees", 5): ("nbmn", "nnnnlnnnn"), ("trees", 6): ("nblbn", "nnnn"), ("trees", 7): ("nblr", "nnnnnnb"), ("trees", 8): ("nnr", "nnnb"),
           ("commits", 1): ("nbmm", "nnn" + "n" * 10 + "ll"), ("commits", 2): ("bnnnnnr", "nnnb"), ("commits", 3): ("nbll" + "n" * 10 + "r", "nnnnnnb")}
 
 # A program that replays the list needs no larger buffers than these.

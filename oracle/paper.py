@@ -11,7 +11,7 @@ MAX_RECORDS = 1_048_576        # "any list at most"
 # "The numbers"
 DONE, BAD_H, OVER, UNREADABLE, FEW_RECORDS, BAD_MODE_TEXT, BAD_NAME, NOT_AFTER = range(8)
 SHORT_OUTPUT, NUL_IN_NAME, BAD_RECORD, FIELD, ACTOR, EMPTY_ENCODING, LF_ENCODING, NOT_THERE = range(8, 16)
-DOT_GIT, NOT_ACCEPTABLE = 18, 23
+DOT_GIT, NO_RULE_SET, NOT_ACCEPTABLE = 18, 19, 23
 WIDTH = 5                      # the numbers of an entry's record
 NO_MODE, NO_NUL, CUT_ID = 1, 2, 3      # the parts of UNREADABLE
 
@@ -150,14 +150,17 @@ def permitted(name):
     return len(name) > 0 and NUL not in name and SLASH not in name and name not in (b".", b"..", b".git")
 
 
-def tree_read(h, object, room, strict):
+def tree_read(h, object, room, strict, rules=2):
     """Entries and Strict reader; "Order. Reading". `room` is in numbers. (number, place, part, count), records (flat)."""
     lent = room // WIDTH
     if bad_h(h):
         return (BAD_H, 0, 0, 0), []
+    if strict and rules not in (1, 2):
+        return (NO_RULE_SET, 0, 0, 0), []
     if over([len(object)], [lent]):
         return (OVER, 0, 0, 0), []
     at, records, before = 0, [], None
+    texts = [text for text, _word in KINDS] + ([b"100664"] if rules == 1 else [])
     while at < len(object):
         if len(records) == MAX_RECORDS:
             return (OVER, 0, 0, 0), []
@@ -167,7 +170,7 @@ def tree_read(h, object, room, strict):
         mode, name, name_end, _id, _first = entry
         now = (object[name:name_end], is_tree(mode))
         if strict:
-            if object[at:name - 1] not in [text for text, _word in KINDS]:
+            if object[at:name - 1] not in texts:
                 return (BAD_MODE_TEXT, at, 0, 0), []
             if not permitted(now[0]):
                 return (BAD_NAME, at, 0, 0), []

@@ -2,7 +2,7 @@
 mod c {
     unsafe extern "C" {
         pub fn sarpukten_read_tree(s: *const u8, n: usize, h: usize, out: *mut usize, room: usize, answer: *mut [usize; 4]);
-        pub fn sarpukten_read_tree_strict(s: *const u8, n: usize, h: usize, out: *mut usize, room: usize, answer: *mut [usize; 4]);
+        pub fn sarpukten_read_tree_strict(s: *const u8, n: usize, h: usize, rules: u16, out: *mut usize, room: usize, answer: *mut [usize; 4]);
         pub fn sarpukten_bisect_entry(s: *const u8, n: usize, h: usize, records: *const usize, many: usize, name: *const u8, len: usize, folder: bool, answer: *mut [usize; 5]);
         pub fn sarpukten_write_tree(s: *const u8, n: usize, h: usize, records: *const usize, many: usize, out: *mut u8, room: usize, answer: *mut [usize; 4]);
         pub fn sarpukten_write_commit(
@@ -21,7 +21,7 @@ pub fn read_tree(s: &[u8], out: &mut [usize]) -> [usize; 4] {
 
 pub fn read_tree_strict(s: &[u8], out: &mut [usize]) -> [usize; 4] {
     let mut answer = [0; 4];
-    unsafe { c::sarpukten_read_tree_strict(s.as_ptr(), s.len(), 20, out.as_mut_ptr(), out.len(), &mut answer) };
+    unsafe { c::sarpukten_read_tree_strict(s.as_ptr(), s.len(), 20, 2, out.as_mut_ptr(), out.len(), &mut answer) };
     answer
 }
 

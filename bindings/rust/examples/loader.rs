@@ -4,7 +4,7 @@
 //!
 //! Exit status 0: the id is printed. 1: one line `refused N at P`, where N is 15 if there is no such folder. 2: the file cannot be read,
 //! or wrong arguments. examples/loader.c does the same.
-use sarpukten::{Error, Kind, ObjectId, TreeRef, MOST_BYTES};
+use sarpukten::{Error, Kind, ObjectId, RuleSet, TreeRef, MOST_BYTES};
 use std::env;
 use std::ffi::OsStr;
 use std::fs::File;
@@ -20,7 +20,7 @@ fn read_file(path: &OsStr) -> io::Result<Vec<u8>> {
 }
 
 fn folder(object: &[u8], kind: Kind, name: &[u8]) -> Result<ObjectId, Error> {
-    let tree = TreeRef::from_bytes_strict(object, kind)?;
+    let tree = TreeRef::from_bytes_strict(object, kind, RuleSet::Present)?;
     let entry = tree.bisect_entry(name, true).ok_or(Error { number: 15, place: 0, part: 0, field: 0 })?;
     Ok(entry.object_id().expect("an entry of a tree that was read has an id"))
 }

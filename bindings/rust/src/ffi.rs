@@ -22,6 +22,7 @@ extern "C" {
         bytes: *const u8,
         bytes_len: usize,
         h: usize,
+        rules: u16,
         records: *mut usize,
         records_len: usize,
         answer: &mut [usize; 4],

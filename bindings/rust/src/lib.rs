@@ -11,7 +11,7 @@ mod tree;
 pub use commit::CommitRef;
 pub use id::{Kind, ObjectId};
 pub use mode::{EntryKind, EntryMode};
-pub use tree::{name_order, tree_to_bytes, EntryRef, TreeRef, TreeRefIter};
+pub use tree::{name_order, tree_to_bytes, EntryRef, RuleSet, TreeRef, TreeRefIter};
 
 use std::fmt;
 
@@ -36,7 +36,7 @@ impl Error {
             2 => "a buffer or list is over its bound",
             3 => "an entry cannot be read",
             4 => "too few records are lent",
-            5 => "the mode text is none of the five",
+            5 => "the mode text is none of the rule set's",
             6 => "the name is not permitted",
             7 => "the entry does not stand after the one before",
             8 => "the output is too short",
@@ -48,6 +48,7 @@ impl Error {
             14 => "the encoding has an LF",
             15 => "no such entry",
             18 => "the name is .git with letters in upper case",
+            19 => "there is no such rule set",
             23 => "a number is no mode or no kind of object",
             _ => "unknown",
         }

@@ -49,25 +49,37 @@ pub struct TreeRef<'a> {
     records: Vec<usize>,
 }
 
-type Reader = unsafe extern "C" fn(*const u8, usize, usize, *mut usize, usize, &mut [usize; 4]) -> usize;
+/// What a strict reading permits.
+#[derive(Clone, Copy, Debug, PartialEq, Eq)]
+pub enum RuleSet {
+    /// The five modes, and 100664 of early Git's group-writable files.
+    With100664 = 1,
+    /// The five modes.
+    Present = 2,
+}
 
 impl<'a> TreeRef<'a> {
     /// Reads an object plainly: whatever has the form of entries is taken, in any order.
     pub fn from_bytes(data: &'a [u8], kind: Kind) -> Result<TreeRef<'a>, Error> {
-        TreeRef::read(ffi::sarpukten_read_tree, data, kind)
+        // SAFETY: the lengths are those of what is lent, which lives through the call.
+        TreeRef::read(data, kind, |records, answer| unsafe {
+            ffi::sarpukten_read_tree(data.as_ptr(), data.len(), kind.len_in_bytes(), records.as_mut_ptr(), records.len(), answer)
+        })
     }
 
-    /// Reads an object strictly: the five mode texts, permitted names, in order and none twice. For objects from outside.
-    pub fn from_bytes_strict(data: &'a [u8], kind: Kind) -> Result<TreeRef<'a>, Error> {
-        TreeRef::read(ffi::sarpukten_read_tree_strict, data, kind)
+    /// Reads an object strictly: the mode texts of a rule set, permitted names, in order and none twice. For objects from outside.
+    pub fn from_bytes_strict(data: &'a [u8], kind: Kind, rules: RuleSet) -> Result<TreeRef<'a>, Error> {
+        // SAFETY: the lengths are those of what is lent, which lives through the call.
+        TreeRef::read(data, kind, |records, answer| unsafe {
+            ffi::sarpukten_read_tree_strict(data.as_ptr(), data.len(), kind.len_in_bytes(), rules as u16, records.as_mut_ptr(), records.len(), answer)
+        })
     }
 
-    fn read(reader: Reader, data: &'a [u8], kind: Kind) -> Result<TreeRef<'a>, Error> {
+    fn read(data: &'a [u8], kind: Kind, reader: impl Fn(&mut [usize], &mut [usize; 4]) -> usize) -> Result<TreeRef<'a>, Error> {
         let mut records = vec![0; guess(data.len(), kind)];
         loop {
             let mut answer = [0; 4];
-            // SAFETY: `data` lives through the call, `records` and `answer` are ours alone, and the lengths are theirs.
-            unsafe { reader(data.as_ptr(), data.len(), kind.len_in_bytes(), records.as_mut_ptr(), records.len(), &mut answer) };
+            reader(&mut records, &mut answer);
             match counted(answer) {
                 Ok(count) => {
                     records.truncate(WIDTH * count);

@@ -1,5 +1,5 @@
 //! Trees through the bindings.
-use sarpukten::{name_order, tree_to_bytes, EntryKind, EntryMode, EntryRef, Error, Kind, TreeRef, TreeRefIter};
+use sarpukten::{name_order, tree_to_bytes, EntryKind, EntryMode, EntryRef, Error, Kind, RuleSet, TreeRef, TreeRefIter};
 use std::cmp::Ordering;
 
 fn refused(number: usize, place: usize) -> Error {
@@ -37,7 +37,7 @@ fn noise(seed: u64, len: usize) -> Vec<u8> {
 fn reads_finds_and_writes() {
     for kind in [Kind::Sha1, Kind::Sha256] {
         let data = object(kind, &["100644 a", "100644 a.b", "40000 a", "100755 a0", "40000 guest", "120000 z"]);
-        for tree in [TreeRef::from_bytes(&data, kind).unwrap(), TreeRef::from_bytes_strict(&data, kind).unwrap()] {
+        for tree in [TreeRef::from_bytes(&data, kind).unwrap(), TreeRef::from_bytes_strict(&data, kind, RuleSet::Present).unwrap()] {
             assert_eq!(tree.len(), 6);
             assert_eq!(tree.entries().len(), 6);
             let names: Vec<_> = tree.entries().map(|e| e.filename).collect();
@@ -69,7 +69,7 @@ fn reads_finds_and_writes() {
 
 #[test]
 fn the_empty_object() {
-    for tree in [TreeRef::from_bytes(b"", Kind::Sha1), TreeRef::from_bytes_strict(b"", Kind::Sha256)] {
+    for tree in [TreeRef::from_bytes(b"", Kind::Sha1), TreeRef::from_bytes_strict(b"", Kind::Sha256, RuleSet::With100664)] {
         let tree = tree.unwrap();
         assert!(tree.is_empty());
         assert_eq!(tree.bisect_entry_counted(b"a", true), (None, 0));
@@ -84,7 +84,7 @@ fn more_entries_than_guessed() {
     let data = object(Kind::Sha1, &[" "; 200]);
     let tree = TreeRef::from_bytes(&data, Kind::Sha1).unwrap();
     assert_eq!(tree.len(), 200);
-    assert_eq!(TreeRef::from_bytes_strict(&data, Kind::Sha1).unwrap_err(), refused(5, 0));
+    assert_eq!(TreeRef::from_bytes_strict(&data, Kind::Sha1, RuleSet::Present).unwrap_err(), refused(5, 0));
 }
 
 #[test]
@@ -94,13 +94,15 @@ fn refusals() {
     let cut = &o[..56];
     assert_eq!(TreeRef::from_bytes(cut, Kind::Sha1).unwrap_err(), broken(29, 3));
     assert_eq!(TreeRef::from_bytes(cut, Kind::Sha1).unwrap_err().to_string(), "refused 3 at 29");
-    assert_eq!(TreeRef::from_bytes_strict(cut, Kind::Sha1).unwrap_err(), broken(29, 3));
+    assert_eq!(TreeRef::from_bytes_strict(cut, Kind::Sha1, RuleSet::Present).unwrap_err(), broken(29, 3));
     let mut steps = TreeRefIter::from_bytes(cut, Kind::Sha1);
     assert_eq!(steps.next().unwrap().unwrap().filename, b"a");
     assert_eq!(steps.next(), Some(Err(broken(29, 3))));
     assert_eq!(steps.next(), None);
-    let strictly = |entries: &[&str]| TreeRef::from_bytes_strict(&object(Kind::Sha1, entries), Kind::Sha1).unwrap_err();
+    let strictly = |entries: &[&str]| TreeRef::from_bytes_strict(&object(Kind::Sha1, entries), Kind::Sha1, RuleSet::Present).unwrap_err();
     assert_eq!(strictly(&["100644 a", "100664 b"]), refused(5, 29));
+    let early = object(Kind::Sha1, &["100644 a", "100664 b"]);
+    assert_eq!(TreeRef::from_bytes_strict(&early, Kind::Sha1, RuleSet::With100664).unwrap().entries().count(), 2);
     assert_eq!(strictly(&["100644 a", "040000 b"]), refused(5, 29));
     for name in ["", ".", "..", ".git", "a/b"] {
         assert_eq!(strictly(&[&format!("100644 {name}")]), refused(6, 0));
@@ -150,7 +152,7 @@ fn any_bytes() {
             (Err(a), Err(b)) => assert_eq!(a, b),
             _ => panic!("the two readers differ"),
         }
-        if let Ok(strict) = TreeRef::from_bytes_strict(&data, Kind::Sha1) {
+        if let Ok(strict) = TreeRef::from_bytes_strict(&data, Kind::Sha1, RuleSet::Present) {
             let plain = plain.expect("what is read strictly is read plainly");
             assert!(strict.entries().eq(plain.entries()));
             let mut out = Vec::new();

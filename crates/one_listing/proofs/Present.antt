@@ -1,4 +1,4 @@
--- The present rules keep the laws of the theorem; and a sound listing in plain words is a sound listing under them. Assumes nothing.
+-- The rules of a rule set keep the laws of the theorem; and a sound listing in plain words is a sound listing under them. Assumes nothing.
 use Prim.Native.Nat.{ℕ, suc}
 use native.Mathlib.Omega.{arith}
 use mathlib.Core.Path.{_≡_, refl, sym, ap}
@@ -15,9 +15,9 @@ use Rattle.mode.specs.Write.{writeMode, trimmed, again}
 use Rattle.order.specs.declared.Order.{Order}
 use Rattle.order.specs.declared.Order.the-variants.{Below, Same, Above}
 use Rattle.entry.specs.Entry.{Entry}
-use Rattle.reading.specs.Rules.{orElse, permitted, lower, isDotGit, nameNumber, isBelow, standsBefore, isAfter, gitRules}
+use Rattle.reading.specs.Rules.{orElse, groupRow, modesOf, permitted, lower, isDotGit, nameNumber, isBelow, standsBefore, isAfter, gitRules}
 use Rattle.reading.proofs.Judging.{permitted-parts}
-use Rattle.one_listing.specs.Sound.{isMode, Permitted, Sound, SoundEntry, Before, Ascending, EachSound, SoundListing}
+use Rattle.one_listing.specs.Sound.{isMode, Permitted, Sound, Five, SoundEntry, Before, Ascending, EachSound, SoundListing}
 use Rattle.one_listing.specs.Demand.{OneListing, ShortRoom, OneObject}
 use Rattle.one_listing.proofs.Cutting.{RowsOk, RulesOk}
 use Rattle.one_listing.proofs.Theorem.{one-listing, short-room, one-object}
@@ -42,6 +42,14 @@ rows-ok = (
     ),
   ),
 )
+
+modes-ok : (k : ℕ) → RowsOk (modesOf k)
+unfolding groupRow writeMode trimmed again
+modes-ok k = go (eqb k 1)
+  where
+    go : (v : Bool) → RowsOk (pick v (groupRow ∷ rows) rows)
+    go true = (record { written = refl; some = λ e. omega arith; small = omega arith; same = refl }, rows-ok)
+    go false = rows-ok
 
 passed : (v : Bool) (j : ℕ) → _≡_ {A = ℕ} (pick v 0 (suc j)) 0 → v ≡ true
 passed true j e = refl
@@ -73,11 +81,11 @@ named-parts n e = go (permitted n) (isDotGit n) e
     go true false e = (refl, refl)
     go false g e = absurd (omega arith)
 
-pub git-ok : RulesOk gitRules
+pub git-ok : (k : ℕ) → RulesOk (gitRules k)
 unfolding gitRules
-git-ok =
+git-ok k =
     record {
-      modes = rows-ok;
+      modes = modes-ok k;
       names = λ n e. permitted-parts n (named-parts n e .0) .1;
       after = λ p ps e q. after-before p ps e (passed (isAfter (p ∷ ps) e) 6 q);
     }
@@ -85,9 +93,6 @@ git-ok =
 -- ---- in plain words
 
 -- Git's five modes are the modes of the rows
-abbrev Five : ℕ → Type 0
-Five m = (m ≡ 0o40000) ⊎ ((m ≡ 0o100644) ⊎ ((m ≡ 0o100755) ⊎ ((m ≡ 0o120000) ⊎ (m ≡ 0o160000))))
-
 mode-five : (m : ℕ) → isMode rows m ≡ true → Five m
 unfolding isMode rows
 mode-five m e = first (eqb 0o40000 m) refl e
@@ -124,6 +129,32 @@ five-mode m (inr (inr (inl e))) = rw e
 five-mode m (inr (inr (inr (inl e)))) = rw e
 five-mode m (inr (inr (inr (inr e)))) = rw e
 
+-- and those of a rule set are the five, and by set 1 one more
+mode-known : (k m : ℕ) → isMode (modesOf k) m ≡ true → Five m ⊎ ((k ≡ 1) × (m ≡ 0o100664))
+unfolding isMode groupRow
+mode-known k m e = go (eqb k 1) refl e
+  where
+    more : k ≡ 1 → (v : Bool) → eqb 0o100664 m ≡ v → (v || isMode rows m) ≡ true → Five m ⊎ ((k ≡ 1) × (m ≡ 0o100664))
+    more one true q e = inr (one, sym (eqb-true 0o100664 m q))
+    more one false q e = inl (mode-five m e)
+
+    go : (v : Bool) → eqb k 1 ≡ v → isMode (pick v (groupRow ∷ rows) rows) m ≡ true → Five m ⊎ ((k ≡ 1) × (m ≡ 0o100664))
+    go true q e = more (eqb-true k 1 q) (eqb 0o100664 m) refl e
+    go false q e = inl (mode-five m e)
+
+known-mode : (k m : ℕ) → Five m ⊎ ((k ≡ 1) × (m ≡ 0o100664)) → isMode (modesOf k) m ≡ true
+unfolding isMode groupRow
+known-mode k m (inl five) = go (eqb k 1)
+  where
+    more : (v : Bool) → (v || isMode rows m) ≡ true
+    more true = refl
+    more false = five-mode m five
+
+    go : (v : Bool) → isMode (pick v (groupRow ∷ rows) rows) m ≡ true
+    go true = more (eqb 0o100664 m)
+    go false = five-mode m five
+known-mode k m (inr (one, e)) = rw (one, e)
+
 -- a name that is not this one
 not-this : (n t : List ℕ) → not (sameBytes n t) ≡ true → n ≡ t → ⊥
 not-this n t e q = let g : not (sameBytes t t) ≡ true = rw q at e in let f : false ≡ true = rw (same-refl t) at g in absurd (false≢true f)
@@ -131,13 +162,13 @@ not-this n t e q = let g : not (sameBytes t t) ≡ true = rw q at e in let f : f
 this-not : (n t : List ℕ) → (n ≡ t → ⊥) → sameBytes n t ≡ false
 this-not n t f = is-false (sameBytes n t) (λ e. f (same-true n t e))
 
-permitted-plain : (h : ℕ) (before : List Entry) (e : Entry) → Permitted gitRules h before e → SoundEntry h e
+permitted-plain : (k h : ℕ) (before : List Entry) (e : Entry) → Permitted (gitRules k) h before e → SoundEntry k h e
 unfolding gitRules isDotGit
-permitted-plain h before e p =
+permitted-plain k h before e p =
     let m = named-parts (e .name) (p .named) in
     let n = permitted-parts (e .name) (m .0) in
     record {
-      mode = mode-five (e .mode) (p .known);
+      mode = mode-known k (e .mode) (p .known);
       some = not-this (e .name) [] (n .0);
       nulless = n .1;
       slashless = n .2;
@@ -147,9 +178,9 @@ permitted-plain h before e p =
       sized = p .sized;
     }
 
-name-fine : (h : ℕ) (e : Entry) → SoundEntry h e → nameNumber (e .name) ≡ 0
+name-fine : (k h : ℕ) (e : Entry) → SoundEntry k h e → nameNumber (e .name) ≡ 0
 unfolding nameNumber permitted isDotGit
-name-fine h e s =
+name-fine k h e s =
     rw (
       this-not (e .name) [] (s .some),
       s .nulless,
@@ -160,19 +191,19 @@ name-fine h e s =
       this-not (map lower (e .name)) (ascii ".git") (s .no-git),
     )
 
-plain-permitted : (h : ℕ) (before : List Entry) (e : Entry) → SoundEntry h e → isAfter before e ≡ true → Permitted gitRules h before e
+plain-permitted : (k h : ℕ) (before : List Entry) (e : Entry) → SoundEntry k h e → isAfter before e ≡ true → Permitted (gitRules k) h before e
 unfolding gitRules
-plain-permitted h before e s a =
-    record { known = five-mode (e .mode) (s .mode); named = name-fine h e s; placed = fine (isAfter before e) 6 a; sized = s .sized }
+plain-permitted k h before e s a =
+    record { known = known-mode k (e .mode) (s .mode); named = name-fine k h e s; placed = fine (isAfter before e) 6 a; sized = s .sized }
 
-sound-each : (h : ℕ) (before es : List Entry) → Sound gitRules h before es → EachSound h es
-sound-each h before [] s = tt
-sound-each h before (e ∷ es) s = (permitted-plain h before e (s .0), sound-each h (e ∷ before) es (s .1))
+sound-each : (k h : ℕ) (before es : List Entry) → Sound (gitRules k) h before es → EachSound k h es
+sound-each k h before [] s = tt
+sound-each k h before (e ∷ es) s = (permitted-plain k h before e (s .0), sound-each k h (e ∷ before) es (s .1))
 
-sound-ascends : (h : ℕ) (before es : List Entry) → Sound gitRules h before es → Ascending es
-sound-ascends h before [] s = tt
-sound-ascends h before (a ∷ []) s = tt
-sound-ascends h before (a ∷ b ∷ es) s = (git-ok .after a before b (s .1 .0 .placed), sound-ascends h (a ∷ before) (b ∷ es) (s .1))
+sound-ascends : (k h : ℕ) (before es : List Entry) → Sound (gitRules k) h before es → Ascending es
+sound-ascends k h before [] s = tt
+sound-ascends k h before (a ∷ []) s = tt
+sound-ascends k h before (a ∷ b ∷ es) s = (git-ok k .after a before b (s .1 .0 .placed), sound-ascends k h (a ∷ before) (b ∷ es) (s .1))
 
 -- the first entry stands after the one before
 abbrev Follows : List Entry → List Entry → Type 0
@@ -187,26 +218,26 @@ ascends-rest : (a : Entry) (es : List Entry) → Ascending (a ∷ es) → Ascend
 ascends-rest a [] s = tt
 ascends-rest a (b ∷ es) s = s .1
 
-each-sound : (h : ℕ) (before es : List Entry) → EachSound h es → Ascending es → Follows before es → Sound gitRules h before es
-each-sound h before [] s a f = tt
-each-sound h before (e ∷ es) s a f = (plain-permitted h before e (s .0) f, each-sound h (e ∷ before) es (s .1) (ascends-rest e es a) (follows e before es a))
+each-sound : (k h : ℕ) (before es : List Entry) → EachSound k h es → Ascending es → Follows before es → Sound (gitRules k) h before es
+each-sound k h before [] s a f = tt
+each-sound k h before (e ∷ es) s a f = (plain-permitted k h before e (s .0) f, each-sound k h (e ∷ before) es (s .1) (ascends-rest e es a) (follows e before es a))
 
 first-follows : (es : List Entry) → Follows [] es
 unfolding isAfter
 first-follows [] = tt
 first-follows (e ∷ es) = refl
 
--- sound in plain words is sound under the present rules
-pub plainly : (h : ℕ) (es : List Entry) → SoundListing h es ↔ Sound gitRules h [] es
-plainly h es = ((λ s. each-sound h [] es (s .0) (s .1) (first-follows es)), (λ s. (sound-each h [] es s, sound-ascends h [] es s)))
+-- sound in plain words is sound under a rule set
+pub plainly : (k h : ℕ) (es : List Entry) → SoundListing k h es ↔ Sound (gitRules k) h [] es
+plainly k h es = ((λ s. each-sound k h [] es (s .0) (s .1) (first-follows es)), (λ s. (sound-each k h [] es s, sound-ascends k h [] es s)))
 
--- ---- the theorem for the present rules
+-- ---- the theorem for a rule set
 
-pub git-one-listing : OneListing gitRules
-git-one-listing = one-listing gitRules git-ok
+pub git-one-listing : (k : ℕ) → OneListing (gitRules k)
+git-one-listing k = one-listing (gitRules k) (git-ok k)
 
-pub git-short-room : ShortRoom gitRules
-git-short-room = short-room gitRules git-ok
+pub git-short-room : (k : ℕ) → ShortRoom (gitRules k)
+git-short-room k = short-room (gitRules k) (git-ok k)
 
-pub git-one-object : OneObject gitRules
-git-one-object = one-object gitRules git-ok
+pub git-one-object : (k : ℕ) → OneObject (gitRules k)
+git-one-object k = one-object (gitRules k) (git-ok k)

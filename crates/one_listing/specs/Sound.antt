@@ -1,4 +1,4 @@
--- Sound listings, for any rules, and in plain words for the present ones. Assumes nothing.
+-- Sound listings, for any rules, and in plain words for those of a rule set. Assumes nothing.
 use Prim.Native.Nat.{ℕ}
 use mathlib.Core.Path.{_≡_}
 use mathlib.Core.Bool.{Bool, true, false, _||_}
@@ -34,10 +34,14 @@ Sound R h before (e ∷ es) = Permitted R h before e × Sound R h (e ∷ before)
 
 -- ---- in plain words
 
--- one of Git's five modes; a name that is not empty, has no NUL and no slash, and is none of `.`, `..` and, in
--- letters of either case, `.git`; an id of h bytes
-pub record SoundEntry (h : ℕ) (e : Entry) : Type 0 where
-  pub mode : (e .mode ≡ 0o40000) ⊎ ((e .mode ≡ 0o100644) ⊎ ((e .mode ≡ 0o100755) ⊎ ((e .mode ≡ 0o120000) ⊎ (e .mode ≡ 0o160000))))
+-- Git's five modes
+abbrev pub Five : ℕ → Type 0
+Five m = (m ≡ 0o40000) ⊎ ((m ≡ 0o100644) ⊎ ((m ≡ 0o100755) ⊎ ((m ≡ 0o120000) ⊎ (m ≡ 0o160000))))
+
+-- by rule set k: one of the five modes, and by set 1 also that of early Git's group-writable files; a name that is not empty, has no NUL and no slash, and is
+-- none of `.`, `..` and, in letters of either case, `.git`; an id of h bytes
+pub record SoundEntry (k h : ℕ) (e : Entry) : Type 0 where
+  pub mode : Five (e .mode) ⊎ ((k ≡ 1) × (e .mode ≡ 0o100664))
   pub some : e .name ≡ [] → ⊥
   pub nulless : freeOf 0 (e .name) ≡ true
   pub slashless : freeOf 47 (e .name) ≡ true
@@ -57,10 +61,10 @@ Ascending (a ∷ []) = Unit {0}
 Ascending (a ∷ b ∷ es) = Before a b × Ascending (b ∷ es)
 
 -- each entry is sound
-abbrev pub EachSound : ℕ → List Entry → Type 0
-EachSound h [] = Unit {0}
-EachSound h (e ∷ es) = SoundEntry h e × EachSound h es
+abbrev pub EachSound : ℕ → ℕ → List Entry → Type 0
+EachSound k h [] = Unit {0}
+EachSound k h (e ∷ es) = SoundEntry k h e × EachSound k h es
 
--- a sound listing
-abbrev pub SoundListing : ℕ → List Entry → Type 0
-SoundListing h es = EachSound h es × Ascending es
+-- a sound listing by rule set k
+abbrev pub SoundListing : ℕ → ℕ → List Entry → Type 0
+SoundListing k h es = EachSound k h es × Ascending es

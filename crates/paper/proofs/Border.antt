@@ -26,7 +26,7 @@ of-border = record {
       (λ i. each-step (Of _ (λ x. stepIn (stepNumbers x))) _ _ _ (zero refl refl) (zero refl refl) (done refl refl) (λ k p. zero refl p) (λ e next. done refl refl)) (λ i z. refl);
   read-tree = keeps-hands _ _ saidIn _ _ _ _ _ _ (λ i o m. (m .0, m .1 .0, one-list (m .1 .1))) (λ i. wider (plain-fits _ (now (i .args .0)) (now (i .args .1 .1 .0))) refl)
       (λ i z. one-list (stored-refused _ _ _ z));
-  read-tree-strict = keeps-hands _ _ saidIn _ _ _ _ _ _ (λ i o m. (m .0, m .1 .0, one-list (m .1 .1))) (λ i. wider (strict-fits _ (now (i .args .0)) (now (i .args .1 .1 .0))) refl)
+  read-tree-strict = keeps-hands _ _ saidIn _ _ _ _ _ _ (λ i o m. (m .0, m .1 .0, one-list (m .1 .1))) (λ i. wider (strict-fits _ _ (now (i .args .0)) (now (i .args .1 .1 .1 .0))) refl)
       (λ i z. one-list (stored-refused _ _ _ z));
   bisect-entry = keeps-hands _ _ saidIn _ _ _ _ _ _ (λ i o m. (m .0, m .1, refl)) (λ i. wider (looked-fits _ _ _ _ _) refl) (λ i z. refl);
   tree-size = keeps-hands _ _ saidIn _ _ _ _ _ _ (λ i o m. (m .0, m .1, refl)) (λ i. wider (size-fits _ _ _) refl) (λ i z. refl);

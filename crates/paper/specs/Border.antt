@@ -55,7 +55,8 @@ abbrev pub readTree : Deed
 readTree = hands (call c.sarpukten_read_tree.Kinds.ps c.sarpukten_read_tree.Kinds.r c.sarpukten_read_tree.Reads.Post) (λ i o. now (o .last .1 .1 .1 .0)) saidIn (λ i. now (i .args .1 .1 .0) ∷ []) (λ i o. now (o .last .1 .1 .0) ∷ [])
 
 abbrev pub readTreeStrict : Deed
-readTreeStrict = hands (call c.sarpukten_read_tree_strict.Kinds.ps c.sarpukten_read_tree_strict.Kinds.r c.sarpukten_read_tree_strict.Reads.Post) (λ i o. now (o .last .1 .1 .1 .0)) saidIn (λ i. now (i .args .1 .1 .0) ∷ []) (λ i o. now (o .last .1 .1 .0) ∷ [])
+readTreeStrict = hands (call c.sarpukten_read_tree_strict.Kinds.ps c.sarpukten_read_tree_strict.Kinds.r c.sarpukten_read_tree_strict.Reads.Post) (λ i o. now (o .last .1 .1 .1 .1 .0)) saidIn (λ i. now (i .args .1 .1 .1 .0) ∷ [])
+    (λ i o. now (o .last .1 .1 .1 .0) ∷ [])
 
 abbrev pub bisectEntry : Deed
 bisectEntry = hands (call c.sarpukten_bisect_entry.Kinds.ps c.sarpukten_bisect_entry.Kinds.r c.sarpukten_bisect_entry.Reads.Post) (λ i o. now (o .last .1 .1 .1 .1 .1 .0)) saidIn (λ i. []) (λ i o. [])

@@ -186,7 +186,7 @@ abbrev pub readTree : Deed
 readTree = writes (call reading.read_tree.Kinds.ps reading.read_tree.Kinds.r reading.read_tree.Reads.Post) (λ i x. x) (λ i. now (i .args .1 .1 .0)) (λ i o. now (o .last .1 .1 .0))
 
 abbrev pub readTreeStrict : Deed
-readTreeStrict = writes (call reading.read_tree_strict.Kinds.ps reading.read_tree_strict.Kinds.r reading.read_tree_strict.Reads.Post) (λ i x. x) (λ i. now (i .args .1 .1 .0)) (λ i o. now (o .last .1 .1 .0))
+readTreeStrict = writes (call reading.read_tree_strict.Kinds.ps reading.read_tree_strict.Kinds.r reading.read_tree_strict.Reads.Post) (λ i x. x) (λ i. now (i .args .1 .1 .1 .0)) (λ i o. now (o .last .1 .1 .1 .0))
 
 -- ---- lookup
 

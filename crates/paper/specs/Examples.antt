@@ -23,8 +23,8 @@ use Rattle.entry.specs.Record.{recordsOf, wellFormed, nameOf, idOf}
 use Rattle.entry.specs.Entry.{Entry, entryBytes, asWritten, entryOf, entriesOf}
 use Rattle.entry.specs.Decode.{shortPart, decodeName, decodeMode, decode}
 use Rattle.reading.specs.Listing.{Listing, follow, plain, listing, recordsIn, flats, tally}
-use Rattle.reading.specs.Rules.{judge, textOf, cut, strictly, permitted, isDotGit, nameNumber, standsBefore, isAfter, gitRules}
-use Rattle.reading.specs.Whole.{answerOf, readAnswer, readRecords}
+use Rattle.reading.specs.Rules.{judge, textOf, cut, permitted, isDotGit, nameNumber, standsBefore, isAfter, gitRules}
+use Rattle.reading.specs.Whole.{answerOf, readAnswer, readRecords, isSet, strictGate, strictAnswer, strictRecords}
 use Rattle.commit_write.specs.Fold.{foldRest, foldValue}
 use Rattle.commit_write.specs.Written.{headerWritten}
 use Rattle.tree_write.specs.Write.{written, refusal, judged, measured, treeAnswer}
@@ -84,8 +84,12 @@ read by s = told (readAnswer 20 s (by s) room)
 abbrev plainly : List ℕ → Listing
 plainly = listing 20
 
-abbrev strict : List ℕ → Listing
-strict = strictly gitRules 20
+-- the same strictly, by rule set 2
+abbrev pub strict : List ℕ → Told
+strict s = told (strictAnswer 2 20 s room)
+  where
+    told : Answer → Told
+    told a = lists a (entriesOf 20 s (take (a .count) (recordsOf (strictRecords 2 20 s room))))
 
 -- how records are written, to so much room
 abbrev pub write : List ℕ → List ℕ → ℕ → Told
@@ -152,11 +156,11 @@ table =
     ∷ names (tree (ascii "a")) (blob (ascii "a/b")) is compares (pos 0)
     -- P10: the empty object, plainly and strictly
     ∷ read plainly [] is lists (counted 0) []
-    ∷ read strict [] is lists (counted 0) []
+    ∷ strict [] is lists (counted 0) []
     -- P11: O, its length, its two entries, and its rewriting from the records that were returned
     ∷ has (length O) is has 57
     ∷ read plainly O is lists (counted 2) entriesOfO
-    ∷ read strict O is lists (counted 2) entriesOfO
+    ∷ strict O is lists (counted 2) entriesOfO
     ∷ write O (readRecords 20 O (plainly O) room) 57 is writes (counted 57) O
     -- P12: O without its last byte: the id is cut
     ∷ read plainly (take 56 O) is lists (refused (broken 29 3)) []
@@ -164,7 +168,7 @@ table =
     ∷ read plainly (take 36 O) is lists (refused (broken 29 2)) []
     ∷ read plainly (ascii "1") is lists (refused (broken 0 2)) []
     ∷ read plainly (ascii "1234567") is lists (refused (broken 0 2)) []
-    ∷ read strict (ascii "12345678") is lists (refused (broken 0 1)) []
+    ∷ strict (ascii "12345678") is lists (refused (broken 0 1)) []
     -- P13: a value of two lines is folded, and its last LF is kept
     ∷ gives (headerWritten (record { name = ascii "k"; value = lines "a" "b"; mark = 0 })) is gives (lines "k a" " b")
     -- P14: an entry of mode 0 is written, and what was written is refused
@@ -173,5 +177,5 @@ table =
     ∷ []
 
 pub all-hold : map (λ (r : Row). r .asked) table ≡ map (λ (r : Row). r .answer) table
-unfolding table foldRest foldValue headerWritten octalFrom hasSix textLen settle restAt readMode valueOf sortOf executes kindOf isTree trimmed writeMode rows byNumber next nameOrder orderNumber idLength sizeGate gateOf stored fitted gated recordsOf wellFormed nameOf idOf entryBytes asWritten entryOf shortPart decodeName decodeMode decode follow plain recordsIn flats tally judge textOf cut permitted isDotGit nameNumber standsBefore isAfter gitRules answerOf refusal judged measured treeAnswer
+unfolding table foldRest foldValue headerWritten octalFrom hasSix textLen settle restAt readMode valueOf sortOf executes kindOf isTree trimmed writeMode rows byNumber next nameOrder orderNumber idLength sizeGate gateOf stored fitted gated recordsOf wellFormed nameOf idOf entryBytes asWritten entryOf shortPart decodeName decodeMode decode follow plain recordsIn flats tally judge textOf cut permitted isDotGit nameNumber standsBefore isAfter gitRules isSet strictGate answerOf refusal judged measured treeAnswer
 all-hold = refl

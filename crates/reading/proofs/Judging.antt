@@ -4,17 +4,19 @@ use native.Mathlib.Omega.{arith}
 use mathlib.Core.Path.{_≡_, refl, sym, _∙_}
 use mathlib.Core.Bool.{Bool, true, false, not, _||_, false≢true}
 use mathlib.Core.List.{List, [], _∷_, map}
-use lib.Dec.{ltb, leb}
+use lib.Dec.{eqb, ltb, leb}
 use lib.ListN.{length, getD, take, drop, length-append, length-map}
 use lib.Seq.{take-take, take-append-seam}
-use borrow.Author.Tests.{ltb-true, le-leb, lt-leb}
+use borrow.Author.Tests.{ltb-true, le-leb, lt-leb, eq-eqb, ne-eqb}
 use Rattle.ground.specs.Basics.{pick, ascii, part}
 use Rattle.ground.specs.Scan.{countTo, sameBytes, freeOf}
 use Rattle.ground.proofs.Laws.{is-false, and-left, and-right, whole-free, free-whole, same-refl, same-true, same-length}
 use Rattle.ground.proofs.Table.{rows-agree}
 use Rattle.front.specs.Code.{coded, codeAt, spaced, codeIn, quickAt}
 use Rattle.front.proofs.Laws.{quick-is-code}
-use Rattle.mode.specs.Table.{rows, noRow, shown, findText}
+use Rattle.mode.specs.Mode.{valueOf, sortOf, executes, kindOf}
+use Rattle.mode.specs.Table.{rows, noRow, rowAt, writtenOf, wordOf, shown, findText}
+use Rattle.mode.specs.Write.{trimmed, writeMode, modeText}
 use Rattle.mode.specs.declared.EntryMode.{EntryMode}
 use Rattle.mode.specs.declared.Written.{Written}
 use Rattle.mode.specs.declared.ModeFound.the-variants as found
@@ -23,14 +25,22 @@ use Rattle.order.specs.declared.Order.{Order}
 use Rattle.entry.specs.Record.{nameOf, folderOf}
 use Rattle.entry.specs.Entry.{entryOf}
 use Rattle.entry.specs.declared.EntryRecord.{EntryRecord}
-use Rattle.reading.specs.Rules.{isText, judge, textOf, permitted, lower, isDotGit, nameNumber, isBelow, standsBefore, isAfter, gitRules}
-use Rattle.reading.specs.Code.{LastWithin, lastOf, afterAt, judgeAt}
+use Rattle.reading.specs.Rules.{isText, judge, textOf, groupRow, modesOf, permitted, lower, isDotGit, nameNumber, isBelow, standsBefore, isAfter, gitRules}
+use Rattle.reading.specs.Code.{LastWithin, lastOf, isGroup, afterAt, judgeAt}
 use Rattle.reading.specs.declared.Last.{Last}
 use Rattle.reading.specs.declared.Last.the-variants.{Nothing, After}
 
 -- ---- a mode text
 
-pub text-found : (t : List ℕ) (rs : List Written) (m : EntryMode) → findText t rs ≡ found.Mode m → isText rs t ≡ true
+or-right : (a b : Bool) → b ≡ true → (a || b) ≡ true
+or-right true b e = refl
+or-right false b e = e
+
+or-none : (a : Bool) → (a || false) ≡ a
+or-none true = refl
+or-none false = refl
+
+text-found : (t : List ℕ) (rs : List Written) (m : EntryMode) → findText t rs ≡ found.Mode m → isText rs t ≡ true
 text-found t [] m e = let z : _≡_ {A = ℕ} 0 1 = cc in absurd (omega arith)
 text-found t (r ∷ rs) m e = go (text-found t rs m) (sameBytes t (shown (r .text))) e
   where
@@ -39,7 +49,7 @@ text-found t (r ∷ rs) m e = go (text-found t rs m) (sameBytes t (shown (r .tex
     go ih true e = refl
     go ih false e = ih e
 
-pub text-none : (t : List ℕ) (rs : List Written) → findText t rs ≡ found.None → isText rs t ≡ false
+text-none : (t : List ℕ) (rs : List Written) → findText t rs ≡ found.None → isText rs t ≡ false
 text-none t [] e = refl
 text-none t (r ∷ rs) e = go (text-none t rs) (sameBytes t (shown (r .text))) e
   where
@@ -77,7 +87,7 @@ in-text (r ∷ rs) b f n = go (in-text rs b (λ i h. f (suc i) (omega arith))) _
         rw (k, t, same-refl (shown (r .text)))
 
 -- an entry whose mode has a code in the table, and whose name begins where its mode's code says, has a written mode text
-pub text-quick : (s : List ℕ) (at : ℕ) (e : EntryRecord) → (quickAt s at ≡ 0 → ⊥) → e .«name_start» ≡ at + codeAt s at % 16
+text-quick : (s : List ℕ) (at : ℕ) (e : EntryRecord) → (quickAt s at ≡ 0 → ⊥) → e .«name_start» ≡ at + codeAt s at % 16
     → isText rows (textOf s at e) ≡ true
 unfolding quickAt textOf
 text-quick s at e n q = go (leb (at + 7) (length s)) n (quick-is-code s at n)
@@ -88,6 +98,47 @@ text-quick s at e n q = go (leb (at + 7) (length s)) n (quick-is-code s at n)
         let k : e .«name_start» - 1 - at ≡ codeIn rows (drop at s) % 16 - 1 = omega arith in
         rw k (in-text rows (drop at s) row-short n)
     go false n c = absurd (n refl)
+
+-- the row of early Git keeps the table's rule: its text is the one written for its mode, its kind the mode's, its word the kind's
+pub group-is : groupRow ≡ record { mode = 0o100664; kind = kindOf 0o100664; text = modeText 0o100664; word = wordOf 0o100664 }
+unfolding groupRow kindOf sortOf valueOf executes modeText writeMode trimmed wordOf writtenOf rowAt rows
+group-is = refl
+
+module _ (k : ℕ) (t : List ℕ) where
+  -- a text of a rule set is one of the five, or the one besides
+  texts-five : isText rows t ≡ true → isText (modesOf k) t ≡ true
+  texts-five e = go (eqb k 1)
+    where
+      go : (v : Bool) → isText (pick v (groupRow ∷ rows) rows) t ≡ true
+      go true = or-right (sameBytes t (shown (groupRow .text))) (isText rows t) e
+      go false = e
+
+  texts-group : isText rows t ≡ false → isText (modesOf k) t ≡ isGroup k t
+  unfolding isGroup
+  texts-group e = go (eqb k 1)
+    where
+      go : (v : Bool) → isText (pick v (groupRow ∷ rows) rows) t ≡ pick v (sameBytes t (shown (groupRow .text))) false
+      go true = rw e (or-none (sameBytes t (shown (groupRow .text))))
+      go false = e
+
+  pub mode-found : (m : EntryMode) → findText t rows ≡ found.Mode m → isText (modesOf k) t ≡ true
+  mode-found m e = texts-five (text-found t rows m e)
+
+  pub mode-none : findText t rows ≡ found.None → isText (modesOf k) t ≡ isGroup k t
+  mode-none e = texts-group (text-none t rows e)
+
+  pub group-one : k ≡ 1 → isGroup k t ≡ sameBytes t (ascii "100664")
+  unfolding isGroup groupRow
+  group-one e = rw (eq-eqb k 1 e)
+
+  pub group-other : (k ≡ 1 → ⊥) → isGroup k t ≡ false
+  unfolding isGroup
+  group-other n = rw (ne-eqb k 1 n)
+
+-- an entry whose mode has a code in the table has a text of each rule set
+pub mode-quick : (k : ℕ) (s : List ℕ) (at : ℕ) (e : EntryRecord) → (quickAt s at ≡ 0 → ⊥) → e .«name_start» ≡ at + codeAt s at % 16
+    → isText (modesOf k) (textOf s at e) ≡ true
+mode-quick k s at e n q = texts-five k (textOf s at e) (text-quick s at e n q)
 
 -- ---- a name
 
@@ -189,27 +240,27 @@ module _ (s : List ℕ) (e : EntryRecord) where
 
 -- ---- an entry
 
-module _ (s : List ℕ) (last : Last) (at : ℕ) (e : EntryRecord) where
-  pub judge-text : isText rows (textOf s at e) ≡ false → judgeAt s last at e ≡ 5
+module _ (k : ℕ) (s : List ℕ) (last : Last) (at : ℕ) (e : EntryRecord) where
+  pub judge-text : isText (modesOf k) (textOf s at e) ≡ false → judgeAt k s last at e ≡ 5
   unfolding judgeAt
   judge-text t = rw t
 
-  module _ (t : isText rows (textOf s at e) ≡ true) where
-    pub judge-name : permitted (nameOf s e) ≡ false → judgeAt s last at e ≡ 6
+  module _ (t : isText (modesOf k) (textOf s at e) ≡ true) where
+    pub judge-name : permitted (nameOf s e) ≡ false → judgeAt k s last at e ≡ 6
     unfolding judgeAt nameNumber
     judge-name p = rw (t, p)
 
-    pub judge-git : permitted (nameOf s e) ≡ true → isDotGit (nameOf s e) ≡ true → judgeAt s last at e ≡ 18
+    pub judge-git : permitted (nameOf s e) ≡ true → isDotGit (nameOf s e) ≡ true → judgeAt k s last at e ≡ 18
     unfolding judgeAt nameNumber
     judge-git p g = rw (t, p, g)
 
-    pub judge-after : permitted (nameOf s e) ≡ true → isDotGit (nameOf s e) ≡ false → judgeAt s last at e ≡ afterAt s last e
+    pub judge-after : permitted (nameOf s e) ≡ true → isDotGit (nameOf s e) ≡ false → judgeAt k s last at e ≡ afterAt s last e
     unfolding judgeAt nameNumber
     judge-after p g = rw (t, p, g)
 
 -- the leaves say what the rules say over the entries that were read before, the nearest first
-pub judges : (h : ℕ) (s : List ℕ) (seen : List EntryRecord) (at : ℕ) (e : EntryRecord)
-    → judgeAt s (lastOf seen) at e ≡ judge gitRules (map (entryOf h s) seen) (textOf s at e) (entryOf h s e)
+pub judges : (k h : ℕ) (s : List ℕ) (seen : List EntryRecord) (at : ℕ) (e : EntryRecord)
+    → judgeAt k s (lastOf seen) at e ≡ judge (gitRules k) (map (entryOf h s) seen) (textOf s at e) (entryOf h s e)
 unfolding judgeAt judge afterAt gitRules isAfter standsBefore entryOf folderOf
-judges h s [] at e = refl
-judges h s (p ∷ ps) at e = refl
+judges k h s [] at e = refl
+judges k h s (p ∷ ps) at e = refl

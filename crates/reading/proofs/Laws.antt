@@ -2,15 +2,15 @@
 use Prim.Native.Nat.{ℕ, zero, suc, _+_, _-_, _*_, _<_, _≤_}
 use native.Mathlib.Omega.{arith}
 use mathlib.Core.Path.{_≡_, refl, ap, sym, _∙_}
-use mathlib.Core.Bool.{Bool, true, false}
+use mathlib.Core.Bool.{Bool, true, false, _&&_, _||_}
 use mathlib.Core.List.{List, [], _∷_}
-use mathlib.Core.Logic.{⊎-elim}
+use mathlib.Core.Logic.{_⊎_, inl, inr, ⊎-elim}
 use lib.Dec.{eqb, leb}
 use lib.ListN.{length, drop, drop-of-length-le, length-drop}
 use lib.Seq.{sets, drop-drop}
-use borrow.Author.Tests.{eq-eqb, ne-eqb, eqb-false, le-leb, lt-leb, lt-ltb, leb-true, leb-false}
+use borrow.Author.Tests.{eq-eqb, ne-eqb, eqb-true, eqb-false, le-leb, lt-leb, lt-ltb, leb-true, leb-false}
 use Rattle.ground.specs.Basics.{pick}
-use Rattle.ground.specs.Verdict.{verdict, fine, broken, isPart, counted, refused, mostRecords, gateOf, stored}
+use Rattle.ground.specs.Verdict.{verdict, fine, broken, isPart, counted, refused, mostBytes, mostRecords, idLength, sizeGate, gateOf, stored}
 use Rattle.ground.specs.declared.Verdict.{Verdict}
 use Rattle.ground.specs.declared.Answer.{Answer}
 use Rattle.ground.specs.declared.Gate.{Gate}
@@ -25,8 +25,8 @@ use Rattle.entry.specs.declared.Decoded.{Decoded}
 use Rattle.entry.specs.declared.Decoded.the-variants.{Whole, Broken}
 use Rattle.entry.proofs.Laws.{decode-inside, decode-three}
 use Rattle.reading.specs.Listing.{Listing, done, stop, entry, follow, plain, listing, recordsIn, flats, tally}
-use Rattle.reading.specs.Rules.{Rules, judge, textOf, cut, strictly}
-use Rattle.reading.specs.Whole.{inRoom, answerOf}
+use Rattle.reading.specs.Rules.{Rules, judge, textOf, cut, strictly, gitRules}
+use Rattle.reading.specs.Whole.{inRoom, answerOf, readAnswer, readRecords, isSet, strictGate, strictAnswer, strictRecords}
 use Rattle.reading.specs.declared.Counted.{Counted}
 use Rattle.reading.specs.declared.Counted.the-variants.{Total, Stopped}
 
@@ -201,6 +201,72 @@ cut-refuses R h s = cut-stops Refusal R (λ before text e at z. z) h s [] (listi
 pub gate-refuses : (h bytes records : ℕ) (v : Verdict) → gateOf h bytes records ≡ Shut v → Refusal v
 gate-refuses h bytes records v e = ⊎-elim (λ q. rw q (λ z. omega arith)) (λ q. rw q (λ z. omega arith)) (gate-shut h bytes records v e)
 
+-- ---- the gate of a rule set
+
+set-is : (k : ℕ) → isSet k ≡ true → (k ≡ 1) ⊎ (k ≡ 2)
+unfolding isSet
+set-is k e = go (eqb k 1) refl e
+  where
+    go : (v : Bool) → eqb k 1 ≡ v → (v || eqb k 2) ≡ true → (k ≡ 1) ⊎ (k ≡ 2)
+    go true q e = inl (eqb-true k 1 q)
+    go false q e = inr (eqb-true k 2 e)
+
+set-made : (k : ℕ) → (k ≡ 1) ⊎ (k ≡ 2) → isSet k ≡ true
+unfolding isSet
+set-made k (inl e) = rw e
+set-made k (inr e) = rw e
+
+-- with one of the two it is the gate of plain reading
+pub strict-known : (k h bytes records : ℕ) → (k ≡ 1) ⊎ (k ≡ 2) → strictGate k h bytes records ≡ gateOf h bytes records
+unfolding strictGate gateOf
+strict-known k h bytes records i = rw (set-made k i)
+
+-- with another it is shut, by 1 or by 19
+module _ (k h bytes records : ℕ) (one : k ≡ 1 → ⊥) (two : k ≡ 2 → ⊥) where
+  other : isSet k ≡ false
+  unfolding isSet
+  other = rw (ne-eqb k 1 one, ne-eqb k 2 two)
+
+  pub strict-other : gateOf h 0 0 ≡ Open → strictGate k h bytes records ≡ Shut (verdict 19 0)
+  unfolding strictGate gateOf
+  strict-other e = rw other (go (idLength h) e)
+    where
+      go : (v : Bool) → pick v (sizeGate 0 0) (Shut (verdict 1 0)) ≡ Open → pick v (Shut (verdict 19 0)) (Shut (verdict 1 0)) ≡ Shut (verdict 19 0)
+      go true e = refl
+      go false e = let z : _≡_ {A = ℕ} 0 1 = cc in absurd (omega arith)
+
+  pub strict-id : (v : Verdict) → gateOf h 0 0 ≡ Shut v → strictGate k h bytes records ≡ Shut v
+  unfolding strictGate gateOf sizeGate
+  strict-id v e = rw other (go (idLength h) e)
+    where
+      go : (b : Bool) → pick b Open (Shut (verdict 1 0)) ≡ Shut v → pick b (Shut (verdict 19 0)) (Shut (verdict 1 0)) ≡ Shut v
+      go true e = let z : _≡_ {A = ℕ} 0 1 = cc in absurd (omega arith)
+      go false e = e
+
+-- whatever it is shut with
+pub strict-shut : (P : Verdict → Type 0) → P (verdict 1 0) → P (verdict 19 0) → P (verdict 2 0) → (k h bytes records : ℕ) (v : Verdict) → strictGate k h bytes records ≡ Shut v → P v
+unfolding strictGate sizeGate
+strict-shut P one nineteen two k h bytes records v e = go (idLength h) (isSet k) (leb bytes mostBytes && leb records mostRecords) e
+  where
+    go : (a b c : Bool) → pick a (pick b (pick c Open (Shut (verdict 2 0))) (Shut (verdict 19 0))) (Shut (verdict 1 0)) ≡ Shut v → P v
+    go false b c e = let y : verdict 1 0 ≡ v = cc in rw y at one
+    go true false c e = let y : verdict 19 0 ≡ v = cc in rw y at nineteen
+    go true true false e = let y : verdict 2 0 ≡ v = cc in rw y at two
+    go true true true e = let z : _≡_ {A = ℕ} 0 1 = cc in absurd (omega arith)
+
+pub strict-refuses : (k h bytes records : ℕ) (v : Verdict) → strictGate k h bytes records ≡ Shut v → Refusal v
+strict-refuses = strict-shut Refusal (λ e. omega arith) (λ e. omega arith) (λ e. omega arith)
+
+-- where it is open the rule set is one of the two
+pub strict-open : (k h bytes records : ℕ) → strictGate k h bytes records ≡ Open → (k ≡ 1) ⊎ (k ≡ 2)
+unfolding strictGate
+strict-open k h bytes records e = go (idLength h) (isSet k) refl e
+  where
+    go : (a b : Bool) → isSet k ≡ b → pick a (pick b (sizeGate bytes records) (Shut (verdict 19 0))) (Shut (verdict 1 0)) ≡ Open → (k ≡ 1) ⊎ (k ≡ 2)
+    go true true q e = set-is k q
+    go true false q e = let z : _≡_ {A = ℕ} 0 1 = cc in absurd (omega arith)
+    go false b q e = let z : _≡_ {A = ℕ} 0 1 = cc in absurd (omega arith)
+
 -- ---- the answer
 
 module _ (l : Listing) (g : Gate) (room : ℕ) where
@@ -231,6 +297,23 @@ answer-done l h bytes records room n r e = start (gateOf h bytes records) refl e
     start : (g : Gate) → gateOf h bytes records ≡ g → answerOf g l room ≡ counted n → (gateOf h bytes records ≡ Open) × (tally 0 l ≡ Total n) × (n ≤ room)
     start Open q e = let w = go (tally 0 l) refl e in (q, w .0, w .1)
     start (Shut v) q e = absurd (gate-refuses h bytes records v q (ap (λ (a : Answer). a .verdict .number) e))
+
+-- by one of the two rule sets the answer and the records are those of the listing that its rules cut
+module _ (k h : ℕ) (s lent : List ℕ) where
+  pub strict-answers : (k ≡ 1) ⊎ (k ≡ 2) → strictAnswer k h s lent ≡ readAnswer h s (strictly (gitRules k) h s) lent
+  strict-answers i = ap (λ (g : Gate). answerOf g (strictly (gitRules k) h s) (many (length lent))) (strict-known k h (length s) (many (length lent)) i)
+
+  pub strict-stores : (k ≡ 1) ⊎ (k ≡ 2) → strictRecords k h s lent ≡ readRecords h s (strictly (gitRules k) h s) lent
+  strict-stores i = ap (λ (a : Answer). stored (a .verdict) (flats (recordsIn (strictly (gitRules k) h s))) lent) (strict-answers i)
+
+  -- and nothing is counted by another
+  pub strict-set : (n : ℕ) → strictAnswer k h s lent ≡ counted n → (k ≡ 1) ⊎ (k ≡ 2)
+  unfolding answerOf
+  strict-set n e = go (strictGate k h (length s) (many (length lent))) refl e
+    where
+      go : (g : Gate) → strictGate k h (length s) (many (length lent)) ≡ g → answerOf g (strictly (gitRules k) h s) (many (length lent)) ≡ counted n → (k ≡ 1) ⊎ (k ≡ 2)
+      go Open q e = strict-open k h (length s) (many (length lent)) q
+      go (Shut v) q e = absurd (strict-refuses k h (length s) (many (length lent)) v q (ap (λ (a : Answer). a .verdict .number) e))
 
 -- a refused reading leaves the lent list
 pub refused-both : {a : Answer} (v : Verdict) (l lent : List ℕ) → a ≡ refused v → Refusal v → (refused v ≡ a) × (lent ≡ stored (a .verdict) l lent)

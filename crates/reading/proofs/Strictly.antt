@@ -31,15 +31,15 @@ use Rattle.reading.proofs.Laws.{restAt, rest-end, rest-full, rest-broke
 use Rattle.reading.proofs.Judging.{judges}
 
 -- the head of a turn: n entries are read, the nearest of them first in `seen`, and the count from the start is the count from here
-pub record Reading (h : ℕ) (s : List ℕ) (at n : ℕ) (last : Last) : Type 0 where
+pub record Reading (k h : ℕ) (s : List ℕ) (at n : ℕ) (last : Last) : Type 0 where
   pub seen : List EntryRecord
   pub few : n ≤ mostRecords
   pub nearest : last ≡ lastOf seen
   pub inside : LastWithin (length s) last
-  pub same : tally 0 (strictly gitRules h s) ≡ tally n (cut gitRules h s (map (entryOf h s) seen) (restAt h s at n))
+  pub same : tally 0 (strictly (gitRules k) h s) ≡ tally n (cut (gitRules k) h s (map (entryOf h s) seen) (restAt h s at n))
 
-pub reading-start : (h : ℕ) (s : List ℕ) → Reading h s 0 0 Nothing
-reading-start h s = record { seen = []; few = omega arith; nearest = refl; inside = tt; same = refl }
+pub reading-start : (k h : ℕ) (s : List ℕ) → Reading k h s 0 0 Nothing
+reading-start k h s = record { seen = []; few = omega arith; nearest = refl; inside = tt; same = refl }
 
 -- an entry that was decoded
 module _ (h : ℕ) (s : List ℕ) (at : ℕ) (e : EntryRecord) (next : Cursor) (d : decode h at (drop at s) ≡ Whole e next) where
@@ -70,36 +70,36 @@ module _ (h : ℕ) (s : List ℕ) (at : ℕ) (e : EntryRecord) (next : Cursor) (
   unfolding readModeAt
   decoded-code = omega (arith, start-is, code-of-mode s at _ _ (ap (moved at) (parts .reads)))
 
-module _ (h : ℕ) (s : List ℕ) (at n : ℕ) (last : Last) (r : Reading h s at n last) where
+module _ (k h : ℕ) (s : List ℕ) (at n : ℕ) (last : Last) (r : Reading k h s at n last) where
   abbrev from : Listing → Listing
-  from l = cut gitRules h s (map (entryOf h s) (r .seen)) l
+  from l = cut (gitRules k) h s (map (entryOf h s) (r .seen)) l
 
-  pub reading-end : length s ≤ at → Total n ≡ tally 0 (strictly gitRules h s)
+  pub reading-end : length s ≤ at → Total n ≡ tally 0 (strictly (gitRules k) h s)
   unfolding tally cut
   reading-end p = sym (r .same ∙ ap (λ (l : Listing). tally n (from l)) (rest-end h s at n p))
 
   module _ (p : at < length s) where
-    pub reading-full : mostRecords ≤ n → Stopped (verdict 2 0) ≡ tally 0 (strictly gitRules h s)
+    pub reading-full : mostRecords ≤ n → Stopped (verdict 2 0) ≡ tally 0 (strictly (gitRules k) h s)
     unfolding tally cut
     reading-full f = sym (r .same ∙ ap (λ (l : Listing). tally n (from l)) (rest-full h s at n p f))
 
     module _ (f : n < mostRecords) where
-      pub reading-broken : {v : Verdict} → decode h at (drop at s) ≡ Broken v → Stopped v ≡ tally 0 (strictly gitRules h s)
+      pub reading-broken : {v : Verdict} → decode h at (drop at s) ≡ Broken v → Stopped v ≡ tally 0 (strictly (gitRules k) h s)
       unfolding tally cut
       reading-broken d = sym (r .same ∙ ap (λ (l : Listing). tally n (from l)) (rest-broken h s at n p f d))
 
-      module _ (e : EntryRecord) (next : Cursor) (number : ℕ) (d : decode h at (drop at s) ≡ Whole e next) (j : number ≡ judgeAt s last at e) where
-        said : number ≡ judge gitRules (map (entryOf h s) (r .seen)) (textOf s at e) (entryOf h s e)
-        said = j ∙ ap (λ (x : Last). judgeAt s x at e) (r .nearest) ∙ judges h s (r .seen) at e
+      module _ (e : EntryRecord) (next : Cursor) (number : ℕ) (d : decode h at (drop at s) ≡ Whole e next) (j : number ≡ judgeAt k s last at e) where
+        said : number ≡ judge (gitRules k) (map (entryOf h s) (r .seen)) (textOf s at e) (entryOf h s e)
+        said = j ∙ ap (λ (x : Last). judgeAt k s x at e) (r .nearest) ∙ judges k h s (r .seen) at e
 
-        pub reading-refused : (number ≡ 0 → ⊥) → Stopped (verdict number at) ≡ tally 0 (strictly gitRules h s)
+        pub reading-refused : (number ≡ 0 → ⊥) → Stopped (verdict number at) ≡ tally 0 (strictly (gitRules k) h s)
         unfolding tally
         reading-refused z =
             sym (r .same ∙ ap (λ (l : Listing). tally n (from l)) (rest-whole h s at n p f d)
-            ∙ ap (tally n) (cut-bad gitRules h s (map (entryOf h s) (r .seen)) at e (restAt h s (next .at) (n + 1)) (λ q. z (said ∙ q)))
-            ∙ ap (λ (k : ℕ). Stopped (verdict k at)) (sym said))
+            ∙ ap (tally n) (cut-bad (gitRules k) h s (map (entryOf h s) (r .seen)) at e (restAt h s (next .at) (n + 1)) (λ q. z (said ∙ q)))
+            ∙ ap (λ (i : ℕ). Stopped (verdict i at)) (sym said))
 
-        pub reading-kept : number ≡ 0 → Reading h s (next .at) (n + 1) (After e)
+        pub reading-kept : number ≡ 0 → Reading k h s (next .at) (n + 1) (After e)
         unfolding tally
         reading-kept z =
             let w = decoded-within h s at e next d in
@@ -110,5 +110,5 @@ module _ (h : ℕ) (s : List ℕ) (at n : ℕ) (last : Last) (r : Reading h s at
               inside = (w .1, w .2);
               same =
                   r .same ∙ ap (λ (l : Listing). tally n (from l)) (rest-whole h s at n p f d)
-                  ∙ ap (tally n) (cut-fine gitRules h s (map (entryOf h s) (r .seen)) at e (restAt h s (next .at) (n + 1)) (sym said ∙ z));
+                  ∙ ap (tally n) (cut-fine (gitRules k) h s (map (entryOf h s) (r .seen)) at e (restAt h s (next .at) (n + 1)) (sym said ∙ z));
             }

@@ -9,6 +9,8 @@ use Rattle.ground.specs.Scan.{sameBytes, freeOf}
 use Rattle.ground.specs.Verdict.{verdict}
 use Rattle.mode.specs.Mode.{isTree}
 use Rattle.mode.specs.Table.{rows, shown}
+use Rattle.mode.specs.Write.{short}
+use Rattle.mode.specs.declared.EntryKind.the-variants.{Blob}
 use Rattle.mode.specs.declared.Written.{Written}
 use Rattle.order.specs.Order.{nameOrder}
 use Rattle.order.specs.declared.Order.{Order}
@@ -54,7 +56,7 @@ cut R h s before (entry at e l) =
 abbrev pub strictly : Rules → ℕ → List ℕ → Listing
 strictly R h s = cut R h s [] (listing h s)
 
--- ---- the present rules
+-- ---- the rules of the rule sets 1 and 2
 
 -- not empty, free of NUL and slash, and none of `.`, `..` and `.git`
 unfoldable pub permitted : List ℕ → Bool
@@ -88,6 +90,14 @@ unfoldable pub isAfter : List Entry → Entry → Bool
 isAfter [] e = true
 isAfter (p ∷ ps) e = standsBefore p e
 
--- the five written modes; 6 or 18 for a name; 7 for an entry that does not stand after the one before
-unfoldable pub gitRules : Rules
-gitRules = record { modes = rows; nameNo = nameNumber; afterNo = λ before e. pick (isAfter before e) 0 7 }
+-- the mode that early Git gave a group-writable file; it is no kind's own, and its kind is a file's
+unfoldable pub groupRow : Written
+groupRow = record { mode = 0o100664; kind = Blob; text = short (ascii "100664"); word = short (ascii "blob") }
+
+-- the modes of a rule set: the five written ones, and in set 1 that of early Git
+abbrev pub modesOf : ℕ → List Written
+modesOf k = pick (eqb k 1) (groupRow ∷ rows) rows
+
+-- the rules of a rule set: its modes; 6 or 18 for a name; 7 for an entry that does not stand after the one before
+unfoldable pub gitRules : ℕ → Rules
+gitRules k = record { modes = modesOf k; nameNo = nameNumber; afterNo = λ before e. pick (isAfter before e) 0 7 }

@@ -6,13 +6,12 @@ ghost use lib.ListN.{length};
 ghost use lib.Seq.{sets};
 ghost use Rattle.ground.specs.Scan.{freeOf};
 ghost use Rattle.ground.specs.Verdict.{stored};
-ghost use Rattle.mode.specs.Table.{rows};
 ghost use Rattle.entry.specs.Record.{many, nameOf};
 ghost use Rattle.front.specs.Code.{codeAt};
 ghost use Rattle.reading.specs.Listing.{listing, tally, recordsIn, flats};
-ghost use Rattle.reading.specs.Rules.{isText, textOf, permitted, lower, isDotGit, gitRules, strictly};
-ghost use Rattle.reading.specs.Whole.{inRoom, readAnswer, readRecords};
-ghost use Rattle.reading.specs.Code.{Within, LastWithin, afterAt, judgeAt};
+ghost use Rattle.reading.specs.Rules.{isText, textOf, modesOf, permitted, lower, isDotGit, gitRules, strictly};
+ghost use Rattle.reading.specs.Whole.{inRoom, readAnswer, readRecords, strictGate, strictAnswer, strictRecords};
+ghost use Rattle.reading.specs.Code.{Within, LastWithin, isGroup, afterAt, judgeAt};
 use entry::Cursor;
 use entry::Decoded;
 use entry::EntryRecord;
@@ -169,11 +168,21 @@ fn after_number(s: &[u8], last: Last, e: EntryRecord) -> usize
     }
 }
 
-// Whether the mode text of an entry at a place is a written one.
-fn is_written(s: &[u8], at: usize, e: EntryRecord) -> bool
+// Whether a text is the mode that rule set 1 has besides the five.
+fn is_group(rules: u16, text: &[u8]) -> bool
+    ensures { λ r. ⌜ r ≡ isGroup rules (now (text .entry)) ⌝ }
+{
+    if rules == 1 {
+        return same_bytes(text, b"100664");
+    }
+    false
+}
+
+// Whether the mode text of an entry at a place is one of the rule set's.
+fn is_written(rules: u16, s: &[u8], at: usize, e: EntryRecord) -> bool
     requires { ⌜ Within (length (now s)) at e ⌝ }
     requires { ⌜ e .«name_start» ≡ at + codeAt (now s) at % 16 ⌝ }
-    ensures { λ r. ⌜ r ≡ isText rows (textOf (now (s .entry)) at e) ⌝ }
+    ensures { λ r. ⌜ r ≡ isText (modesOf rules) (textOf (now (s .entry)) at e) ⌝ }
 {
     if quick_code(s, at) != 0 {
         return true;
@@ -181,20 +190,20 @@ fn is_written(s: &[u8], at: usize, e: EntryRecord) -> bool
     let start = e.name_start;
     let space = start - 1;
     match written_mode(&s[at..space]) {
-        ModeFound::None => false,
+        ModeFound::None => is_group(rules, &s[at..space]),
         ModeFound::Mode(_) => true,
     }
 }
 
 // What the strict rules say of an entry at a place, as it was decoded there: 0, 5, 6, 18 or 7.
-fn judge_entry(s: &[u8], last: Last, at: usize, e: EntryRecord) -> usize
+fn judge_entry(rules: u16, s: &[u8], last: Last, at: usize, e: EntryRecord) -> usize
     requires { ⌜ LastWithin (length (now s)) last ⌝ }
     requires { ⌜ Within (length (now s)) at e ⌝ }
     requires { ⌜ freeOf 0 (nameOf (now s) e) ≡ true ⌝ }
     requires { ⌜ e .«name_start» ≡ at + codeAt (now s) at % 16 ⌝ }
-    ensures { λ r. ⌜ r ≡ judgeAt (now (s .entry)) last at e ⌝ }
+    ensures { λ r. ⌜ r ≡ judgeAt rules (now (s .entry)) last at e ⌝ }
 {
-    if is_written(s, at, e) {
+    if is_written(rules, s, at, e) {
         let start = e.name_start;
         let end = e.name_end;
         if name_permitted(&s[start..end]) {
@@ -209,8 +218,8 @@ fn judge_entry(s: &[u8], last: Last, at: usize, e: EntryRecord) -> usize
 }
 
 // The first pass of the strict reader.
-fn count_strict(s: &[u8], h: usize) -> Counted
-    ensures { λ r. ⌜ r ≡ tally 0 (strictly gitRules h (now (s .entry))) ⌝ }
+fn count_strict(rules: u16, s: &[u8], h: usize) -> Counted
+    ensures { λ r. ⌜ r ≡ tally 0 (strictly (gitRules rules) h (now (s .entry))) ⌝ }
 {
     let mut c = Cursor { at: 0 };
     let mut n: usize = 0;
@@ -226,7 +235,7 @@ fn count_strict(s: &[u8], h: usize) -> Counted
         match c.decode(s, h) {
             Decoded::Whole(e, next) => {
                 let at = c.at;
-                let number = judge_entry(s, last, at, e);
+                let number = judge_entry(rules, s, last, at, e);
                 if number != 0 {
                     return Counted::Stopped(Verdict {
                         number,
@@ -321,18 +330,38 @@ pub fn read_tree(bytes: &[u8], h: usize, records: &mut [usize]) -> Answer
     }
 }
 
-// The same for an object that keeps the strict rules.
-pub fn read_tree_strict(bytes: &[u8], h: usize, records: &mut [usize]) -> Answer
-    ensures answer { λ r. ⌜ r ≡ readAnswer h (now (bytes .entry)) (strictly gitRules h (now (bytes .entry))) (now (records .entry)) ⌝ }
-    ensures records { λ r. ⌜ now (records .exit) ≡ readRecords h (now (bytes .entry)) (strictly gitRules h (now (bytes .entry))) (now (records .entry)) ⌝ }
+// Refusals 1, 19 and 2: whether a call with a rule set may begin.
+fn strict_bounds(rules: u16, h: usize, bytes: usize, records: usize) -> Gate
+    ensures { λ r. ⌜ r ≡ strictGate rules h bytes records ⌝ }
+{
+    if rules == 1 {
+        return bounds(h, bytes, records);
+    }
+    if rules == 2 {
+        return bounds(h, bytes, records);
+    }
+    match bounds(h, 0, 0) {
+        Gate::Open => Gate::Shut(Verdict {
+            number: 19,
+            place: 0,
+            part: 0,
+        }),
+        Gate::Shut(v) => Gate::Shut(v),
+    }
+}
+
+// The same for an object that keeps the strict rules, by rule set 1 or 2.
+pub fn read_tree_strict(bytes: &[u8], h: usize, rules: u16, records: &mut [usize]) -> Answer
+    ensures answer { λ r. ⌜ r ≡ strictAnswer rules h (now (bytes .entry)) (now (records .entry)) ⌝ }
+    ensures records { λ r. ⌜ now (records .exit) ≡ strictRecords rules h (now (bytes .entry)) (now (records .entry)) ⌝ }
 {
     let room = records.len() / WIDTH;
-    match bounds(h, bytes.len(), room) {
+    match strict_bounds(rules, h, bytes.len(), room) {
         Gate::Shut(v) => Answer {
             verdict: v,
             count: 0,
         },
-        Gate::Open => match count_strict(bytes, h) {
+        Gate::Open => match count_strict(rules, bytes, h) {
             Counted::Stopped(w) => Answer {
                 verdict: w,
                 count: 0,

@@ -176,13 +176,14 @@ fn read_strictly_in_room(
     s: &[u8],
     object: &[u8],
     h: usize,
+    rules: u16,
     lent: &mut [usize],
     room: usize,
 ) -> Mark {
     if lent.len() < room {
         return m.holds(false);
     }
-    let a = read_tree_strict(object, h, &mut lent[0..room]);
+    let a = read_tree_strict(object, h, rules, &mut lent[0..room]);
     m.reading(s, a)
 }
 
@@ -199,12 +200,20 @@ fn numbers_where_done(number: usize, s: &[u8], at: usize, out: &mut [usize]) {
 }
 
 // Where this is done, the records are those of the plain reading, which stand in the list at a place.
-fn read_strictly(m: Mark, s: &[u8], object: &[u8], h: usize, room: usize, records: usize) -> Mark {
+fn read_strictly(
+    m: Mark,
+    s: &[u8],
+    object: &[u8],
+    h: usize,
+    rules: u16,
+    room: usize,
+    records: usize,
+) -> Mark {
     let mut lent = [NUMBER; NUMBERS];
     let mut want = [NUMBER; NUMBERS];
     let number = number_at(s, m.at);
     numbers_where_done(number.value, s, records, &mut want);
-    read_strictly_in_room(m, s, object, h, &mut lent, room).holds(same_numbers(&lent, &want))
+    read_strictly_in_room(m, s, object, h, rules, &mut lent, room).holds(same_numbers(&lent, &want))
 }
 
 // A cursor that went over an object until it found no entry: how many it found, whether they were the records wanted, the last
@@ -302,10 +311,12 @@ fn tree_reading(s: &[u8], at: usize) -> Mark {
     let h = number_at(s, at);
     let object = bytes_at(s, h.next);
     let room = number_at(s, past_bytes(s, h.next));
-    let records = past_answer(s, room.next);
-    let plain = read(Mark::from(room.next), s, object, h.value, room.value);
-    let strict = read_strictly(plain, s, object, h.value, room.value, records);
-    step(strict, s, object, h.value, room.next, records)
+    let set = number_at(s, room.next);
+    let rules = (set.value % 65536) as u16;
+    let records = past_answer(s, set.next);
+    let plain = read(Mark::from(set.next), s, object, h.value, room.value);
+    let strict = read_strictly(plain, s, object, h.value, rules, room.value, records);
+    step(strict, s, object, h.value, set.next, records)
 }
 
 // 6: a name sought by halving.

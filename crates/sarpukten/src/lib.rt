@@ -11,8 +11,7 @@ ghost use Rattle.order.specs.Order.{nameOrder, orderNumber};
 ghost use Rattle.entry.specs.Record.{recordsOf};
 ghost use Rattle.entry.specs.Decode.{stepOf};
 ghost use Rattle.reading.specs.Listing.{listing};
-ghost use Rattle.reading.specs.Rules.{gitRules, strictly};
-ghost use Rattle.reading.specs.Whole.{readAnswer, readRecords};
+ghost use Rattle.reading.specs.Whole.{readAnswer, readRecords, strictAnswer, strictRecords};
 ghost use Rattle.lookup.specs.Halving.{mostComparisons};
 ghost use Rattle.lookup.specs.Lookup.{lookupIn};
 ghost use Rattle.tree_write.specs.Write.{written, treeSize, treeAnswer};
@@ -187,19 +186,20 @@ pub extern "C" fn sarpukten_read_tree(
     hand(reading::read_tree(bytes, h, records), answer)
 }
 
-// The same, strictly.
+// The same, strictly, by a rule set.
 #[no_mangle]
 pub extern "C" fn sarpukten_read_tree_strict(
     bytes: &[u8],
     h: usize,
+    rules: u16,
     records: &mut [usize],
     answer: &mut [usize; 4],
 ) -> usize
-    ensures { λ r. ⌜ r ≡ readAnswer h (now (bytes .entry)) (strictly gitRules h (now (bytes .entry))) (now (records .entry)) .verdict .number ⌝ }
-    ensures { λ _. ⌜ now (answer .exit) ≡ answerNumbers (readAnswer h (now (bytes .entry)) (strictly gitRules h (now (bytes .entry))) (now (records .entry))) ⌝ }
-    ensures { λ _. ⌜ now (records .exit) ≡ readRecords h (now (bytes .entry)) (strictly gitRules h (now (bytes .entry))) (now (records .entry)) ⌝ }
+    ensures { λ r. ⌜ r ≡ strictAnswer rules h (now (bytes .entry)) (now (records .entry)) .verdict .number ⌝ }
+    ensures { λ _. ⌜ now (answer .exit) ≡ answerNumbers (strictAnswer rules h (now (bytes .entry)) (now (records .entry))) ⌝ }
+    ensures { λ _. ⌜ now (records .exit) ≡ strictRecords rules h (now (bytes .entry)) (now (records .entry)) ⌝ }
 {
-    hand(reading::read_tree_strict(bytes, h, records), answer)
+    hand(reading::read_tree_strict(bytes, h, rules, records), answer)
 }
 
 // The lookup of a name among lent records.

@@ -38,32 +38,32 @@ unfolding flats recordsOf
 flats-records [] = refl
 flats-records (r ∷ rs) = ap (λ (l : List EntryRecord). r ∷ l) (flats-records rs)
 
-module _ (h : ℕ) (s lent : List ℕ) (es : List Entry) (a : Accepts gitRules h s lent es) where
+module _ (k h : ℕ) (s lent : List ℕ) (es : List Entry) (a : Accepts (gitRules k) h s lent es) where
   -- the call began, the listing was counted to its end, and there was room
-  pub accepted : (gateOf h (length s) (many (length lent)) ≡ Open) × (tally 0 (strictly gitRules h s) ≡ Total (length es)) × (length es ≤ many (length lent))
-  accepted = answer-done (strictly gitRules h s) h (length s) (many (length lent)) (many (length lent)) (length es) (cut-refuses gitRules h s) (a .answer)
+  pub accepted : (gateOf h (length s) (many (length lent)) ≡ Open) × (tally 0 (strictly (gitRules k) h s) ≡ Total (length es)) × (length es ≤ many (length lent))
+  accepted = answer-done (strictly (gitRules k) h s) h (length s) (many (length lent)) (many (length lent)) (length es) (cut-refuses (gitRules k) h s) (a .answer)
 
-  pub plain-is : strictly gitRules h s ≡ listing h s
-  plain-is = strict-plain gitRules h s (length es) (accepted .1)
+  pub plain-is : strictly (gitRules k) h s ≡ listing h s
+  plain-is = strict-plain (gitRules k) h s (length es) (accepted .1)
 
   pub count-is : length es ≡ length (recordsIn (listing h s))
   count-is =
-      let z : 0 + length (recordsIn (strictly gitRules h s)) ≡ length (recordsIn (strictly gitRules h s)) = omega arith in
-      tally-length 0 (strictly gitRules h s) (length es) (accepted .1) ∙ z ∙ ap (λ (l : Listing). length (recordsIn l)) plain-is
+      let z : 0 + length (recordsIn (strictly (gitRules k) h s)) ≡ length (recordsIn (strictly (gitRules k) h s)) = omega arith in
+      tally-length 0 (strictly (gitRules k) h s) (length es) (accepted .1) ∙ z ∙ ap (λ (l : Listing). length (recordsIn l)) plain-is
 
-  lent-is : readRecords h s (strictly gitRules h s) lent ≡ flats (recordsIn (listing h s)) ++ drop (length (flats (recordsIn (listing h s)))) lent
+  lent-is : readRecords h s (strictly (gitRules k) h s) lent ≡ flats (recordsIn (listing h s)) ++ drop (length (flats (recordsIn (listing h s)))) lent
   lent-is =
-      ap (λ (l : Listing). stored (readAnswer h s (strictly gitRules h s) lent .verdict) (flats (recordsIn l)) lent) plain-is
+      ap (λ (l : Listing). stored (readAnswer h s (strictly (gitRules k) h s) lent .verdict) (flats (recordsIn l)) lent) plain-is
       ∙ stored-done _ (flats (recordsIn (listing h s))) lent (ap (λ (x : Answer). x .verdict .number) (a .answer))
 
-  pub returned-is : recordsOf (returned h s lent (length es)) ≡ recordsIn (listing h s)
+  pub returned-is : recordsOf (returned k h s lent (length es)) ≡ recordsIn (listing h s)
   returned-is =
       let rs : List EntryRecord = recordsIn (listing h s) in
       ap (λ (l : List ℕ). recordsOf (take (length es * width) l)) lent-is
       ∙ ap recordsOf (take-at (flats rs) (drop (length (flats rs)) lent) (length es * width) (omega (arith, flats-length rs, count-is)))
       ∙ flats-records rs
 
-  pub first-is : take (length es) (recordsOf (readRecords h s (strictly gitRules h s) lent)) ≡ recordsIn (listing h s)
+  pub first-is : take (length es) (recordsOf (readRecords h s (strictly (gitRules k) h s) lent)) ≡ recordsIn (listing h s)
   first-is =
       let rs : List EntryRecord = recordsIn (listing h s) in
       ap (λ (l : List ℕ). take (length es) (recordsOf l)) lent-is ∙ go rs (drop (length (flats rs)) lent) (length es) count-is
@@ -105,10 +105,10 @@ good-at h len (r ∷ rs) g (suc i) l = good-at h len rs (g .1) i (le-of-suc-le-s
 
 -- ---- they are sorted
 
-each-at : (h k : ℕ) (s : List ℕ) (rs : List EntryRecord) → EachSound h (entriesOf k s rs) → (i : ℕ) → i < length rs → SoundEntry h (entryOf k s (nth rs i))
-each-at h k s [] g i l = absurd (not-suc-le-zero l)
-each-at h k s (r ∷ rs) g zero l = g .0
-each-at h k s (r ∷ rs) g (suc i) l = each-at h k s rs (g .1) i (le-of-suc-le-suc l)
+each-at : (k h : ℕ) (s : List ℕ) (rs : List EntryRecord) → EachSound k h (entriesOf h s rs) → (i : ℕ) → i < length rs → SoundEntry k h (entryOf h s (nth rs i))
+each-at k h s [] g i l = absurd (not-suc-le-zero l)
+each-at k h s (r ∷ rs) g zero l = g .0
+each-at k h s (r ∷ rs) g (suc i) l = each-at k h s rs (g .1) i (le-of-suc-le-suc l)
 
 ascends-at : (h : ℕ) (s : List ℕ) (rs : List EntryRecord) → Ascending (entriesOf h s rs) → (i : ℕ) → i + 1 < length rs → Before (entryOf h s (nth rs i)) (entryOf h s (nth rs (i + 1)))
 ascends-at h s [] g i l = absurd (omega arith)
@@ -119,16 +119,16 @@ ascends-at h s (r ∷ q ∷ rs) g (suc i) l =
     subst (λ (k : ℕ). Before (entryOf h s (nth (q ∷ rs) i)) (entryOf h s (nth (r ∷ q ∷ rs) k))) (sym z) (ascends-at h s (q ∷ rs) (g .1) i (omega arith))
 
 -- the records of an accepted object are a sorted listing
-pub accepted-sorted : (h : ℕ) (s lent : List ℕ) (es : List Entry) → Accepts gitRules h s lent es → Sorted h s (recordsIn (listing h s))
+pub accepted-sorted : (k h : ℕ) (s lent : List ℕ) (es : List Entry) → Accepts (gitRules k) h s lent es → Sorted h s (recordsIn (listing h s))
 unfolding entryOf folderOf
-accepted-sorted h s lent es a =
+accepted-sorted k h s lent es a =
     let rs : List EntryRecord = recordsIn (listing h s) in
-    let w = plainly h es .1 (accepts-sound gitRules git-ok h s lent es a .0) in
-    let e : es ≡ entriesOf h s rs = sym (entries-are h s lent es a) in
-    let each : EachSound h (entriesOf h s rs) = subst (λ (l : List Entry). EachSound h l) e (w .0) in
+    let w = plainly k h es .1 (accepts-sound (gitRules k) (git-ok k) h s lent es a .0) in
+    let e : es ≡ entriesOf h s rs = sym (entries-are k h s lent es a) in
+    let each : EachSound k h (entriesOf h s rs) = subst (λ (l : List Entry). EachSound k h l) e (w .0) in
     let up : Ascending (entriesOf h s rs) = subst Ascending e (w .1) in
     record {
       good = good-at h (length s) rs (plain-good h s mostRecords 0 s refl);
       ascends = λ i l. ascends-at h s rs up i l;
-      slashless = λ i l. each-at h h s rs each i l .slashless;
+      slashless = λ i l. each-at k h s rs each i l .slashless;
     }

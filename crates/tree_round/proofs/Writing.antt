@@ -29,34 +29,34 @@ use Rattle.tree_round.specs.Demand.{returned, PlainToo, Rewrites, SomeMo
 use Rattle.tree_round.proofs.Returned.{accepted, plain-is, count-is, returned-is, entries-are, AllGood, plain-good}
 
 pub plain-too : PlainToo
-plain-too h s lent es a = (
-  ap (λ (l : Listing). readAnswer h s l lent) (sym (plain-is h s lent es a)) ∙ a .answer,
-  ap (λ (l : Listing). readRecords h s l lent) (sym (plain-is h s lent es a)),
+plain-too k h s lent es a = (
+  ap (λ (l : Listing). readAnswer h s l lent) (sym (plain-is k h s lent es a)) ∙ a .answer,
+  ap (λ (l : Listing). readRecords h s l lent) (sym (plain-is k h s lent es a)),
 )
 
 -- ---- an accepted object rewrites as itself
 
 -- sound entries pass: their records are well formed, and their names have no NUL
-sound-judged : (h : ℕ) (s : List ℕ) (i : ℕ) (rs : List EntryRecord) → AllGood h (length s) rs → EachSound h (entriesOf h s rs) → judged true h s i rs .number ≡ 0
+sound-judged : (k h : ℕ) (s : List ℕ) (i : ℕ) (rs : List EntryRecord) → AllGood h (length s) rs → EachSound k h (entriesOf h s rs) → judged true h s i rs .number ≡ 0
 unfolding judged entryOf
-sound-judged h s i [] g e = refl
-sound-judged h s i (r ∷ rs) g e =
-    ap (λ (v : Verdict). v .number) (judged-more true h s i r rs (refusal-free h s r (g .0) (e .0 .nulless))) ∙ sound-judged h s (i + 1) rs (g .1) (e .1)
+sound-judged k h s i [] g e = refl
+sound-judged k h s i (r ∷ rs) g e =
+    ap (λ (v : Verdict). v .number) (judged-more true h s i r rs (refusal-free h s r (g .0) (e .0 .nulless))) ∙ sound-judged k h s (i + 1) rs (g .1) (e .1)
 
 pub rewrites : Rewrites
-rewrites h s lent es room a fits small =
+rewrites k h s lent es room a fits small =
     let rs : List EntryRecord = recordsIn (listing h s) in
-    let w = accepted h s lent es a in
+    let w = accepted k h s lent es a in
     let g = gate-open h (length s) (many (length lent)) (w .0) in
-    let t = accepts-sound gitRules git-ok h s lent es a in
-    let r : recordsOf (returned h s lent (length es)) ≡ rs = returned-is h s lent es a in
-    let e : entriesOf h s rs ≡ es = entries-are h s lent es a in
+    let t = accepts-sound (gitRules k) (git-ok k) h s lent es a in
+    let r : recordsOf (returned k h s lent (length es)) ≡ rs = returned-is k h s lent es a in
+    let e : entriesOf h s rs ≡ es = entries-are k h s lent es a in
     let bytes : written h s rs ≡ s = ap asWritten e ∙ sym (t .2) in
-    let each : EachSound h (entriesOf h s rs) = subst (λ (l : List Entry). EachSound h l) (sym e) (plainly h es .1 (t .0) .0) in
-    let j : judged true h s 0 rs .number ≡ 0 = sound-judged h s 0 rs (plain-good h s mostRecords 0 s refl) each in
-    let b : written h s (recordsOf (returned h s lent (length es))) ≡ s = ap (written h s) r ∙ bytes in
-    let few : length (recordsOf (returned h s lent (length es))) ≤ mostRecords = omega (arith, ap length r, count-is h s lent es a, w .2, g .2) in
-    (writes h s (returned h s lent (length es)) room (g .0) (g .1) small few (rw r j) (omega (arith, ap length b)) ∙ ap (λ (l : List ℕ). counted (length l)) b, b)
+    let each : EachSound k h (entriesOf h s rs) = subst (λ (l : List Entry). EachSound k h l) (sym e) (plainly k h es .1 (t .0) .0) in
+    let j : judged true h s 0 rs .number ≡ 0 = sound-judged k h s 0 rs (plain-good h s mostRecords 0 s refl) each in
+    let b : written h s (recordsOf (returned k h s lent (length es))) ≡ s = ap (written h s) r ∙ bytes in
+    let few : length (recordsOf (returned k h s lent (length es))) ≤ mostRecords = omega (arith, ap length r, count-is k h s lent es a, w .2, g .2) in
+    (writes h s (returned k h s lent (length es)) room (g .0) (g .1) small few (rw r j) (omega (arith, ap length b)) ∙ ap (λ (l : List ℕ). counted (length l)) b, b)
 
 -- ---- what was written reads back
 

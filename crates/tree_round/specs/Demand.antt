@@ -20,9 +20,9 @@ use Rattle.lookup.specs.Halving.{found, absent}
 use Rattle.lookup.specs.Lookup.{lookupIn}
 use Rattle.tree_write.specs.Write.{written, treeAnswer}
 
--- the records that the strict reader returned, as they lie in the lent list
-abbrev pub returned : ℕ → List ℕ → List ℕ → ℕ → List ℕ
-returned h s lent n = take (n * width) (readRecords h s (strictly gitRules h s) lent)
+-- the records that the strict reader returned by rule set k, as they lie in the lent list
+abbrev pub returned : ℕ → ℕ → List ℕ → List ℕ → ℕ → List ℕ
+returned k h s lent n = take (n * width) (readRecords h s (strictly (gitRules k) h s) lent)
 
 -- the entry at an index of a listing has this name and this sort
 abbrev pub noEntry : Entry
@@ -36,26 +36,26 @@ pub record Holds (es : List Entry) (name : List ℕ) (folder : Bool) (i : ℕ) :
 -- In an accepted object, bisection for a name without a slash, as folder or as anything else, finds an entry exactly when it is there, and gives that one.
 abbrev pub Finds : Type 0
 Finds =
-    (h : ℕ) (s lent : List ℕ) (es : List Entry) → Accepts gitRules h s lent es → (name : List ℕ) → length name ≤ mostBytes → freeOf 47 name ≡ true → (folder : Bool) (i : ℕ)
-    → ((c : ℕ) × (lookupIn h s (recordsOf (returned h s lent (length es))) name folder ≡ found i c)) ↔ Holds es name folder i
+    (k h : ℕ) (s lent : List ℕ) (es : List Entry) → Accepts (gitRules k) h s lent es → (name : List ℕ) → length name ≤ mostBytes → freeOf 47 name ≡ true → (folder : Bool) (i : ℕ)
+    → ((c : ℕ) × (lookupIn h s (recordsOf (returned k h s lent (length es))) name folder ≡ found i c)) ↔ Holds es name folder i
 
 -- It answers 15 exactly when no entry has the name and the sort.
 abbrev pub Misses : Type 0
 Misses =
-    (h : ℕ) (s lent : List ℕ) (es : List Entry) → Accepts gitRules h s lent es → (name : List ℕ) → length name ≤ mostBytes → freeOf 47 name ≡ true → (folder : Bool)
-    → ((c : ℕ) × (lookupIn h s (recordsOf (returned h s lent (length es))) name folder ≡ absent c)) ↔ ((i : ℕ) → Holds es name folder i → ⊥)
+    (k h : ℕ) (s lent : List ℕ) (es : List Entry) → Accepts (gitRules k) h s lent es → (name : List ℕ) → length name ≤ mostBytes → freeOf 47 name ≡ true → (folder : Bool)
+    → ((c : ℕ) × (lookupIn h s (recordsOf (returned k h s lent (length es))) name folder ≡ absent c)) ↔ ((i : ℕ) → Holds es name folder i → ⊥)
 
 -- What the strict reader accepts the plain reader accepts, with the same answer and the same records.
 abbrev pub PlainToo : Type 0
 PlainToo =
-    (h : ℕ) (s lent : List ℕ) (es : List Entry) → Accepts gitRules h s lent es
-    → (readAnswer h s (listing h s) lent ≡ counted (length es)) × (readRecords h s (listing h s) lent ≡ readRecords h s (strictly gitRules h s) lent)
+    (k h : ℕ) (s lent : List ℕ) (es : List Entry) → Accepts (gitRules k) h s lent es
+    → (readAnswer h s (listing h s) lent ≡ counted (length es)) × (readRecords h s (listing h s) lent ≡ readRecords h s (strictly (gitRules k) h s) lent)
 
 -- An accepted object, written from the records that were returned into room for it, is itself, byte for byte.
 abbrev pub Rewrites : Type 0
 Rewrites =
-    (h : ℕ) (s lent : List ℕ) (es : List Entry) (room : ℕ) → Accepts gitRules h s lent es → length s ≤ room → room ≤ mostBytes
-    → (treeAnswer h s (returned h s lent (length es)) room ≡ counted (length s)) × (written h s (recordsOf (returned h s lent (length es))) ≡ s)
+    (k h : ℕ) (s lent : List ℕ) (es : List Entry) (room : ℕ) → Accepts (gitRules k) h s lent es → length s ≤ room → room ≤ mostBytes
+    → (treeAnswer h s (returned k h s lent (length es)) room ≡ counted (length s)) × (written h s (recordsOf (returned k h s lent (length es))) ≡ s)
 
 -- no record has mode 0
 abbrev pub SomeModes : List EntryRecord → Type 0

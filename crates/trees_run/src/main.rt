@@ -116,7 +116,7 @@ struct Outcome {
 
 fn read(s: &[u8], h: usize, strict: bool, list: &mut [usize]) -> Answer {
     if strict {
-        return reading::read_tree_strict(s, h, list);
+        return reading::read_tree_strict(s, h, 2, list);
     }
     reading::read_tree(s, h, list)
 }

@@ -44,7 +44,7 @@ returns c =
     let if1 = c .before .before .before .before .before .before .if1 in
     let is-written = c .before .before .before .before .before .before .before .is-written in
     let args = c .before .before .before .before .before .before .before .before .before .args in
-    sym (judge-git (args .s .now) _ _ _ (sym (is-written .ensures) ∙ if1 .taken) (sym (name-permitted .ensures) ∙ if2 .taken) (sym (c .before .is-dot-git .ensures) ∙ c .if3 .taken))
+    sym (judge-git _ (args .s .now) _ _ _ (sym (is-written .ensures) ∙ if1 .taken) (sym (name-permitted .ensures) ∙ if2 .taken) (sym (c .before .is-dot-git .ensures) ∙ c .if3 .taken))
 
 after-number-requires : tie.Need-after-number-requires
 after-number-requires c κs = search needs
@@ -59,7 +59,7 @@ returns-2 c =
     let is-written = c .before .before .before .before .before .before .before .before .is-written in
     let args = c .before .before .before .before .before .before .before .before .before .before .args in
     c .after-number .ensures
-    ∙ sym (judge-after (args .s .now) _ _ _ (sym (is-written .ensures) ∙ if1 .taken) (sym (name-permitted .ensures) ∙ if2 .taken) (sym (is-dot-git .ensures) ∙ c .before .if3 .left))
+    ∙ sym (judge-after _ (args .s .now) _ _ _ (sym (is-written .ensures) ∙ if1 .taken) (sym (name-permitted .ensures) ∙ if2 .taken) (sym (is-dot-git .ensures) ∙ c .before .if3 .left))
 
 returns-3 : tie.Need-returns-3
 unfolding nameOf
@@ -67,12 +67,12 @@ returns-3 c =
     let if1 = c .before .before .before .if1 in
     let is-written = c .before .before .before .before .is-written in
     let args = c .before .before .before .before .before .before .args in
-    sym (judge-name (args .s .now) _ _ _ (sym (is-written .ensures) ∙ if1 .taken) (sym (c .before .name-permitted .ensures) ∙ c .if2 .left))
+    sym (judge-name _ (args .s .now) _ _ _ (sym (is-written .ensures) ∙ if1 .taken) (sym (c .before .name-permitted .ensures) ∙ c .if2 .left))
 
 returns-4 : tie.Need-returns-4
 returns-4 c =
     let args = c .before .before .before .args in
-    sym (judge-text (args .s .now) _ _ _ (sym (c .before .is-written .ensures) ∙ c .if1 .left))
+    sym (judge-text _ (args .s .now) _ _ _ (sym (c .before .is-written .ensures) ∙ c .if1 .left))
 
 pub judge-entry-spec : {M : Type 1} → statement M
 judge-entry-spec =

@@ -4,10 +4,10 @@ use Rattle.reading.proofs.read_tree_strict.Statement.{statement}
 use Rattle.reading.proofs.read_tree_strict.Tie as tie
 use mathlib.Core.Path.{sym, _∙_}
 use Rattle.reading.specs.Rules.{gitRules}
-use Rattle.reading.proofs.Laws.{answer-shut, answer-counted, refused-both, cut-refuses, gate-refuses, tally-stops, Refusal, read-both, strict-plain, strict-counts}
+use Rattle.reading.proofs.Laws.{answer-shut, answer-counted, refused-both, cut-refuses, strict-refuses, tally-stops, Refusal, read-both, strict-plain, strict-counts}
 
-bounds-requires : tie.Need-bounds-requires
-bounds-requires c κs = search needs
+strict-bounds-requires : tie.Need-strict-bounds-requires
+strict-bounds-requires c κs = search needs
 
 enum-known-v : tie.Need-enum-known-v
 enum-known-v c = search needs
@@ -26,20 +26,24 @@ enum-known-n c = search needs
 
 finish-requires : tie.Need-finish-requires
 finish-requires c κs =
+    let n = c .before .before .n in
     let count-strict = c .before .before .before .before .count-strict in
-    strict-counts gitRules _ _ _ (sym (count-strict .ensures) ∙ c .before .before .n .given .1)
+    let args = c .before .before .before .before .before .before .before .before .before .before .args in
+    strict-counts (gitRules (args .rules)) _ _ _ (sym (count-strict .ensures) ∙ n .given .1)
 
 returns : tie.Need-returns
 returns c =
-    let bounds = c .before .before .before .bounds in
-    refused-both _ _ _ (answer-shut _ _ _ _ (sym (bounds .ensures) ∙ c .before .v .given .1)) (gate-refuses _ _ _ _ (sym (bounds .ensures) ∙ c .before .v .given .1))
+    let strict-bounds = c .before .before .before .strict-bounds in
+    refused-both _ _ _ (answer-shut _ _ _ _ (sym (strict-bounds .ensures) ∙ c .before .v .given .1)) (strict-refuses _ _ _ _ _ (sym (strict-bounds .ensures) ∙ c .before .v .given .1))
 
 returns-2 : tie.Need-returns-2
 returns-2 c =
     let count-strict = c .before .before .before .count-strict in
     let enum-told = c .before .before .before .before .enum-told in
-    let bounds = c .before .before .before .before .before .before .bounds in
-    refused-both _ _ _ (answer-counted _ _ _ (sym (bounds .ensures) ∙ enum-told .given .1) (sym (count-strict .ensures) ∙ c .before .w .given .1)) (tally-stops Refusal 0 _ _ (cut-refuses gitRules _ _) (sym (count-strict .ensures) ∙ c .before .w .given .1))
+    let strict-bounds = c .before .before .before .before .before .before .strict-bounds in
+    let args = c .before .before .before .before .before .before .before .before .before .args in
+    refused-both _ _ _ (answer-counted _ _ _ (sym (strict-bounds .ensures) ∙ enum-told .given .1) (sym (count-strict .ensures) ∙ c .before .w .given .1))
+    (tally-stops Refusal 0 _ _ (cut-refuses (gitRules (args .rules)) _ _) (sym (count-strict .ensures) ∙ c .before .w .given .1))
 
 same-length : tie.Need-same-length
 same-length c = search needs
@@ -50,15 +54,16 @@ returns-3 c =
     let n = c .before .before .before .before .before .n in
     let count-strict = c .before .before .before .before .before .before .before .count-strict in
     let enum-told = c .before .before .before .before .before .before .before .before .enum-told in
-    let bounds = c .before .before .before .before .before .before .before .before .before .before .bounds in
+    let strict-bounds = c .before .before .before .before .before .before .before .before .before .before .strict-bounds in
     let args = c .before .before .before .before .before .before .before .before .before .before .before .before .before .args in
-    read-both _ _ (args .records .now) (answer-counted _ _ _ (sym (bounds .ensures) ∙ enum-told .given .1) (sym (count-strict .ensures) ∙ n .given .1)) (finish .ensures .0) (strict-plain gitRules _ _ _ (sym (count-strict .ensures) ∙ n .given .1)) (finish .ensures .1)
+    read-both _ _ (args .records .now) (answer-counted _ _ _ (sym (strict-bounds .ensures) ∙ enum-told .given .1) (sym (count-strict .ensures) ∙ n .given .1)) (finish .ensures .0)
+    (strict-plain (gitRules (args .rules)) _ _ _ (sym (count-strict .ensures) ∙ n .given .1)) (finish .ensures .1)
 
 pub read-tree-strict-spec : {M : Type 1} → statement M
 read-tree-strict-spec =
     tie.close
     (tie.spec
-    bounds-requires
+    strict-bounds-requires
     enum-known-v
     enum-told
     count-strict-requires
