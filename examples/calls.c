@@ -111,6 +111,7 @@ static void rules(void)
     HOLD(three(strict(SARPUKTEN_PRESENT, "40000 .GITx", "100644 a"), SARPUKTEN_DONE, 0, 2));
     HOLD(three(strict(SARPUKTEN_PRESENT, "100644 a", "100664 b"), SARPUKTEN_MODE_TEXT, 29, 0));
     HOLD(three(strict(SARPUKTEN_WITH_100664, "100644 a", "100664 b"), SARPUKTEN_DONE, 0, 2));
+    HOLD(three(strict(SARPUKTEN_PRESENT, "100644 a", "40000 a"), SARPUKTEN_SAME_NAME, 29, 0));
 }
 
 static void trees(void)

@@ -54,6 +54,7 @@ enum {
     SARPUKTEN_EMPTY_ENCODING = 13,   /* writing: the encoding is there and empty; place 0 */
     SARPUKTEN_LF_IN_ENCODING = 14,   /* writing: the encoding has an LF; place 0 */
     SARPUKTEN_NOT_THERE = 15,        /* lookup: no such entry; place 0 */
+    SARPUKTEN_SAME_NAME = 17,        /* strict: an entry before has this name; place: the entry's first byte */
     SARPUKTEN_DOT_GIT = 18,          /* strict: the name is .git with letters in upper case; place: the entry's first byte */
     SARPUKTEN_RULE_SET = 19,         /* strict: there is no such rule set; place 0 */
     SARPUKTEN_NO_MODE_OR_KIND = 23   /* a number is no mode, or no kind of object; place 0 */
@@ -159,7 +160,7 @@ size_t sarpukten_read_tree(
     const uint8_t *bytes, size_t bytes_len, size_t h, size_t *records, size_t records_len, size_t answer[4]);
 
 /* The same for an object as Git writes it, by a rule set: SARPUKTEN_PRESENT, or SARPUKTEN_WITH_100664, which permits that mode besides
- * the five. Refuses also 19 (after 1 and before 2), 5, 6, 7, 18. For an object from outside this is the one to call: two objects that it
+ * the five. Refuses also 19 (after 1 and before 2), 5, 6, 7, 17, 18. For an object from outside this is the one to call: two objects that it
  * takes with the same entries are the same bytes, and so have the same id. */
 size_t sarpukten_read_tree_strict(
     const uint8_t *bytes, size_t bytes_len, size_t h, uint16_t rules, size_t *records, size_t records_len, size_t answer[4]);

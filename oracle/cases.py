@@ -360,6 +360,10 @@ def exhaustive(long):
             yield tree_reading(20, O[:n] + bytes([letter]) + O[n + 1:], 10)
     for room in range(15):
         yield tree_reading(20, O, room)
+    # One name twice, as a file and as a folder, with and without entries between them; and where it is out of order besides.
+    both = [(b"100644", b"a"), (b"100644", b"a-"), (b"100644", b"a--"), (b"40000", b"a-"), (b"100644", b"a."), (b"40000", b"a"), (b"100644", b"a0"), (b"40000", b"a0")]
+    for some_of in [[e for i, e in enumerate(both) if n >> i & 1] for n in range(256)] + [both[:1] * 2, both[:1] + both[5:6] + both[:1], both[5::-5], both[2::-1] + both[3:4]]:
+        yield tree_reading(20, b"".join(mode + b" " + name + b"\0" + b"\x11" * 20 for mode, name in some_of), 40)
     # Rule sets: of each mode text, with each id length, and before a list without room.
     for rules in RULE_SETS:
         for mode in [*FIVE, b"100664", b"0100664", b"1100664", b"100664 ", b"10066", b"100600", b"040000"]:

@@ -11,7 +11,7 @@ MAX_RECORDS = 1_048_576        # "any list at most"
 # "The numbers"
 DONE, BAD_H, OVER, UNREADABLE, FEW_RECORDS, BAD_MODE_TEXT, BAD_NAME, NOT_AFTER = range(8)
 SHORT_OUTPUT, NUL_IN_NAME, BAD_RECORD, FIELD, ACTOR, EMPTY_ENCODING, LF_ENCODING, NOT_THERE = range(8, 16)
-DOT_GIT, NO_RULE_SET, NOT_ACCEPTABLE = 18, 19, 23
+SAME_NAME, DOT_GIT, NO_RULE_SET, NOT_ACCEPTABLE = 17, 18, 19, 23
 WIDTH = 5                      # the numbers of an entry's record
 NO_MODE, NO_NUL, CUT_ID = 1, 2, 3      # the parts of UNREADABLE
 
@@ -159,7 +159,7 @@ def tree_read(h, object, room, strict, rules=2):
         return (NO_RULE_SET, 0, 0, 0), []
     if over([len(object)], [lent]):
         return (OVER, 0, 0, 0), []
-    at, records, before = 0, [], None
+    at, records, before, names = 0, [], None, set()
     texts = [text for text, _word in KINDS] + ([b"100664"] if rules == 1 else [])
     while at < len(object):
         if len(records) == MAX_RECORDS:
@@ -178,6 +178,9 @@ def tree_read(h, object, room, strict, rules=2):
                 return (DOT_GIT, at, 0, 0), []
             if before is not None and order(*before, *now) != -1:
                 return (NOT_AFTER, at, 0, 0), []
+            if now[0] in names:
+                return (SAME_NAME, at, 0, 0), []
+            names.add(now[0])
         before = now
         records.append(entry)
         at = after

@@ -47,6 +47,7 @@ impl Error {
             13 => "the encoding is empty",
             14 => "the encoding has an LF",
             15 => "no such entry",
+            17 => "an entry before has this name",
             18 => "the name is .git with letters in upper case",
             19 => "there is no such rule set",
             23 => "a number is no mode or no kind of object",

@@ -36,12 +36,12 @@ fn noise(seed: u64, len: usize) -> Vec<u8> {
 #[test]
 fn reads_finds_and_writes() {
     for kind in [Kind::Sha1, Kind::Sha256] {
-        let data = object(kind, &["100644 a", "100644 a.b", "40000 a", "100755 a0", "40000 guest", "120000 z"]);
+        let data = object(kind, &["100644 a", "100644 a.b", "40000 a.c", "100755 a0", "40000 guest", "120000 z"]);
         for tree in [TreeRef::from_bytes(&data, kind).unwrap(), TreeRef::from_bytes_strict(&data, kind, RuleSet::Present).unwrap()] {
             assert_eq!(tree.len(), 6);
             assert_eq!(tree.entries().len(), 6);
             let names: Vec<_> = tree.entries().map(|e| e.filename).collect();
-            assert_eq!(names, [&b"a"[..], b"a.b", b"a", b"a0", b"guest", b"z"]);
+            assert_eq!(names, [&b"a"[..], b"a.b", b"a.c", b"a0", b"guest", b"z"]);
             assert_eq!(tree.get(3).unwrap().mode.kind(), EntryKind::BlobExecutable);
             assert_eq!(tree.get(6), None);
             for (i, e) in tree.entries().enumerate() {
@@ -112,6 +112,8 @@ fn refusals() {
     }
     assert_eq!(strictly(&["100644 a", "100644 a"]), refused(7, 29));
     assert_eq!(strictly(&["40000 a", "100644 a.b"]), refused(7, 28));
+    assert_eq!(strictly(&["100644 a", "40000 a"]), refused(17, 29));
+    assert_eq!(strictly(&["100644 a", "100644 a.b", "40000 a"]), refused(17, 60));
 }
 
 #[test]
@@ -134,7 +136,7 @@ fn order() {
 
 #[test]
 fn any_bytes() {
-    let whole = object(Kind::Sha1, &["100644 a", "100644 a.b", "40000 a", "100755 a0", "40000 guest", "120000 z"]);
+    let whole = object(Kind::Sha1, &["100644 a", "100644 a.b", "40000 a.c", "100755 a0", "40000 guest", "120000 z"]);
     for seed in 0..20_000u64 {
         let bytes = noise(seed + 1, 4);
         let mut data = whole.clone();

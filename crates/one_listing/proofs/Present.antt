@@ -1,9 +1,9 @@
 -- The rules of a rule set keep the laws of the theorem; and a sound listing in plain words is a sound listing under them. Assumes nothing.
-use Prim.Native.Nat.{ℕ, suc}
+use Prim.Native.Nat.{ℕ}
 use native.Mathlib.Omega.{arith}
-use mathlib.Core.Path.{_≡_, refl, sym, ap}
+use mathlib.Core.Path.{_≡_, refl, sym, ap, _∙_}
 use mathlib.Core.Bool.{Bool, true, false, not, _||_, false≢true}
-use mathlib.Core.List.{List, [], _∷_, map}
+use mathlib.Core.List.{List, [], _∷_, map, List·Memᴰ, List·Memᴰ·not-nil, List·Memᴰ·cases-cons, List·Memᴰ·head, List·Memᴰ·tail}
 use mathlib.Core.Logic.{_⊎_, inl, inr, _↔_}
 use lib.Dec.{eqb}
 use borrow.Author.Tests.{eqb-true}
@@ -15,9 +15,10 @@ use Rattle.mode.specs.Write.{writeMode, trimmed, again}
 use Rattle.order.specs.declared.Order.{Order}
 use Rattle.order.specs.declared.Order.the-variants.{Below, Same, Above}
 use Rattle.entry.specs.Entry.{Entry}
-use Rattle.reading.specs.Rules.{orElse, groupRow, modesOf, permitted, lower, isDotGit, nameNumber, isBelow, standsBefore, isAfter, gitRules}
+use Rattle.doubles.specs.Doubles.{namedBefore}
+use Rattle.reading.specs.Rules.{orElse, groupRow, modesOf, permitted, lower, isDotGit, nameNumber, isBelow, standsBefore, isAfter, afterNumber, gitRules}
 use Rattle.reading.proofs.Judging.{permitted-parts}
-use Rattle.one_listing.specs.Sound.{isMode, Permitted, Sound, Five, SoundEntry, Before, Ascending, EachSound, SoundListing}
+use Rattle.one_listing.specs.Sound.{isMode, Permitted, Sound, Five, SoundEntry, Before, Ascending, EachSound, Distinct, SoundListing}
 use Rattle.one_listing.specs.Demand.{OneListing, ShortRoom, OneObject}
 use Rattle.one_listing.proofs.Cutting.{RowsOk, RulesOk}
 use Rattle.one_listing.proofs.Theorem.{one-listing, short-room, one-object}
@@ -51,13 +52,6 @@ modes-ok k = go (eqb k 1)
     go true = (record { written = refl; some = λ e. omega arith; small = omega arith; same = refl }, rows-ok)
     go false = rows-ok
 
-passed : (v : Bool) (j : ℕ) → _≡_ {A = ℕ} (pick v 0 (suc j)) 0 → v ≡ true
-passed true j e = refl
-passed false j e = absurd (omega arith)
-
-fine : (v : Bool) (j : ℕ) → v ≡ true → _≡_ {A = ℕ} (pick v 0 (suc j)) 0
-fine v j e = rw e
-
 below-is : (o : Order) → isBelow o ≡ true → o ≡ Below
 below-is Below e = refl
 below-is Same e = absurd (false≢true e)
@@ -81,13 +75,23 @@ named-parts n e = go (permitted n) (isDotGit n) e
     go true false e = (refl, refl)
     go false g e = absurd (omega arith)
 
+-- an entry that is not refused for its place stands after the one before, and its name is new
+placed-parts : (before : List Entry) (e : Entry) → afterNumber before e ≡ 0 → (isAfter before e ≡ true) × (namedBefore before (e .name) ≡ false)
+unfolding afterNumber
+placed-parts before e q = go (isAfter before e) (namedBefore before (e .name)) q
+  where
+    go : (a n : Bool) → _≡_ {A = ℕ} (orElse (pick a 0 7) (pick n 17 0)) 0 → (a ≡ true) × (n ≡ false)
+    go true true e = absurd (omega arith)
+    go true false e = (refl, refl)
+    go false n e = absurd (omega arith)
+
 pub git-ok : (k : ℕ) → RulesOk (gitRules k)
 unfolding gitRules
 git-ok k =
     record {
       modes = modes-ok k;
       names = λ n e. permitted-parts n (named-parts n e .0) .1;
-      after = λ p ps e q. after-before p ps e (passed (isAfter (p ∷ ps) e) 6 q);
+      after = λ p ps e q. after-before p ps e (placed-parts (p ∷ ps) e q .0);
     }
 
 -- ---- in plain words
@@ -191,10 +195,9 @@ name-fine k h e s =
       this-not (map lower (e .name)) (ascii ".git") (s .no-git),
     )
 
-plain-permitted : (k h : ℕ) (before : List Entry) (e : Entry) → SoundEntry k h e → isAfter before e ≡ true → Permitted (gitRules k) h before e
-unfolding gitRules
-plain-permitted k h before e s a =
-    record { known = known-mode k (e .mode) (s .mode); named = name-fine k h e s; placed = fine (isAfter before e) 6 a; sized = s .sized }
+plain-permitted : (k h : ℕ) (before : List Entry) (e : Entry) → SoundEntry k h e → isAfter before e ≡ true → namedBefore before (e .name) ≡ false → Permitted (gitRules k) h before e
+unfolding gitRules afterNumber
+plain-permitted k h before e s a n = record { known = known-mode k (e .mode) (s .mode); named = name-fine k h e s; placed = rw (a, n); sized = s .sized }
 
 sound-each : (k h : ℕ) (before es : List Entry) → Sound (gitRules k) h before es → EachSound k h es
 sound-each k h before [] s = tt
@@ -218,9 +221,58 @@ ascends-rest : (a : Entry) (es : List Entry) → Ascending (a ∷ es) → Ascend
 ascends-rest a [] s = tt
 ascends-rest a (b ∷ es) s = s .1
 
-each-sound : (k h : ℕ) (before es : List Entry) → EachSound k h es → Ascending es → Follows before es → Sound (gitRules k) h before es
-each-sound k h before [] s a f = tt
-each-sound k h before (e ∷ es) s a f = (plain-permitted k h before e (s .0) f, each-sound k h (e ∷ before) es (s .1) (ascends-rest e es a) (follows e before es a))
+-- ---- no two of one name
+
+-- no entry of the one list has the name of an entry of the other
+abbrev Apart : List Entry → List Entry → Type 0
+Apart before es = (a : Entry) → List·Memᴰ a before → (b : Entry) → List·Memᴰ b es → a .name ≡ b .name → ⊥
+
+new-apart : (before : List Entry) (n : List ℕ) → namedBefore before n ≡ false → (a : Entry) → List·Memᴰ a before → a .name ≡ n → ⊥
+unfolding namedBefore
+new-apart [] n e a m q = List·Memᴰ·not-nil m
+new-apart (p ∷ ps) n e a m q = go (new-apart ps n) (sameBytes (p .name) n) refl e (List·Memᴰ·cases-cons m)
+  where
+    go : (namedBefore ps n ≡ false → (a : Entry) → List·Memᴰ a ps → a .name ≡ n → ⊥) → (v : Bool) → sameBytes (p .name) n ≡ v → (v || namedBefore ps n) ≡ false
+        → (a ≡ p) ⊎ List·Memᴰ a ps → ⊥
+    go ih true s e w = false≢true (sym e)
+    go ih false s e (inr i) = ih e a i q
+    go ih false s e (inl w) =
+        let r : p .name ≡ n = ap (λ (x : Entry). x .name) (sym w) ∙ q in
+        false≢true (sym s ∙ rw r (same-refl n))
+
+apart-new : (before : List Entry) (n : List ℕ) → ((a : Entry) → List·Memᴰ a before → a .name ≡ n → ⊥) → namedBefore before n ≡ false
+unfolding namedBefore
+apart-new [] n f = refl
+apart-new (p ∷ ps) n f = rw (this-not (p .name) n (f p (List·Memᴰ·head refl))) (apart-new ps n (λ a m. f a (List·Memᴰ·tail m)))
+
+-- with the first entry among those before
+apart-next : (e : Entry) (before es : List Entry) → ((b : Entry) → List·Memᴰ b es → e .name ≡ b .name → ⊥) → Apart before es → Apart (e ∷ before) es
+apart-next e before es f g a m b l q = go (List·Memᴰ·cases-cons m)
+  where
+    go : (a ≡ e) ⊎ List·Memᴰ a before → ⊥
+    go (inl w) = f b l (ap (λ (x : Entry). x .name) (sym w) ∙ q)
+    go (inr i) = g a i b l q
+
+sound-distinct : (k h : ℕ) (before es : List Entry) → Sound (gitRules k) h before es → Distinct es × Apart before es
+unfolding gitRules
+sound-distinct k h before [] s = (tt, λ a m b l q. List·Memᴰ·not-nil l)
+sound-distinct k h before (e ∷ es) s = go (sound-distinct k h (e ∷ before) es (s .1))
+  where
+    go : Distinct es × Apart (e ∷ before) es → Distinct (e ∷ es) × Apart before (e ∷ es)
+    go w = (((λ b l q. w .1 e (List·Memᴰ·head refl) b l q), w .0), λ a m b l q. at a m b q (List·Memᴰ·cases-cons l))
+      where
+        at : (a : Entry) → List·Memᴰ a before → (b : Entry) → a .name ≡ b .name → (b ≡ e) ⊎ List·Memᴰ b es → ⊥
+        at a m b q (inl i) = new-apart before (e .name) (placed-parts before e (s .0 .placed) .1) a m (q ∙ ap (λ (x : Entry). x .name) i)
+        at a m b q (inr i) = w .1 a (List·Memᴰ·tail m) b i q
+
+-- ---- both ways
+
+each-sound : (k h : ℕ) (before es : List Entry) → EachSound k h es → Ascending es → Follows before es → Distinct es → Apart before es → Sound (gitRules k) h before es
+each-sound k h before [] s a f d g = tt
+each-sound k h before (e ∷ es) s a f d g = (
+  plain-permitted k h before e (s .0) f (apart-new before (e .name) (λ b m. g b m e (List·Memᴰ·head refl))),
+  each-sound k h (e ∷ before) es (s .1) (ascends-rest e es a) (follows e before es a) (d .1) (apart-next e before es (d .0) (λ b m x l. g b m x (List·Memᴰ·tail l))),
+)
 
 first-follows : (es : List Entry) → Follows [] es
 unfolding isAfter
@@ -229,7 +281,10 @@ first-follows (e ∷ es) = refl
 
 -- sound in plain words is sound under a rule set
 pub plainly : (k h : ℕ) (es : List Entry) → SoundListing k h es ↔ Sound (gitRules k) h [] es
-plainly k h es = ((λ s. each-sound k h [] es (s .0) (s .1) (first-follows es)), (λ s. (sound-each k h [] es s, sound-ascends k h [] es s)))
+plainly k h es = (
+  (λ s. each-sound k h [] es (s .0) (s .1) (first-follows es) (s .2) (λ a m. absurd (List·Memᴰ·not-nil m))),
+  (λ s. (sound-each k h [] es s, sound-ascends k h [] es s, sound-distinct k h [] es s .0)),
+)
 
 -- ---- the theorem for a rule set
 

@@ -2,7 +2,7 @@
 use Prim.Native.Nat.{ℕ}
 use mathlib.Core.Path.{_≡_}
 use mathlib.Core.Bool.{Bool, true, false, _||_}
-use mathlib.Core.List.{List, [], _∷_, map}
+use mathlib.Core.List.{List, [], _∷_, map, List·Memᴰ}
 use mathlib.Core.Logic.{_⊎_}
 use lib.Dec.{eqb}
 use lib.ListN.{length}
@@ -65,6 +65,11 @@ abbrev pub EachSound : ℕ → ℕ → List Entry → Type 0
 EachSound k h [] = Unit {0}
 EachSound k h (e ∷ es) = SoundEntry k h e × EachSound k h es
 
+-- no two entries, adjacent or far apart, have one name
+abbrev pub Distinct : List Entry → Type 0
+Distinct [] = Unit {0}
+Distinct (a ∷ es) = ((b : Entry) → List·Memᴰ b es → a .name ≡ b .name → ⊥) × Distinct es
+
 -- a sound listing by rule set k
 abbrev pub SoundListing : ℕ → ℕ → List Entry → Type 0
-SoundListing k h es = EachSound k h es × Ascending es
+SoundListing k h es = EachSound k h es × Ascending es × Distinct es

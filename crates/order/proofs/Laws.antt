@@ -152,10 +152,15 @@ pub order-irreflexive : (a : List ℕ) (s : Bool) → nameOrder a s a s ≡ Belo
 order-irreflexive a s h = below≢same h (order-self a s)
 
 -- the first bytes of two names, one of which is below the other
-first-le : (x : ℕ) (a : List ℕ) (s : Bool) (y : ℕ) (b : List ℕ) (t : Bool) → nameOrder (x ∷ a) s (y ∷ b) t ≡ Below → x ≤ y
+pub first-le : (x : ℕ) (a : List ℕ) (s : Bool) (y : ℕ) (b : List ℕ) (t : Bool) → nameOrder (x ∷ a) s (y ∷ b) t ≡ Below → x ≤ y
 unfolding nameOrder
 first-le x a s y b t h =
     ⊎-elim (λ w. omega (arith, by-below w)) (λ w. omega (arith, by-same (w .0))) (else-below (byNumber x y) (nameOrder a s b t) h)
+
+-- the rests of two names with one first byte
+pub below-rest : (x : ℕ) (a : List ℕ) (s : Bool) (y : ℕ) (b : List ℕ) (t : Bool) → x ≡ y → nameOrder (x ∷ a) s (y ∷ b) t ≡ Below → nameOrder a s b t ≡ Below
+unfolding nameOrder
+below-rest x a s y b t e h = rw (by-eq e) at h
 
 at-end : (x y z : ℕ) → byNumber x y ≡ Below → byNumber y z ≡ Below → byNumber x z ≡ Below
 at-end x y z h k = by-lt (omega (arith, by-below h, by-below k))

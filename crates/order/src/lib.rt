@@ -50,7 +50,7 @@ fn next_at(s: &[u8], at: usize, tree: bool) -> u16
 }
 
 // Two names by what stands at one position of them.
-fn by_next(a: &[u8], atree: bool, b: &[u8], btree: bool, i: usize) -> Order
+pub fn by_next(a: &[u8], atree: bool, b: &[u8], btree: bool, i: usize) -> Order
     ensures { λ r. ⌜ r ≡ byNumber (next (drop i (now (a .entry))) atree) (next (drop i (now (b .entry))) btree) ⌝ }
 {
     let x = next_at(a, i, atree);

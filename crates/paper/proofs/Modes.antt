@@ -56,5 +56,5 @@ of-modes = record {
       (λ i o p. same) and (λ i o p. same) and (λ i o p. same) and (λ i o p. same) and (λ i o p. same) and (λ i o p. same) and (λ i o p. same)
       and (λ i o p. same) and (λ i o p. same) and (λ i o p. same) and (λ i o p. same) and (λ i o p. same) and (λ i o p. same) and (λ i o p. same)
       and (λ i o p. same) and (λ i o p. same) and none;
-  orders = (λ i o p. same) and (λ i o p. same) and none;
+  orders = (λ i o p. same) and (λ i o p. same) and (λ i o p. same) and none;
 }

@@ -73,7 +73,7 @@ among n (k ∷ ks) = eqb n k || among n ks
 
 -- the numbers that come with a place; with any other the place is 0
 abbrev pub placed : List ℕ
-placed = 3 ∷ 4 ∷ 5 ∷ 6 ∷ 7 ∷ 8 ∷ 9 ∷ 10 ∷ 11 ∷ 12 ∷ 18 ∷ []
+placed = 3 ∷ 4 ∷ 5 ∷ 6 ∷ 7 ∷ 8 ∷ 9 ∷ 10 ∷ 11 ∷ 12 ∷ 17 ∷ 18 ∷ []
 
 -- a part comes with 3, and is one of the three; with any other number it is 0
 abbrev pub parted : Verdict → Bool

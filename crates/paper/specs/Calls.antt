@@ -24,6 +24,7 @@ use Rattle.mode.proofs.EntryMode as mode
 use Rattle.front.proofs as front
 use Rattle.order.proofs as order
 use Rattle.entry.proofs as entry
+use Rattle.doubles.proofs as doubles
 use Rattle.reading.proofs as reading
 use Rattle.lookup.proofs as lookup
 use Rattle.record_slice.proofs as slice
@@ -159,6 +160,7 @@ modeQuestions =
 abbrev pub orders : List Call
 orders =
     call order.name_order.Kinds.ps order.name_order.Kinds.r order.name_order.Reads.Post
+    ∷ call order.by_next.Kinds.ps order.by_next.Kinds.r order.by_next.Reads.Post
     ∷ call order.Order.number.Kinds.ps order.Order.number.Kinds.r order.Order.number.Reads.Post
     ∷ []
 
@@ -181,6 +183,9 @@ entryQuestions =
     ∷ []
 
 -- ---- reading
+
+abbrev pub placeEntry : Deed
+placeEntry = stores (call doubles.place_entry.Kinds.ps doubles.place_entry.Kinds.r doubles.place_entry.Reads.Post) (λ i. now (i .args .0)) (λ i o. now (o .last .0))
 
 abbrev pub readTree : Deed
 readTree = writes (call reading.read_tree.Kinds.ps reading.read_tree.Kinds.r reading.read_tree.Reads.Post) (λ i x. x) (λ i. now (i .args .1 .1 .0)) (λ i o. now (o .last .1 .1 .0))

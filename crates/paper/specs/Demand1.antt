@@ -30,8 +30,9 @@ pub record OfEntries : Type 3 where
 
 -- a whole tree, plainly and strictly
 pub record OfReading : Type 3 where
+  pub place-entry : Keeps a.placeEntry (0 ∷ [])
   pub read-tree : Keeps a.readTree (0 ∷ 1 ∷ 2 ∷ 3 ∷ 4 ∷ [])
-  pub read-tree-strict : Keeps a.readTreeStrict (0 ∷ 1 ∷ 2 ∷ 3 ∷ 4 ∷ 5 ∷ 6 ∷ 7 ∷ 18 ∷ 19 ∷ [])
+  pub read-tree-strict : Keeps a.readTreeStrict (0 ∷ 1 ∷ 2 ∷ 3 ∷ 4 ∷ 5 ∷ 6 ∷ 7 ∷ 17 ∷ 18 ∷ 19 ∷ [])
 
 -- lookup, over flat numbers, over an array of records, and over a lent slice of them
 pub record OfLookup : Type 3 where
@@ -69,7 +70,7 @@ pub record OfBorder : Type 3 where
   pub mode-text : Keeps c.modeText (0 ∷ [])
   pub tree-step : Keeps c.treeStep (0 ∷ 1 ∷ 2 ∷ 3 ∷ [])
   pub read-tree : Keeps c.readTree (0 ∷ 1 ∷ 2 ∷ 3 ∷ 4 ∷ [])
-  pub read-tree-strict : Keeps c.readTreeStrict (0 ∷ 1 ∷ 2 ∷ 3 ∷ 4 ∷ 5 ∷ 6 ∷ 7 ∷ 18 ∷ 19 ∷ [])
+  pub read-tree-strict : Keeps c.readTreeStrict (0 ∷ 1 ∷ 2 ∷ 3 ∷ 4 ∷ 5 ∷ 6 ∷ 7 ∷ 17 ∷ 18 ∷ 19 ∷ [])
   pub bisect-entry : Keeps c.bisectEntry (0 ∷ 1 ∷ 2 ∷ 10 ∷ 15 ∷ [])
   pub tree-size : Keeps c.treeSize (0 ∷ 1 ∷ 2 ∷ 10 ∷ [])
   pub write-tree : Keeps c.writeTree (0 ∷ 1 ∷ 2 ∷ 8 ∷ 9 ∷ 10 ∷ [])

@@ -22,8 +22,9 @@ use Rattle.order.specs.Order.{byNumber, next, nameOrder, orderNumber}
 use Rattle.entry.specs.Record.{recordsOf, wellFormed, nameOf, idOf}
 use Rattle.entry.specs.Entry.{Entry, entryBytes, asWritten, entryOf, entriesOf}
 use Rattle.entry.specs.Decode.{shortPart, decodeName, decodeMode, decode}
+use Rattle.doubles.specs.Doubles.{namedBefore}
 use Rattle.reading.specs.Listing.{Listing, follow, plain, listing, recordsIn, flats, tally}
-use Rattle.reading.specs.Rules.{judge, textOf, cut, permitted, isDotGit, nameNumber, standsBefore, isAfter, gitRules}
+use Rattle.reading.specs.Rules.{judge, textOf, cut, permitted, isDotGit, nameNumber, standsBefore, isAfter, afterNumber, gitRules}
 use Rattle.reading.specs.Whole.{answerOf, readAnswer, readRecords, isSet, strictGate, strictAnswer, strictRecords}
 use Rattle.commit_write.specs.Fold.{foldRest, foldValue}
 use Rattle.commit_write.specs.Written.{headerWritten}
@@ -177,5 +178,5 @@ table =
     ∷ []
 
 pub all-hold : map (λ (r : Row). r .asked) table ≡ map (λ (r : Row). r .answer) table
-unfolding table foldRest foldValue headerWritten octalFrom hasSix textLen settle restAt readMode valueOf sortOf executes kindOf isTree trimmed writeMode rows byNumber next nameOrder orderNumber idLength sizeGate gateOf stored fitted gated recordsOf wellFormed nameOf idOf entryBytes asWritten entryOf shortPart decodeName decodeMode decode follow plain recordsIn flats tally judge textOf cut permitted isDotGit nameNumber standsBefore isAfter gitRules isSet strictGate answerOf refusal judged measured treeAnswer
+unfolding table foldRest foldValue headerWritten octalFrom hasSix textLen settle restAt readMode valueOf sortOf executes kindOf isTree trimmed writeMode rows byNumber next nameOrder orderNumber idLength sizeGate gateOf stored fitted gated recordsOf wellFormed nameOf idOf entryBytes asWritten entryOf shortPart decodeName decodeMode decode follow plain recordsIn flats tally judge textOf cut permitted isDotGit nameNumber standsBefore isAfter namedBefore afterNumber gitRules isSet strictGate answerOf refusal judged measured treeAnswer
 all-hold = refl

@@ -1,7 +1,7 @@
 -- Laws of the strict rules: each way through the tests of a mode text, of a name, of an entry, and what they say over the entries read before. Assumes nothing.
-use Prim.Native.Nat.{ℕ, suc, _+_, _-_, _%_, _<_, _≤_}
+use Prim.Native.Nat.{ℕ, zero, suc, _+_, _-_, _%_, _<_, _≤_}
 use native.Mathlib.Omega.{arith}
-use mathlib.Core.Path.{_≡_, refl, sym, _∙_}
+use mathlib.Core.Path.{_≡_, refl, sym, ap, subst, _∙_}
 use mathlib.Core.Bool.{Bool, true, false, not, _||_, false≢true}
 use mathlib.Core.List.{List, [], _∷_, map}
 use lib.Dec.{eqb, ltb, leb}
@@ -20,13 +20,22 @@ use Rattle.mode.specs.Write.{trimmed, writeMode, modeText}
 use Rattle.mode.specs.declared.EntryMode.{EntryMode}
 use Rattle.mode.specs.declared.Written.{Written}
 use Rattle.mode.specs.declared.ModeFound.the-variants as found
-use Rattle.order.specs.Order.{nameOrder}
 use Rattle.order.specs.declared.Order.{Order}
+use Rattle.order.specs.declared.Order.the-variants.{Below, Same, Above}
 use Rattle.entry.specs.Record.{nameOf, folderOf}
-use Rattle.entry.specs.Entry.{entryOf}
+use Rattle.entry.specs.Entry.{Entry, entryOf}
 use Rattle.entry.specs.declared.EntryRecord.{EntryRecord}
-use Rattle.reading.specs.Rules.{isText, judge, textOf, groupRow, modesOf, permitted, lower, isDotGit, nameNumber, isBelow, standsBefore, isAfter, gitRules}
-use Rattle.reading.specs.Code.{LastWithin, lastOf, isGroup, afterAt, judgeAt}
+use Rattle.doubles.specs.Doubles.{namedBefore}
+use Rattle.doubles.specs.Stack.{placeOf, marksOf}
+use Rattle.doubles.specs.declared.Placed.{Placed}
+use Rattle.doubles.specs.declared.Placed.the-variants.{Fine, NotAfter, Double}
+use Rattle.doubles.proofs.Theorem.{Ascends, nameBytes}
+use Rattle.doubles.proofs.Stacking.{marks-length}
+use Rattle.doubles.proofs.Placing.{Tracks, tracks-first, Told, told}
+use Rattle.reading.specs.Rules.{isText, judge, textOf, orElse, groupRow, modesOf, permitted, lower, isDotGit, nameNumber, isBelow, standsBefore, isAfter, afterNumber, gitRules}
+use Rattle.reading.specs.Code.{LastWithin, lastOf, isGroup, entryNo, placedAs, afterAt, marksAfter, Roomy}
+use Rattle.reading.specs.declared.Judged.{Judged}
+use Rattle.reading.specs.declared.Judged.the-variants as judged
 use Rattle.reading.specs.declared.Last.{Last}
 use Rattle.reading.specs.declared.Last.the-variants.{Nothing, After}
 
@@ -228,39 +237,122 @@ git-four (a ∷ b ∷ c ∷ d ∷ x ∷ xs) e = absurd (omega arith)
 pub last-within : (len : ℕ) {last : Last} {p : EntryRecord} → last ≡ After p → LastWithin len last → (p .«name_start» ≤ p .«name_end») × (p .«name_end» ≤ len)
 last-within len q w = rw q at w
 
-module _ (s : List ℕ) (e : EntryRecord) where
-  pub after-first : {last : Last} → last ≡ Nothing → afterAt s last e ≡ 0
-  unfolding afterAt
-  after-first q = rw q
+-- what is answered, and the marks afterwards
+abbrev pub Stood : List ℕ → List ℕ → ℕ → Last → EntryRecord → Judged → List ℕ → Type 0
+Stood s a n last e r b = (r ≡ afterAt s a n last e) × (b ≡ marksAfter s a n last e)
 
-  pub after-by : {last : Last} (p : EntryRecord) (o : Order) → last ≡ After p → nameOrder (nameOf s p) (folderOf p) (nameOf s e) (folderOf e) ≡ o
-      → afterAt s last e ≡ pick (isBelow o) 0 7
-  unfolding afterAt
-  after-by p o q r = rw (q, r)
+module _ (s a : List ℕ) (n : ℕ) (e : EntryRecord) where
+  pub stood-first : {last : Last} → last ≡ Nothing → Stood s a n last e (judged.Fine 0) a
+  unfolding afterAt marksAfter
+  stood-first q = (rw q, rw q)
 
--- ---- an entry
+  pub stood-by : {last : Last} (p : EntryRecord) {r x : Placed} {b : List ℕ} → last ≡ After p → r ≡ placeOf a n (nameOf s p) (folderOf p) (nameOf s e) (folderOf e) → r ≡ x
+      → b ≡ marksOf a n (nameOf s p) (folderOf p) (nameOf s e) (folderOf e) → Stood s a n last e (placedAs x) b
+  unfolding afterAt marksAfter
+  stood-by p q o v m = (rw q (ap placedAs (sym v ∙ o)), rw q m)
 
-module _ (k : ℕ) (s : List ℕ) (last : Last) (at : ℕ) (e : EntryRecord) where
-  pub judge-text : isText (modesOf k) (textOf s at e) ≡ false → judgeAt k s last at e ≡ 5
-  unfolding judgeAt
-  judge-text t = rw t
+pub after-length : (s a : List ℕ) (n : ℕ) (last : Last) (e : EntryRecord) → length (marksAfter s a n last e) ≡ length a
+unfolding marksAfter
+after-length s a n Nothing e = refl
+after-length s a n (After p) e = marks-length a n (nameOf s p) (folderOf p) (nameOf s e) (folderOf e)
+
+-- ---- an entry by itself
+
+module _ (k : ℕ) (s : List ℕ) (at : ℕ) (e : EntryRecord) where
+  pub entry-text : isText (modesOf k) (textOf s at e) ≡ false → entryNo k s at e ≡ 5
+  unfolding entryNo
+  entry-text t = rw t
 
   module _ (t : isText (modesOf k) (textOf s at e) ≡ true) where
-    pub judge-name : permitted (nameOf s e) ≡ false → judgeAt k s last at e ≡ 6
-    unfolding judgeAt nameNumber
-    judge-name p = rw (t, p)
+    pub entry-name : permitted (nameOf s e) ≡ false → entryNo k s at e ≡ 6
+    unfolding entryNo nameNumber
+    entry-name p = rw (t, p)
 
-    pub judge-git : permitted (nameOf s e) ≡ true → isDotGit (nameOf s e) ≡ true → judgeAt k s last at e ≡ 18
-    unfolding judgeAt nameNumber
-    judge-git p g = rw (t, p, g)
+    pub entry-git : permitted (nameOf s e) ≡ true → isDotGit (nameOf s e) ≡ true → entryNo k s at e ≡ 18
+    unfolding entryNo nameNumber
+    entry-git p g = rw (t, p, g)
 
-    pub judge-after : permitted (nameOf s e) ≡ true → isDotGit (nameOf s e) ≡ false → judgeAt k s last at e ≡ afterAt s last e
-    unfolding judgeAt nameNumber
-    judge-after p g = rw (t, p, g)
+    pub entry-fine : permitted (nameOf s e) ≡ true → isDotGit (nameOf s e) ≡ false → entryNo k s at e ≡ 0
+    unfolding entryNo nameNumber
+    entry-fine p g = rw (t, p, g)
 
--- the leaves say what the rules say over the entries that were read before, the nearest first
-pub judges : (k h : ℕ) (s : List ℕ) (seen : List EntryRecord) (at : ℕ) (e : EntryRecord)
-    → judgeAt k s (lastOf seen) at e ≡ judge (gitRules k) (map (entryOf h s) seen) (textOf s at e) (entryOf h s e)
-unfolding judgeAt judge afterAt gitRules isAfter standsBefore entryOf folderOf
-judges k h s [] at e = refl
-judges k h s (p ∷ ps) at e = refl
+  or-first : (i j l : ℕ) → (orElse i j ≡ 0 → ⊥) → orElse i (orElse j l) ≡ orElse i j
+  or-first zero zero l n = absurd (n refl)
+  or-first zero (suc j) l n = refl
+  or-first (suc i) j l n = refl
+
+  or-last : (i j l : ℕ) → orElse i j ≡ 0 → orElse i (orElse j l) ≡ l
+  or-last zero zero l n = refl
+  or-last zero (suc j) l n = absurd (omega arith)
+  or-last (suc i) j l n = absurd (omega arith)
+
+  -- the rules say that first, and then what they say of its place
+  pub judged-itself : (h : ℕ) (before : List Entry) → (entryNo k s at e ≡ 0 → ⊥) → judge (gitRules k) before (textOf s at e) (entryOf h s e) ≡ entryNo k s at e
+  unfolding judge gitRules entryNo entryOf
+  judged-itself h before n = or-first (pick (isText (modesOf k) (textOf s at e)) 0 5) (nameNumber (nameOf s e)) _ n
+
+  pub judged-place : (h : ℕ) (before : List Entry) → entryNo k s at e ≡ 0 → judge (gitRules k) before (textOf s at e) (entryOf h s e) ≡ afterNumber before (entryOf h s e)
+  unfolding judge gitRules entryNo entryOf
+  judged-place h before n = or-last (pick (isText (modesOf k) (textOf s at e)) 0 5) (nameNumber (nameOf s e)) _ n
+
+-- ---- its place among the entries that were read before, the nearest first
+
+below-not : (o : Order) → (o ≡ Below → ⊥) → isBelow o ≡ false
+below-not Below n = absurd (n refl)
+below-not Same n = refl
+below-not Above n = refl
+
+module _ (h : ℕ) (s a : List ℕ) (n : ℕ) (seen : List EntryRecord) (t : Tracks a n (map (entryOf h s) seen)) (up : Ascends (map (entryOf h s) seen))
+    (few : nameBytes (map (entryOf h s) seen) ≤ length s) (room : Roomy (length s) (length a)) (e : EntryRecord) where
+  abbrev before : List Entry
+  before = map (entryOf h s) seen
+
+  -- a refusal is what the rules say
+  pub place-refused : (m : ℕ) → afterAt s a n (lastOf seen) e ≡ judged.Refused m → (afterNumber before (entryOf h s e) ≡ m) × (m ≡ 0 → ⊥)
+  unfolding afterAt afterNumber isAfter standsBefore entryOf folderOf
+  place-refused m q = go seen t up few q
+    where
+      go : (seen : List EntryRecord) → Tracks a n (map (entryOf h s) seen) → Ascends (map (entryOf h s) seen) → nameBytes (map (entryOf h s) seen) ≤ length s
+          → afterAt s a n (lastOf seen) e ≡ judged.Refused m → (afterNumber (map (entryOf h s) seen) (entryOf h s e) ≡ m) × (m ≡ 0 → ⊥)
+      go [] t up few q = let y : _≡_ {A = ℕ} 0 1 = cc in absurd (omega arith)
+      go (p ∷ ps) t up few q = by (placeOf a n (nameOf s p) (folderOf p) (nameOf s e) (folderOf e)) refl q
+        where
+          w : Told a n (entryOf h s p) (map (entryOf h s) ps) (entryOf h s e)
+          w = told a n (entryOf h s p) (map (entryOf h s) ps) t up (entryOf h s e) (length s) few (room .1) (omega (arith, room .0))
+
+          by : (x : Placed) → placeOf a n (nameOf s p) (folderOf p) (nameOf s e) (folderOf e) ≡ x → placedAs x ≡ judged.Refused m
+              → (afterNumber (map (entryOf h s) (p ∷ ps)) (entryOf h s e) ≡ m) × (m ≡ 0 → ⊥)
+          by (Fine k) o q = let y : _≡_ {A = ℕ} 0 1 = cc in absurd (omega arith)
+          by NotAfter o q =
+              let y : 7 ≡ m = cc in
+              (rw (below-not _ (w .not-after o)) y, λ z. omega arith)
+          by Double o q =
+              let y : 17 ≡ m = cc in
+              let d = w .double o in
+              (rw (d .0, d .1) y, λ z. omega arith)
+
+  -- an entry that stands fine is one that the rules permit there, and the marks go on with it
+  pub place-fine : (j : ℕ) → afterAt s a n (lastOf seen) e ≡ judged.Fine j
+      → (afterNumber before (entryOf h s e) ≡ 0) × Tracks (marksAfter s a n (lastOf seen) e) j (entryOf h s e ∷ before) × Ascends (entryOf h s e ∷ before)
+  unfolding afterAt marksAfter afterNumber isAfter standsBefore namedBefore entryOf folderOf
+  place-fine j q = go seen t up few q
+    where
+      go : (seen : List EntryRecord) → Tracks a n (map (entryOf h s) seen) → Ascends (map (entryOf h s) seen) → nameBytes (map (entryOf h s) seen) ≤ length s
+          → afterAt s a n (lastOf seen) e ≡ judged.Fine j
+          → (afterNumber (map (entryOf h s) seen) (entryOf h s e) ≡ 0) × Tracks (marksAfter s a n (lastOf seen) e) j (entryOf h s e ∷ map (entryOf h s) seen)
+          × Ascends (entryOf h s e ∷ map (entryOf h s) seen)
+      go [] t up few q = let y : 0 ≡ j = cc in (refl, subst (λ (i : ℕ). Tracks a i (entryOf h s e ∷ [])) y (tracks-first a (entryOf h s e)), (tt, tt))
+      go (p ∷ ps) t up few q = by (placeOf a n (nameOf s p) (folderOf p) (nameOf s e) (folderOf e)) refl q
+        where
+          w : Told a n (entryOf h s p) (map (entryOf h s) ps) (entryOf h s e)
+          w = told a n (entryOf h s p) (map (entryOf h s) ps) t up (entryOf h s e) (length s) few (room .1) (omega (arith, room .0))
+
+          by : (x : Placed) → placeOf a n (nameOf s p) (folderOf p) (nameOf s e) (folderOf e) ≡ x → placedAs x ≡ judged.Fine j
+              → (afterNumber (map (entryOf h s) (p ∷ ps)) (entryOf h s e) ≡ 0) × Tracks (marksAfter s a n (After p) e) j (entryOf h s e ∷ map (entryOf h s) (p ∷ ps))
+              × Ascends (entryOf h s e ∷ map (entryOf h s) (p ∷ ps))
+          by NotAfter o q = let y : _≡_ {A = ℕ} 0 1 = cc in absurd (omega arith)
+          by Double o q = let y : _≡_ {A = ℕ} 0 1 = cc in absurd (omega arith)
+          by (Fine k) o q =
+              let y : k ≡ j = cc in
+              let d = w .fine j (o ∙ ap Fine y) in
+              (rw (d .0, d .1), d .2, (d .0, up))

@@ -15,7 +15,7 @@ use Rattle.ground.specs.declared.Verdict.{Verdict}
 use Rattle.ground.specs.declared.Answer.{Answer}
 use Rattle.ground.specs.declared.Gate.{Gate}
 use Rattle.ground.specs.declared.Gate.the-variants.{Open, Shut}
-use Rattle.ground.proofs.Laws.{gate-shut, sets-append, sets-front, stored-done, stored-refused}
+use Rattle.ground.proofs.Laws.{gate-open, gate-shut, sets-append, sets-front, stored-done, stored-refused}
 use Rattle.entry.specs.Record.{width, many, flat, putRecord}
 use Rattle.entry.specs.Entry.{Entry, entryOf}
 use Rattle.entry.specs.Decode.{decode}
@@ -266,6 +266,10 @@ strict-open k h bytes records e = go (idLength h) (isSet k) refl e
     go true true q e = set-is k q
     go true false q e = let z : _≡_ {A = ℕ} 0 1 = cc in absurd (omega arith)
     go false b q e = let z : _≡_ {A = ℕ} 0 1 = cc in absurd (omega arith)
+
+-- and the object is within its bound
+pub strict-bytes : (k h bytes records : ℕ) → strictGate k h bytes records ≡ Open → bytes ≤ mostBytes
+strict-bytes k h bytes records e = gate-open h bytes records (sym (strict-known k h bytes records (strict-open k h bytes records e)) ∙ e) .1
 
 -- ---- the answer
 

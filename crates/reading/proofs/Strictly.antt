@@ -4,7 +4,7 @@ use native.Mathlib.Omega.{arith}
 use mathlib.Core.Path.{_≡_, refl, ap, sym, _∙_}
 use mathlib.Core.Bool.{true}
 use mathlib.Core.List.{List, [], _∷_, map}
-use lib.ListN.{length, drop}
+use lib.ListN.{length, drop, length-take}
 use lib.Seq.{drop-drop}
 use Rattle.ground.specs.Scan.{countTo, freeOf}
 use Rattle.ground.specs.Verdict.{verdict, mostRecords}
@@ -15,31 +15,54 @@ use Rattle.front.proofs.Laws.{code-of-mode}
 use Rattle.mode.specs.Read.{readModeAt, moved}
 use Rattle.mode.proofs.Laws.{read-next}
 use Rattle.entry.specs.Record.{nameOf}
-use Rattle.entry.specs.Entry.{entryOf}
+use Rattle.entry.specs.Entry.{Entry, entryOf}
 use Rattle.entry.specs.Decode.{decode}
 use Rattle.entry.specs.declared.EntryRecord.{EntryRecord}
 use Rattle.entry.specs.declared.Cursor.{Cursor}
 use Rattle.entry.specs.declared.Decoded.the-variants.{Whole, Broken}
 use Rattle.entry.proofs.Laws.{Parts, decode-inside, decode-parts}
+use Rattle.doubles.proofs.Theorem.{Ascends, nameBytes}
+use Rattle.doubles.proofs.Placing.{Tracks, tracks-none}
 use Rattle.reading.specs.Listing.{Listing, tally}
 use Rattle.reading.specs.Rules.{judge, textOf, cut, strictly, gitRules}
-use Rattle.reading.specs.Code.{Within, LastWithin, lastOf, judgeAt}
+use Rattle.reading.specs.Code.{Within, LastWithin, lastOf, entryNo, afterAt, marksAfter, Roomy}
+use Rattle.reading.specs.declared.Judged.{Judged}
+use Rattle.reading.specs.declared.Judged.the-variants as judged
 use Rattle.reading.specs.declared.Last.{Last}
 use Rattle.reading.specs.declared.Last.the-variants.{Nothing, After}
 use Rattle.reading.specs.declared.Counted.the-variants.{Total, Stopped}
 use Rattle.reading.proofs.Laws.{restAt, rest-end, rest-full, rest-broken, rest-whole, cut-bad, cut-fine}
-use Rattle.reading.proofs.Judging.{judges}
+use Rattle.reading.proofs.Judging.{after-length, judged-itself, judged-place, place-refused, place-fine}
 
--- the head of a turn: n entries are read, the nearest of them first in `seen`, and the count from the start is the count from here
-pub record Reading (k h : ℕ) (s : List ℕ) (at n : ℕ) (last : Last) : Type 0 where
+-- the head of a turn: n entries are read, the nearest of them first in `seen`, they ascend, the marks keep the names that are m, and the count from the
+-- start is the count from here
+pub record Reading (k h : ℕ) (s : List ℕ) (at n m : ℕ) (last : Last) (marks : List ℕ) : Type 0 where
   pub seen : List EntryRecord
   pub few : n ≤ mostRecords
   pub nearest : last ≡ lastOf seen
   pub inside : LastWithin (length s) last
   pub same : tally 0 (strictly (gitRules k) h s) ≡ tally n (cut (gitRules k) h s (map (entryOf h s) seen) (restAt h s at n))
+  pub up : Ascends (map (entryOf h s) seen)
+  pub tracks : Tracks marks m (map (entryOf h s) seen)
+  pub bytes : nameBytes (map (entryOf h s) seen) ≤ at
+  pub within : at ≤ length s
+  pub room : Roomy (length s) (length marks)
 
-pub reading-start : (k h : ℕ) (s : List ℕ) → Reading k h s 0 0 Nothing
-reading-start k h s = record { seen = []; few = omega arith; nearest = refl; inside = tt; same = refl }
+pub reading-start : (k h : ℕ) (s marks : List ℕ) → Roomy (length s) (length marks) → Reading k h s 0 0 0 Nothing marks
+unfolding nameBytes
+reading-start k h s marks room =
+    record {
+      seen = [];
+      few = omega arith;
+      nearest = refl;
+      inside = tt;
+      same = refl;
+      up = tt;
+      tracks = tracks-none marks;
+      bytes = omega arith;
+      within = omega arith;
+      room = room;
+    }
 
 -- an entry that was decoded
 module _ (h : ℕ) (s : List ℕ) (at : ℕ) (e : EntryRecord) (next : Cursor) (d : decode h at (drop at s) ≡ Whole e next) where
@@ -65,12 +88,19 @@ module _ (h : ℕ) (s : List ℕ) (at : ℕ) (e : EntryRecord) (next : Cursor) (
       let t : drop (e .«name_start») s ≡ drop (parts .size) (drop at s) = ap (λ (i : ℕ). drop i s) start-is ∙ sym (drop-drop (parts .size) at s) in
       rw (k, t) (free-count 0 (drop (parts .size) (drop at s)))
 
+  -- and is no longer than the entry
+  name-long : length (nameOf s e) + at ≤ next .at
+  unfolding nameOf
+  name-long =
+      let i = decode-inside h s at e next d in
+      omega (arith, length-take (e .«name_end» - e .«name_start») (drop (e .«name_start») s))
+
   -- and begins where the code of its mode says
   pub decoded-code : e .«name_start» ≡ at + codeAt s at % 16
   unfolding readModeAt
   decoded-code = omega (arith, start-is, code-of-mode s at _ _ (ap (moved at) (parts .reads)))
 
-module _ (k h : ℕ) (s : List ℕ) (at n : ℕ) (last : Last) (r : Reading k h s at n last) where
+module _ (k h : ℕ) (s : List ℕ) (at n m : ℕ) (last : Last) (marks : List ℕ) (r : Reading k h s at n m last marks) where
   abbrev from : Listing → Listing
   from l = cut (gitRules k) h s (map (entryOf h s) (r .seen)) l
 
@@ -88,27 +118,51 @@ module _ (k h : ℕ) (s : List ℕ) (at n : ℕ) (last : Last) (r : Reading k h 
       unfolding tally cut
       reading-broken d = sym (r .same ∙ ap (λ (l : Listing). tally n (from l)) (rest-broken h s at n p f d))
 
-      module _ (e : EntryRecord) (next : Cursor) (number : ℕ) (d : decode h at (drop at s) ≡ Whole e next) (j : number ≡ judgeAt k s last at e) where
-        said : number ≡ judge (gitRules k) (map (entryOf h s) (r .seen)) (textOf s at e) (entryOf h s e)
-        said = j ∙ ap (λ (x : Last). judgeAt k s x at e) (r .nearest) ∙ judges k h s (r .seen) at e
+      module _ (e : EntryRecord) (next : Cursor) (number : ℕ) (d : decode h at (drop at s) ≡ Whole e next) (j : number ≡ entryNo k s at e) where
+        abbrev before : List Entry
+        before = map (entryOf h s) (r .seen)
+
+        -- the rules refuse it
+        refuses : (i : ℕ) → judge (gitRules k) before (textOf s at e) (entryOf h s e) ≡ i → (i ≡ 0 → ⊥) → Stopped (verdict i at) ≡ tally 0 (strictly (gitRules k) h s)
+        unfolding tally
+        refuses i said z =
+            sym (r .same ∙ ap (λ (l : Listing). tally n (from l)) (rest-whole h s at n p f d)
+            ∙ ap (tally n) (cut-bad (gitRules k) h s before at e (restAt h s (next .at) (n + 1)) (λ q. z (sym said ∙ q)))
+            ∙ ap (λ (i : ℕ). Stopped (verdict i at)) said)
 
         pub reading-refused : (number ≡ 0 → ⊥) → Stopped (verdict number at) ≡ tally 0 (strictly (gitRules k) h s)
-        unfolding tally
-        reading-refused z =
-            sym (r .same ∙ ap (λ (l : Listing). tally n (from l)) (rest-whole h s at n p f d)
-            ∙ ap (tally n) (cut-bad (gitRules k) h s (map (entryOf h s) (r .seen)) at e (restAt h s (next .at) (n + 1)) (λ q. z (said ∙ q)))
-            ∙ ap (λ (i : ℕ). Stopped (verdict i at)) (sym said))
+        reading-refused z = refuses number (judged-itself k s at e h before (λ q. z (j ∙ q)) ∙ sym j) z
 
-        pub reading-kept : number ≡ 0 → Reading k h s (next .at) (n + 1) (After e)
-        unfolding tally
-        reading-kept z =
-            let w = decoded-within h s at e next d in
-            record {
-              seen = e ∷ r .seen;
-              few = omega arith;
-              nearest = refl;
-              inside = (w .1, w .2);
-              same =
-                  r .same ∙ ap (λ (l : Listing). tally n (from l)) (rest-whole h s at n p f d)
-                  ∙ ap (tally n) (cut-fine (gitRules k) h s (map (entryOf h s) (r .seen)) at e (restAt h s (next .at) (n + 1)) (sym said ∙ z));
-            }
+        module _ (z : number ≡ 0) (x : Judged) (a : x ≡ afterAt s marks m last e) where
+          place-is : afterAt s marks m (lastOf (r .seen)) e ≡ x
+          place-is = ap (λ (y : Last). afterAt s marks m y e) (sym (r .nearest)) ∙ sym a
+
+          small : nameBytes before ≤ length s
+          small = omega (arith, r .bytes, r .within)
+
+          pub reading-misplaced : (i : ℕ) → x ≡ judged.Refused i → Stopped (verdict i at) ≡ tally 0 (strictly (gitRules k) h s)
+          reading-misplaced i q =
+              let w = place-refused h s marks m (r .seen) (r .tracks) (r .up) small (r .room) e i (place-is ∙ q) in
+              refuses i (judged-place k s at e h before (sym j ∙ z) ∙ w .0) (w .1)
+
+          pub reading-kept : (i : ℕ) → x ≡ judged.Fine i → (after : List ℕ) → after ≡ marksAfter s marks m last e → Reading k h s (next .at) (n + 1) i (After e) after
+          unfolding tally nameBytes entryOf
+          reading-kept i q after o =
+              let w = place-fine h s marks m (r .seen) (r .tracks) (r .up) small (r .room) e i (place-is ∙ q) in
+              let v = decoded-within h s at e next d in
+              let g = decode-inside h s at e next d in
+              let b : after ≡ marksAfter s marks m (lastOf (r .seen)) e = o ∙ ap (λ (y : Last). marksAfter s marks m y e) (r .nearest) in
+              record {
+                seen = e ∷ r .seen;
+                few = omega arith;
+                nearest = refl;
+                inside = (v .1, v .2);
+                same =
+                    r .same ∙ ap (λ (l : Listing). tally n (from l)) (rest-whole h s at n p f d)
+                    ∙ ap (tally n) (cut-fine (gitRules k) h s before at e (restAt h s (next .at) (n + 1)) (judged-place k s at e h before (sym j ∙ z) ∙ w .0));
+                up = w .2;
+                tracks = rw b (w .1);
+                bytes = omega (arith, r .bytes, name-long h s at e next d);
+                within = omega arith;
+                room = rw (b, after-length s marks m (lastOf (r .seen)) e) (r .room);
+              }

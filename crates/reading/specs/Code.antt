@@ -1,15 +1,20 @@
 -- What the private leaves of the strict reader answer, by positions in the object. Assumes nothing.
-use Prim.Native.Nat.{ℕ, _<_, _≤_}
+use Prim.Native.Nat.{ℕ, _+_, _*_, _<_, _≤_}
 use mathlib.Core.Bool.{Bool, false}
 use mathlib.Core.List.{List, [], _∷_}
 use lib.Dec.{eqb}
 use Rattle.ground.specs.Basics.{pick}
 use Rattle.ground.specs.Scan.{sameBytes}
+use Rattle.ground.specs.Verdict.{mostBytes}
 use Rattle.mode.specs.Table.{shown}
-use Rattle.order.specs.Order.{nameOrder}
 use Rattle.entry.specs.Record.{nameOf, folderOf}
 use Rattle.entry.specs.declared.EntryRecord.{EntryRecord}
-use Rattle.reading.specs.Rules.{orElse, isText, textOf, groupRow, modesOf, nameNumber, isBelow}
+use Rattle.doubles.specs.Stack.{placeOf, marksOf}
+use Rattle.doubles.specs.declared.Placed.{Placed}
+use Rattle.doubles.specs.declared.Placed.the-variants.{Fine, NotAfter, Double}
+use Rattle.reading.specs.Rules.{orElse, isText, textOf, groupRow, modesOf, nameNumber}
+use Rattle.reading.specs.declared.Judged.{Judged}
+use Rattle.reading.specs.declared.Judged.the-variants as judged
 use Rattle.reading.specs.declared.Last.{Last}
 use Rattle.reading.specs.declared.Last.the-variants.{Nothing, After}
 
@@ -31,9 +36,26 @@ lastOf (p ∷ ps) = After p
 unfoldable pub isGroup : ℕ → List ℕ → Bool
 isGroup k t = pick (eqb k 1) (sameBytes t (shown (groupRow .text))) false
 
-unfoldable pub afterAt : List ℕ → Last → EntryRecord → ℕ
-afterAt s Nothing e = 0
-afterAt s (After p) e = pick (isBelow (nameOrder (nameOf s p) (folderOf p) (nameOf s e) (folderOf e))) 0 7
+-- what is said of an entry by itself: 5, 6, 18 or 0
+unfoldable pub entryNo : ℕ → List ℕ → ℕ → EntryRecord → ℕ
+entryNo k s at e = orElse (pick (isText (modesOf k) (textOf s at e)) 0 5) (nameNumber (nameOf s e))
 
-unfoldable pub judgeAt : ℕ → List ℕ → Last → ℕ → EntryRecord → ℕ
-judgeAt k s last at e = orElse (pick (isText (modesOf k) (textOf s at e)) 0 5) (orElse (nameNumber (nameOf s e)) (afterAt s last e))
+-- what the place of an entry gives: how many names are open, or a refusal
+abbrev pub placedAs : Placed → Judged
+placedAs (Fine k) = judged.Fine k
+placedAs NotAfter = judged.Refused 7
+placedAs Double = judged.Refused 17
+
+-- an entry after the one before, with n names open among the marks a
+unfoldable pub afterAt : List ℕ → List ℕ → ℕ → Last → EntryRecord → Judged
+afterAt s a n Nothing e = judged.Fine 0
+afterAt s a n (After p) e = placedAs (placeOf a n (nameOf s p) (folderOf p) (nameOf s e) (folderOf e))
+
+-- the marks afterwards
+unfoldable pub marksAfter : List ℕ → List ℕ → ℕ → Last → EntryRecord → List ℕ
+marksAfter s a n Nothing e = a
+marksAfter s a n (After p) e = marksOf a n (nameOf s p) (folderOf p) (nameOf s e) (folderOf e)
+
+-- so many marks are enough for the names of so many bytes
+abbrev pub Roomy : ℕ → ℕ → Type 0
+Roomy bytes room = (bytes ≤ mostBytes) × (2 * bytes < room * room + room)

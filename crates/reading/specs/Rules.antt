@@ -17,6 +17,7 @@ use Rattle.order.specs.declared.Order.{Order}
 use Rattle.order.specs.declared.Order.the-variants.{Below, Same, Above}
 use Rattle.entry.specs.Entry.{Entry, entryOf}
 use Rattle.entry.specs.declared.EntryRecord.{EntryRecord}
+use Rattle.doubles.specs.Doubles.{namedBefore}
 use Rattle.reading.specs.Listing.{Listing, done, stop, entry, listing}
 
 -- What is permitted: the rows of the mode table, and what is said of a name, and of an entry after the ones before it, the nearest first.
@@ -98,6 +99,10 @@ groupRow = record { mode = 0o100664; kind = Blob; text = short (ascii "100664");
 abbrev pub modesOf : ℕ → List Written
 modesOf k = pick (eqb k 1) (groupRow ∷ rows) rows
 
--- the rules of a rule set: its modes; 6 or 18 for a name; 7 for an entry that does not stand after the one before
+-- 7 for an entry that does not stand after the one before; 17 for one whose name an entry before has
+unfoldable pub afterNumber : List Entry → Entry → ℕ
+afterNumber before e = orElse (pick (isAfter before e) 0 7) (pick (namedBefore before (e .name)) 17 0)
+
+-- the rules of a rule set: its modes, and what is said of a name and of an entry's place
 unfoldable pub gitRules : ℕ → Rules
-gitRules k = record { modes = modesOf k; nameNo = nameNumber; afterNo = λ before e. pick (isAfter before e) 0 7 }
+gitRules k = record { modes = modesOf k; nameNo = nameNumber; afterNo = afterNumber }

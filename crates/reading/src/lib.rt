@@ -5,13 +5,15 @@ ghost use Prim.Native.Nat.{_+_, _%_, _≤_};
 ghost use lib.ListN.{length};
 ghost use lib.Seq.{sets};
 ghost use Rattle.ground.specs.Scan.{freeOf};
-ghost use Rattle.ground.specs.Verdict.{stored};
+ghost use Rattle.ground.specs.Verdict.{mostBytes, stored};
 ghost use Rattle.entry.specs.Record.{many, nameOf};
 ghost use Rattle.front.specs.Code.{codeAt};
 ghost use Rattle.reading.specs.Listing.{listing, tally, recordsIn, flats};
 ghost use Rattle.reading.specs.Rules.{isText, textOf, modesOf, permitted, lower, isDotGit, gitRules, strictly};
 ghost use Rattle.reading.specs.Whole.{inRoom, readAnswer, readRecords, strictGate, strictAnswer, strictRecords};
-ghost use Rattle.reading.specs.Code.{Within, LastWithin, isGroup, afterAt, judgeAt};
+ghost use Rattle.reading.specs.Code.{Within, LastWithin, isGroup, entryNo, afterAt, marksAfter, Roomy};
+use doubles::Placed;
+use doubles::place_entry;
 use entry::Cursor;
 use entry::Decoded;
 use entry::EntryRecord;
@@ -28,8 +30,6 @@ use ground::Verdict;
 use ground::bounds;
 use mode::ModeFound;
 use mode::written_mode;
-use order::Order;
-use order::name_order;
 use scan::count_to;
 use scan::find_nul;
 use scan::same_bytes;
@@ -44,6 +44,12 @@ pub enum Counted {
 enum Last {
     Nothing,
     After(EntryRecord),
+}
+
+// What the place of an entry gives: how many names are open after it, or the number of the refusal.
+enum Judged {
+    Fine(usize),
+    Refused(usize),
 }
 
 // The code of the mode at a place, the written ones tried first.
@@ -146,23 +152,31 @@ fn is_dot_git(name: &[u8]) -> bool
     same_bytes(&[a, b, c, d], b".git")
 }
 
-// 7 where an entry does not stand after the one before, else 0.
-fn after_number(s: &[u8], last: Last, e: EntryRecord) -> usize
+// An entry after the one before, with n names open among the marks: 7, then 17.
+fn after_entry(s: &[u8], marks: &mut [u32], n: usize, last: Last, e: EntryRecord) -> Judged
     requires { ⌜ LastWithin (length (now s)) last ⌝ }
     requires { ⌜ (e .«name_start» ≤ e .«name_end») × (e .«name_end» ≤ length (now s)) ⌝ }
-    ensures { λ r. ⌜ r ≡ afterAt (now (s .entry)) last e ⌝ }
+    ensures judged { λ r. ⌜ r ≡ afterAt (now (s .entry)) (now (marks .entry)) n last e ⌝ }
+    ensures marks { λ r. ⌜ now (marks .exit) ≡ marksAfter (now (s .entry)) (now (marks .entry)) n last e ⌝ }
 {
     match last {
-        Last::Nothing => 0,
+        Last::Nothing => Judged::Fine(0),
         Last::After(p) => {
             let from = p.name_start;
             let to = p.name_end;
             let start = e.name_start;
             let end = e.name_end;
-            match name_order(&s[from..to], is_folder(p), &s[start..end], is_folder(e)) {
-                Order::Below => 0,
-                Order::Same => 7,
-                Order::Above => 7,
+            match place_entry(
+                marks,
+                n,
+                &s[from..to],
+                is_folder(p),
+                &s[start..end],
+                is_folder(e),
+            ) {
+                Placed::Fine(k) => Judged::Fine(k),
+                Placed::NotAfter => Judged::Refused(7),
+                Placed::Double => Judged::Refused(17),
             }
         }
     }
@@ -195,13 +209,12 @@ fn is_written(rules: u16, s: &[u8], at: usize, e: EntryRecord) -> bool
     }
 }
 
-// What the strict rules say of an entry at a place, as it was decoded there: 0, 5, 6, 18 or 7.
-fn judge_entry(rules: u16, s: &[u8], last: Last, at: usize, e: EntryRecord) -> usize
-    requires { ⌜ LastWithin (length (now s)) last ⌝ }
+// What the strict rules say of an entry at a place by itself, as it was decoded there: 5, 6, 18 or 0.
+fn entry_number(rules: u16, s: &[u8], at: usize, e: EntryRecord) -> usize
     requires { ⌜ Within (length (now s)) at e ⌝ }
     requires { ⌜ freeOf 0 (nameOf (now s) e) ≡ true ⌝ }
     requires { ⌜ e .«name_start» ≡ at + codeAt (now s) at % 16 ⌝ }
-    ensures { λ r. ⌜ r ≡ judgeAt rules (now (s .entry)) last at e ⌝ }
+    ensures { λ r. ⌜ r ≡ entryNo rules (now (s .entry)) at e ⌝ }
 {
     if is_written(rules, s, at, e) {
         let start = e.name_start;
@@ -210,19 +223,21 @@ fn judge_entry(rules: u16, s: &[u8], last: Last, at: usize, e: EntryRecord) -> u
             if is_dot_git(&s[start..end]) {
                 return 18;
             }
-            return after_number(s, last, e);
+            return 0;
         }
         return 6;
     }
     5
 }
 
-// The first pass of the strict reader.
-fn count_strict(rules: u16, s: &[u8], h: usize) -> Counted
+// The first pass of the strict reader, with marks enough for the names that can be open at once.
+fn count_marked(rules: u16, s: &[u8], h: usize, marks: &mut [u32]) -> Counted
+    requires { ⌜ Roomy (length (now s)) (length (now marks)) ⌝ }
     ensures { λ r. ⌜ r ≡ tally 0 (strictly (gitRules rules) h (now (s .entry))) ⌝ }
 {
     let mut c = Cursor { at: 0 };
     let mut n: usize = 0;
+    let mut held: usize = 0;
     let mut last = Last::Nothing;
     while c.at < s.len() {
         if MOST_RECORDS <= n {
@@ -235,7 +250,7 @@ fn count_strict(rules: u16, s: &[u8], h: usize) -> Counted
         match c.decode(s, h) {
             Decoded::Whole(e, next) => {
                 let at = c.at;
-                let number = judge_entry(rules, s, last, at, e);
+                let number = entry_number(rules, s, at, e);
                 if number != 0 {
                     return Counted::Stopped(Verdict {
                         number,
@@ -243,9 +258,21 @@ fn count_strict(rules: u16, s: &[u8], h: usize) -> Counted
                         part: 0,
                     });
                 }
-                last = Last::After(e);
-                c = next;
-                n += 1;
+                match after_entry(s, marks, held, last, e) {
+                    Judged::Refused(number) => {
+                        return Counted::Stopped(Verdict {
+                            number,
+                            place: at,
+                            part: 0,
+                        });
+                    }
+                    Judged::Fine(k) => {
+                        held = k;
+                        last = Last::After(e);
+                        c = next;
+                        n += 1;
+                    }
+                }
             }
             Decoded::Broken(v) => {
                 return Counted::Stopped(v);
@@ -253,6 +280,34 @@ fn count_strict(rules: u16, s: &[u8], h: usize) -> Counted
         }
     }
     Counted::Total(n)
+}
+
+// An object of at most 128 KiB: at most 512 names are open at once.
+fn count_small(rules: u16, s: &[u8], h: usize) -> Counted
+    requires { ⌜ length (now s) ≤ 131072 ⌝ }
+    ensures { λ r. ⌜ r ≡ tally 0 (strictly (gitRules rules) h (now (s .entry))) ⌝ }
+{
+    let mut marks = [0u32; 512];
+    count_marked(rules, s, h, &mut marks)
+}
+
+// An object of any length within the bound: at most 46,341 names are open at once.
+fn count_large(rules: u16, s: &[u8], h: usize) -> Counted
+    requires { ⌜ length (now s) ≤ mostBytes ⌝ }
+    ensures { λ r. ⌜ r ≡ tally 0 (strictly (gitRules rules) h (now (s .entry))) ⌝ }
+{
+    let mut marks = [0u32; 46341];
+    count_marked(rules, s, h, &mut marks)
+}
+
+fn count_strict(rules: u16, s: &[u8], h: usize) -> Counted
+    requires { ⌜ length (now s) ≤ mostBytes ⌝ }
+    ensures { λ r. ⌜ r ≡ tally 0 (strictly (gitRules rules) h (now (s .entry))) ⌝ }
+{
+    if s.len() <= 131072 {
+        return count_small(rules, s, h);
+    }
+    count_large(rules, s, h)
 }
 
 // The second pass of both: the records of an object that was read to its end, from the front of the lent list.

@@ -4,7 +4,7 @@ use Rattle.reading.proofs.read_tree_strict.Statement.{statement}
 use Rattle.reading.proofs.read_tree_strict.Tie as tie
 use mathlib.Core.Path.{sym, _∙_}
 use Rattle.reading.specs.Rules.{gitRules}
-use Rattle.reading.proofs.Laws.{answer-shut, answer-counted, refused-both, cut-refuses, strict-refuses, tally-stops, Refusal, read-both, strict-plain, strict-counts}
+use Rattle.reading.proofs.Laws.{answer-shut, answer-counted, refused-both, cut-refuses, strict-refuses, strict-bytes, tally-stops, Refusal, read-both, strict-plain, strict-counts}
 
 strict-bounds-requires : tie.Need-strict-bounds-requires
 strict-bounds-requires c κs = search needs
@@ -16,7 +16,9 @@ enum-told : tie.Need-enum-told
 enum-told c = search needs
 
 count-strict-requires : tie.Need-count-strict-requires
-count-strict-requires c κs = search needs
+count-strict-requires c κs =
+    let strict-bounds = c .before .before .strict-bounds in
+    strict-bytes _ _ _ _ (sym (strict-bounds .ensures) ∙ c .enum-told .given .1)
 
 enum-known-w : tie.Need-enum-known-w
 enum-known-w c = search needs

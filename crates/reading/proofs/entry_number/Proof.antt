@@ -1,10 +1,10 @@
--- `reading::judge_entry` meets its contract. Assumes nothing.
+-- `reading::entry_number` meets its contract. Assumes nothing.
 use borrow.Author.Needs.{needs}
-use Rattle.reading.proofs.judge_entry.Statement.{statement}
-use Rattle.reading.proofs.judge_entry.Tie as tie
+use Rattle.reading.proofs.entry_number.Statement.{statement}
+use Rattle.reading.proofs.entry_number.Tie as tie
 use mathlib.Core.Path.{sym, _∙_}
 use Rattle.entry.specs.Record.{nameOf}
-use Rattle.reading.proofs.Judging.{judge-text, judge-name, judge-git, judge-after}
+use Rattle.reading.proofs.Judging.{entry-text, entry-name, entry-git, entry-fine}
 
 is-written-requires : tie.Need-is-written-requires
 is-written-requires c κs = search needs
@@ -22,7 +22,7 @@ name-permitted-requires : tie.Need-name-permitted-requires
 unfolding nameOf
 name-permitted-requires c κs =
     let pre = c .before .before .before .before .pre in
-    pre .1 .1 .0
+    pre .1 .0
 
 sub-is-dot-git : tie.Need-sub-is-dot-git
 sub-is-dot-git c = search needs
@@ -44,22 +44,17 @@ returns c =
     let if1 = c .before .before .before .before .before .before .if1 in
     let is-written = c .before .before .before .before .before .before .before .is-written in
     let args = c .before .before .before .before .before .before .before .before .before .args in
-    sym (judge-git _ (args .s .now) _ _ _ (sym (is-written .ensures) ∙ if1 .taken) (sym (name-permitted .ensures) ∙ if2 .taken) (sym (c .before .is-dot-git .ensures) ∙ c .if3 .taken))
-
-after-number-requires : tie.Need-after-number-requires
-after-number-requires c κs = search needs
+    sym (entry-git _ (args .s .now) _ _ (sym (is-written .ensures) ∙ if1 .taken) (sym (name-permitted .ensures) ∙ if2 .taken) (sym (c .before .is-dot-git .ensures) ∙ c .if3 .taken))
 
 returns-2 : tie.Need-returns-2
 unfolding nameOf
 returns-2 c =
-    let is-dot-git = c .before .before .is-dot-git in
-    let if2 = c .before .before .before .before .if2 in
-    let name-permitted = c .before .before .before .before .before .name-permitted in
-    let if1 = c .before .before .before .before .before .before .before .if1 in
-    let is-written = c .before .before .before .before .before .before .before .before .is-written in
-    let args = c .before .before .before .before .before .before .before .before .before .before .args in
-    c .after-number .ensures
-    ∙ sym (judge-after _ (args .s .now) _ _ _ (sym (is-written .ensures) ∙ if1 .taken) (sym (name-permitted .ensures) ∙ if2 .taken) (sym (is-dot-git .ensures) ∙ c .before .if3 .left))
+    let if2 = c .before .before .before .if2 in
+    let name-permitted = c .before .before .before .before .name-permitted in
+    let if1 = c .before .before .before .before .before .before .if1 in
+    let is-written = c .before .before .before .before .before .before .before .is-written in
+    let args = c .before .before .before .before .before .before .before .before .before .args in
+    sym (entry-fine _ (args .s .now) _ _ (sym (is-written .ensures) ∙ if1 .taken) (sym (name-permitted .ensures) ∙ if2 .taken) (sym (c .before .is-dot-git .ensures) ∙ c .if3 .left))
 
 returns-3 : tie.Need-returns-3
 unfolding nameOf
@@ -67,15 +62,15 @@ returns-3 c =
     let if1 = c .before .before .before .if1 in
     let is-written = c .before .before .before .before .is-written in
     let args = c .before .before .before .before .before .before .args in
-    sym (judge-name _ (args .s .now) _ _ _ (sym (is-written .ensures) ∙ if1 .taken) (sym (c .before .name-permitted .ensures) ∙ c .if2 .left))
+    sym (entry-name _ (args .s .now) _ _ (sym (is-written .ensures) ∙ if1 .taken) (sym (c .before .name-permitted .ensures) ∙ c .if2 .left))
 
 returns-4 : tie.Need-returns-4
 returns-4 c =
     let args = c .before .before .before .args in
-    sym (judge-text _ (args .s .now) _ _ _ (sym (c .before .is-written .ensures) ∙ c .if1 .left))
+    sym (entry-text _ (args .s .now) _ _ (sym (c .before .is-written .ensures) ∙ c .if1 .left))
 
-pub judge-entry-spec : {M : Type 1} → statement M
-judge-entry-spec =
+pub entry-number-spec : {M : Type 1} → statement M
+entry-number-spec =
     tie.close
     (tie.spec
     is-written-requires
@@ -88,7 +83,6 @@ judge-entry-spec =
     part-is-dot-git-end
     is-dot-git-requires
     returns
-    after-number-requires
     returns-2
     returns-3
     returns-4)

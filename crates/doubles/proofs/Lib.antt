@@ -1,0 +1,4 @@
+pub mod Common
+pub mod Theorem
+pub mod Stacking
+pub mod Placing
