@@ -13,33 +13,33 @@ enum Class {
 fn is_digit(b: u8) -> bool
     ensures { λ r. ⌜ r ≡ isDigit b ⌝ }
 {
-    if b < 48 {
+    if b < b'0' {
         return false;
     }
-    b <= 57
+    b <= b'9'
 }
 
 // None of `<`, `>`, NUL and LF.
 fn is_plain(b: u8) -> bool
     ensures { λ r. ⌜ r ≡ isPlain b ⌝ }
 {
-    if b == 60 {
+    if b == b'<' {
         return false;
     }
-    if b == 62 {
+    if b == b'>' {
         return false;
     }
     if b == 0 {
         return false;
     }
-    b != 10
+    b != b'\n'
 }
 
 // None of the four, and no space.
 fn is_solid(b: u8) -> bool
     ensures { λ r. ⌜ r ≡ inClass Class.Address b ⌝ }
 {
-    if b == 32 {
+    if b == b' ' {
         return false;
     }
     is_plain(b)
@@ -79,10 +79,10 @@ fn is_name(m: &[u8]) -> bool
     if n == 0 {
         return false;
     }
-    if m[0] == 32 {
+    if m[0] == b' ' {
         return false;
     }
-    if m[n - 1] == 32 {
+    if m[n - 1] == b' ' {
         return false;
     }
     all_of(Class::Name, m)
@@ -96,7 +96,7 @@ fn is_named(p: &[u8]) -> bool
         return false;
     }
     let n = p.len() - 1;
-    if p[n] == 32 {
+    if p[n] == b' ' {
         return is_name(&p[..n]);
     }
     false
@@ -106,26 +106,26 @@ fn is_named(p: &[u8]) -> bool
 fn two_digits(a: u8, b: u8) -> usize
     ensures { λ r. ⌜ r ≡ twoDigits a b ⌝ }
 {
-    if a < 48 {
-        if b < 48 {
+    if a < b'0' {
+        if b < b'0' {
             return 0;
         }
-        return (b - 48) as usize;
+        return (b - b'0') as usize;
     }
-    let tens = (a - 48) as usize * 10;
-    if b < 48 {
+    let tens = (a - b'0') as usize * 10;
+    if b < b'0' {
         return tens;
     }
-    tens + (b - 48) as usize
+    tens + (b - b'0') as usize
 }
 
 fn is_sign(b: u8) -> bool
     ensures { λ r. ⌜ r ≡ isSign b ⌝ }
 {
-    if b == 43 {
+    if b == b'+' {
         return true;
     }
-    b == 45
+    b == b'-'
 }
 
 // `+` or `-`, then hours to 14 and minutes to 59 in two digits each.
@@ -151,7 +151,7 @@ fn is_zone(z: &[u8]) -> bool
 fn is_time(d: &[u8]) -> bool
     ensures { λ r. ⌜ r ≡ isTime (now (d .entry)) ⌝ }
 {
-    let n = count_to(d, 32);
+    let n = count_to(d, b' ');
     if n == 0 {
         return false;
     }
@@ -172,14 +172,14 @@ fn is_time(d: &[u8]) -> bool
 fn is_addressed(a: &[u8]) -> bool
     ensures { λ r. ⌜ r ≡ isAddressed (now (a .entry)) ⌝ }
 {
-    let n = count_to(a, 62);
+    let n = count_to(a, b'>');
     if n == 0 {
         return false;
     }
     if a.len() - n < 2 {
         return false;
     }
-    if a[n + 1] != 32 {
+    if a[n + 1] != b' ' {
         return false;
     }
     if all_of(Class::Address, &a[..n]) {
@@ -193,7 +193,7 @@ fn is_addressed(a: &[u8]) -> bool
 pub fn is_actor(v: &[u8]) -> bool
     ensures { λ r. ⌜ r ≡ isActor (now (v .entry)) ⌝ }
 {
-    let n = count_to(v, 60);
+    let n = count_to(v, b'<');
     if n == v.len() {
         return false;
     }

@@ -6,6 +6,8 @@ ghost use lib.ListN.{length};
 ghost use Rattle.ground.specs.Verdict.{mostRecords};
 ghost use Rattle.header.specs.Record.{width};
 ghost use Rattle.commit_check.specs.Check.{headersOf, ranged, idFits, encodingFits, headerFits, tests, passing, checked};
+use ground::BAD_RECORD;
+use ground::FINE;
 use ground::Gate;
 use ground::Verdict;
 use ground::bounds;
@@ -163,16 +165,12 @@ pub fn check_commit(
             let k = count_all(bytes, h, parts, parents, headers);
             if k < n + 5 + m {
                 return Verdict {
-                    number: 10,
+                    number: BAD_RECORD,
                     place: k,
-                    part: 0,
+                    ..FINE
                 };
             }
-            Verdict {
-                number: 0,
-                place: 0,
-                part: 0,
-            }
+            FINE
         }
     }
 }

@@ -7,6 +7,10 @@ ghost use Rattle.commit_read.specs.Headers.{heads, tally, written};
 ghost use Rattle.commit_read.specs.Fields.{actorAt, encodingAt, endingOf, peopleOf, fieldsOf};
 ghost use Rattle.commit_read.specs.Read.{outcomeOf, refusedRead, doneRead, commitAnswer, commitParents, commitHeaders};
 use actor::is_actor;
+use ground::ACTOR;
+use ground::COMMIT_FIELD;
+use ground::FEW_RECORDS;
+use ground::FINE;
 use ground::Gate;
 use ground::Verdict;
 use ground::bounds;
@@ -115,9 +119,9 @@ fn actor_at(s: &[u8], at: usize, word: &[u8], field: usize) -> Person
     match value_line(s, at, word) {
         Line::Missing => Person::Fails(Refusal {
             verdict: Verdict {
-                number: 11,
+                number: COMMIT_FIELD,
                 place: at,
-                part: 0,
+                ..FINE
             },
             field: field,
         }),
@@ -127,9 +131,9 @@ fn actor_at(s: &[u8], at: usize, word: &[u8], field: usize) -> Person
             }
             Person::Fails(Refusal {
                 verdict: Verdict {
-                    number: 12,
+                    number: ACTOR,
                     place: at,
-                    part: 0,
+                    ..FINE
                 },
                 field: 0,
             })
@@ -169,7 +173,7 @@ fn ending(s: &[u8], n: usize, a: usize, e: usize, b: usize, f: usize) -> Outcome
     let enc = encoding_at(s, at);
     let k = count_headers(s, enc.next);
     let end = k.end;
-    if byte_at(s, end) == 10 {
+    if byte_at(s, end) == b'\n' {
         let message = end + 1;
         let all = s.len();
         return Outcome::Whole(Found {
@@ -192,9 +196,9 @@ fn ending(s: &[u8], n: usize, a: usize, e: usize, b: usize, f: usize) -> Outcome
     }
     Outcome::Fails(Refusal {
         verdict: Verdict {
-            number: 11,
+            number: COMMIT_FIELD,
             place: end,
-            part: 0,
+            ..FINE
         },
         field: 4,
     })
@@ -229,9 +233,8 @@ fn fields(s: &[u8], h: usize) -> Outcome
     }
     Outcome::Fails(Refusal {
         verdict: Verdict {
-            number: 11,
-            place: 0,
-            part: 0,
+            number: COMMIT_FIELD,
+            ..FINE
         },
         field: 1,
     })
@@ -251,9 +254,9 @@ fn decide(s: &[u8], h: usize, np: usize, nh: usize) -> Outcome
                 if np < n {
                     return Outcome::Fails(Refusal {
                         verdict: Verdict {
-                            number: 4,
+                            number: FEW_RECORDS,
                             place: n,
-                            part: 0,
+                            ..FINE
                         },
                         field: 0,
                     });
@@ -261,9 +264,9 @@ fn decide(s: &[u8], h: usize, np: usize, nh: usize) -> Outcome
                 if nh < m {
                     return Outcome::Fails(Refusal {
                         verdict: Verdict {
-                            number: 4,
+                            number: FEW_RECORDS,
                             place: m,
-                            part: 0,
+                            ..FINE
                         },
                         field: 0,
                     });
@@ -342,11 +345,7 @@ fn done(f: Found) -> CommitRead
 {
     let parts = f.parts;
     CommitRead {
-        verdict: Verdict {
-            number: 0,
-            place: 0,
-            part: 0,
-        },
+        verdict: FINE,
         field: 0,
         parents: f.parents,
         headers: f.headers,

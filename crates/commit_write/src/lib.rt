@@ -16,6 +16,10 @@ ghost use Rattle.commit_write.specs.Written.{lowerDigit, lowerHex, heade
 ghost use Rattle.commit_write.specs.Write.{encodingNamed, written, encodingRefusal, measured, commitSize, commitAnswer};
 use commit_check::check_commit;
 use ground::Answer;
+use ground::DONE;
+use ground::EMPTY_ENCODING;
+use ground::FINE;
+use ground::LF_IN_ENCODING;
 use ground::Verdict;
 use header::CommitParts;
 use header::HEADER_WIDTH;
@@ -30,10 +34,10 @@ use scan::count_to;
 fn lower(b: u8) -> u8
     ensures { λ r. ⌜ r ≡ lowerDigit b ⌝ }
 {
-    if b < 65 {
+    if b < b'A' {
         return b;
     }
-    if 70 < b {
+    if b'F' < b {
         return b;
     }
     b + 32
@@ -69,9 +73,9 @@ fn put_id_line(out: &mut [u8], at: usize, word: &[u8], digits: &[u8]) -> usize
 {
     let from = at + word.len() + 1;
     let end = from + digits.len();
-    put_ended(out, at, word, 32);
+    put_ended(out, at, word, b' ');
     put_digits(out, from, digits);
-    put_byte(out, end, 10);
+    put_byte(out, end, b'\n');
     end + 1
 }
 
@@ -83,8 +87,8 @@ fn put_line(out: &mut [u8], at: usize, word: &[u8], value: &[u8]) -> usize
 {
     let from = at + word.len() + 1;
     let end = from + value.len();
-    put_ended(out, at, word, 32);
-    put_ended(out, from, value, 10);
+    put_ended(out, at, word, b' ');
+    put_ended(out, from, value, b'\n');
     end + 1
 }
 
@@ -98,8 +102,8 @@ fn put_folded(out: &mut [u8], at: usize, v: &[u8]) -> usize
     let mut prev: u8 = 0;
     let mut i = 0;
     while i < v.len() {
-        if prev == 10 {
-            put_byte(out, to, 32);
+        if prev == b'\n' {
+            put_byte(out, to, b' ');
             prev = v[i];
             put_byte(out, to + 1, prev);
             to += 2;
@@ -111,10 +115,10 @@ fn put_folded(out: &mut [u8], at: usize, v: &[u8]) -> usize
         to += 1;
         i += 1;
     }
-    if prev == 10 {
+    if prev == b'\n' {
         return to;
     }
-    put_byte(out, to, 10);
+    put_byte(out, to, b'\n');
     to + 1
 }
 
@@ -130,7 +134,7 @@ fn put_header(out: &mut [u8], at: usize, bytes: &[u8], x: HeaderRecord) -> usize
     let from = x.value_start;
     let to = x.value_end;
     let value = at + (end - start) + 1;
-    put_ended(out, at, &bytes[start..end], 32);
+    put_ended(out, at, &bytes[start..end], b' ');
     if x.mark == 1 {
         put(out, value, &bytes[from..to]);
         return value + (to - from);
@@ -216,7 +220,7 @@ fn put_commit(
     let d = put_line(out, c, b"committer", &bytes[committer..committer_end]);
     let e = put_encoding(out, d, bytes, parts);
     let f = put_headers(out, e, bytes, headers);
-    put_byte(out, f, 10);
+    put_byte(out, f, b'\n');
     put(out, f + 1, &bytes[message..message_end]);
     f + 1 + (message_end - message)
 }
@@ -230,14 +234,14 @@ fn encoding_fault(bytes: &[u8], p: CommitParts) -> usize
         let from = p.encoding_start;
         let to = p.encoding_end;
         if to == from {
-            return 13;
+            return EMPTY_ENCODING;
         }
-        if count_to(&bytes[from..to], 10) == to - from {
-            return 0;
+        if count_to(&bytes[from..to], b'\n') == to - from {
+            return DONE;
         }
-        return 14;
+        return LF_IN_ENCODING;
     }
-    0
+    DONE
 }
 
 // The size, or refusal 1, 2 or 10, where so much room is lent.
@@ -253,17 +257,13 @@ fn measure(
 {
     let verdict = check_commit(bytes, h, parts, parents, headers, room);
     let number = verdict.number;
-    if number != 0 {
+    if number != DONE {
         return Answer { verdict, count: 0 };
     }
     let mut none = [0u8; 0];
     let count = put_commit(&mut none, bytes, h, parts, parents, headers);
     Answer {
-        verdict: Verdict {
-            number: 0,
-            place: 0,
-            part: 0,
-        },
+        verdict: FINE,
         count,
     }
 }
@@ -295,23 +295,22 @@ pub fn write_commit(
 {
     let a = measure(bytes, h, parts, parents, headers, out.len());
     let refusal = a.verdict.number;
-    if refusal != 0 {
+    if refusal != DONE {
         return a;
     }
     let fault = encoding_fault(bytes, parts);
-    if fault != 0 {
+    if fault != DONE {
         return Answer {
             verdict: Verdict {
                 number: fault,
-                place: 0,
-                part: 0,
+                ..FINE
             },
             count: 0,
         };
     }
     let answer = fit(out.len(), a);
     let short = answer.verdict.number;
-    if short != 0 {
+    if short != DONE {
         return answer;
     }
     put_commit(out, bytes, h, parts, parents, headers);

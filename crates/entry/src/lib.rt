@@ -3,7 +3,12 @@ ghost use mathlib.Core.Path.{_≡_};
 ghost use lib.ListN.{getD, drop};
 ghost use Rattle.entry.specs.Record.{recordsOf, noRecord, putRecord, wellFormed, folderOf};
 ghost use Rattle.entry.specs.Decode.{brokenAt, shortPart, decode, noEntry, stepOf};
+use ground::BROKEN_ENTRY;
+use ground::CUT_ID;
+use ground::FINE;
 use ground::Gate;
+use ground::NO_MODE;
+use ground::NO_NUL;
 use ground::Verdict;
 use ground::bounds;
 use mode::EntryMode;
@@ -124,7 +129,7 @@ fn broken(at: usize, part: usize) -> Decoded
     ensures { λ r. ⌜ r ≡ brokenAt at part ⌝ }
 {
     Decoded::Broken(Verdict {
-        number: 3,
+        number: BROKEN_ENTRY,
         place: at,
         part,
     })
@@ -134,7 +139,7 @@ fn broken(at: usize, part: usize) -> Decoded
 pub fn short_part(left: usize) -> usize
     ensures { λ r. ⌜ r ≡ shortPart left ⌝ }
 {
-    if left == 0 { 2 } else { 3 }
+    if left == 0 { NO_NUL } else { CUT_ID }
 }
 
 // A step that found no entry.
@@ -182,7 +187,7 @@ impl Cursor {
                     Cursor { at: next },
                 )
             }
-            ModeRead::Bad => broken(at, 1),
+            ModeRead::Bad => broken(at, NO_MODE),
         }
     }
 
@@ -196,22 +201,11 @@ impl Cursor {
                 let at = self.at;
                 let end = bytes.len();
                 if end <= at {
-                    return no_entry(
-                        Verdict {
-                            number: 0,
-                            place: 0,
-                            part: 0,
-                        },
-                        self,
-                    );
+                    return no_entry(FINE, self);
                 }
                 match self.decode(bytes, h) {
                     Decoded::Whole(e, next) => Step {
-                        verdict: Verdict {
-                            number: 0,
-                            place: 0,
-                            part: 0,
-                        },
+                        verdict: FINE,
                         found: true,
                         entry: e,
                         next,

@@ -9,6 +9,54 @@ pub const MOST_BYTES: usize = 1073741824;
 
 pub const MOST_RECORDS: usize = 1048576;
 
+// The numbers that a call answers with.
+pub const DONE: usize = 0;
+
+pub const ID_LENGTH: usize = 1;
+
+pub const BOUND: usize = 2;
+
+pub const BROKEN_ENTRY: usize = 3;
+
+pub const FEW_RECORDS: usize = 4;
+
+pub const MODE_TEXT: usize = 5;
+
+pub const NAME: usize = 6;
+
+pub const ORDER: usize = 7;
+
+pub const SHORT_OUTPUT: usize = 8;
+
+pub const NUL_IN_NAME: usize = 9;
+
+pub const BAD_RECORD: usize = 10;
+
+pub const COMMIT_FIELD: usize = 11;
+
+pub const ACTOR: usize = 12;
+
+pub const EMPTY_ENCODING: usize = 13;
+
+pub const LF_IN_ENCODING: usize = 14;
+
+pub const NOT_THERE: usize = 15;
+
+pub const SAME_NAME: usize = 17;
+
+pub const DOT_GIT: usize = 18;
+
+pub const RULE_SET: usize = 19;
+
+pub const NO_MODE_OR_KIND: usize = 23;
+
+// The parts of an entry that BROKEN_ENTRY tells apart.
+pub const NO_MODE: usize = 1;
+
+pub const NO_NUL: usize = 2;
+
+pub const CUT_ID: usize = 3;
+
 // A number of the table with its place, and with number 3 the part of the entry that cannot be read, else 0;
 // number 0 with place 0 is "done".
 pub struct Verdict {
@@ -16,6 +64,13 @@ pub struct Verdict {
     pub place: usize,
     pub part: usize,
 }
+
+// Done. Every other verdict is this one with a number, and where it has them a place and a part: `Verdict { number: BOUND, ..FINE }`.
+pub const FINE: Verdict = Verdict {
+    number: DONE,
+    place: 0,
+    part: 0,
+};
 
 // The answer of a call that counts records or bytes: the count is 0 on a refusal.
 pub struct Answer {
@@ -35,16 +90,14 @@ pub fn sizes(bytes: usize, records: usize) -> Gate
 {
     if MOST_BYTES < bytes {
         return Gate::Shut(Verdict {
-            number: 2,
-            place: 0,
-            part: 0,
+            number: BOUND,
+            ..FINE
         });
     }
     if MOST_RECORDS < records {
         return Gate::Shut(Verdict {
-            number: 2,
-            place: 0,
-            part: 0,
+            number: BOUND,
+            ..FINE
         });
     }
     Gate::Open
@@ -61,9 +114,8 @@ pub fn bounds(h: usize, bytes: usize, records: usize) -> Gate
         return sizes(bytes, records);
     }
     Gate::Shut(Verdict {
-        number: 1,
-        place: 0,
-        part: 0,
+        number: ID_LENGTH,
+        ..FINE
     })
 }
 

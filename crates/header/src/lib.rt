@@ -51,22 +51,22 @@ pub enum Extra {
 pub fn hex_digit(b: u8) -> u8
     ensures { λ r. ⌜ r ≡ hexValue b ⌝ }
 {
-    if b < 48 {
+    if b < b'0' {
         return 255;
     }
-    if b <= 57 {
-        return b - 48;
+    if b <= b'9' {
+        return b - b'0';
     }
-    if b < 65 {
+    if b < b'A' {
         return 255;
     }
-    if b <= 70 {
+    if b <= b'F' {
         return b - 55;
     }
-    if b < 97 {
+    if b < b'a' {
         return 255;
     }
-    if b <= 102 {
+    if b <= b'f' {
         return b - 87;
     }
     255
@@ -97,7 +97,7 @@ fn word_at(s: &[u8], at: usize, word: &[u8]) -> bool
         return false;
     }
     let end = at + word.len();
-    if s[end] != 32 {
+    if s[end] != b' ' {
         return false;
     }
     same_bytes(&s[at..end], word)
@@ -114,7 +114,7 @@ fn id_from(s: &[u8], from: usize, h: usize) -> bool
         return false;
     }
     let end = from + 2 * h;
-    if byte_at(s, end) != 10 {
+    if byte_at(s, end) != b'\n' {
         return false;
     }
     is_hex(&s[from..end])
@@ -137,7 +137,7 @@ pub fn value_line(s: &[u8], at: usize, word: &[u8]) -> Line
 {
     if word_at(s, at, word) {
         let from = at + word.len() + 1;
-        let lf = find_byte(s, from, 10);
+        let lf = find_byte(s, from, b'\n');
         if lf < s.len() {
             return Line::Value(from, lf);
         }
@@ -152,10 +152,10 @@ fn fold_end(s: &[u8], start: usize) -> usize
 {
     let mut at = start;
     while at < s.len() {
-        if s[at] != 32 {
+        if s[at] != b' ' {
             return at;
         }
-        let lf = find_byte(s, at + 1, 10);
+        let lf = find_byte(s, at + 1, b'\n');
         if s.len() <= lf {
             return start;
         }
@@ -168,8 +168,8 @@ fn fold_end(s: &[u8], start: usize) -> usize
 pub fn extra_at(s: &[u8], at: usize) -> Extra
     ensures { λ r. ⌜ r ≡ extraAt (now (s .entry)) at ⌝ }
 {
-    let space = find_byte(s, at, 32);
-    let lf = find_byte(s, at, 10);
+    let space = find_byte(s, at, b' ');
+    let lf = find_byte(s, at, b'\n');
     if space <= at {
         return Extra::No;
     }
@@ -210,7 +210,7 @@ pub fn extra_at(s: &[u8], at: usize) -> Extra
 pub fn is_folded(v: &[u8]) -> bool
     ensures { λ r. ⌜ r ≡ foldedForm (now (v .entry)) ⌝ }
 {
-    let n = count_to(v, 10);
+    let n = count_to(v, b'\n');
     if v.len() <= n {
         return false;
     }

@@ -2,6 +2,8 @@
 // for each a line with its mode text, the word of its kind, its id in hex and its name. A refusal is one line with its number and place.
 use entry::EntryRecord;
 use entry::entry_at;
+use ground::BOUND;
+use ground::FINE;
 use ground::Verdict;
 use libc::STDERR_FILENO;
 use libc::STDIN_FILENO;
@@ -147,9 +149,8 @@ fn main() {
         let end = refused(
             &mut out,
             Verdict {
-                number: 2,
-                place: 0,
-                part: 0,
+                number: BOUND,
+                ..FINE
             },
         );
         flush(&out, end);

@@ -2,7 +2,10 @@
 // A search under way is a value: `start` makes it, `step` compares one record, `answer` reads it off. Loops over records of any form share them;
 // `bisect_entry` over flat records keeps low, high and the count itself, and so has nothing to test twice.
 use entry::EntryRecord;
+use ground::BAD_RECORD;
+use ground::FINE;
 use ground::Gate;
+use ground::NOT_THERE;
 use ground::Verdict;
 use order::Order;
 ghost use mathlib.Core.Path.{_≡_};
@@ -49,9 +52,8 @@ fn aimed(low: usize, high: usize, compared: usize) -> Probe
 {
     let looked = Looked {
         verdict: Verdict {
-            number: 15,
-            place: 0,
-            part: 0,
+            number: NOT_THERE,
+            ..FINE
         },
         index: 0,
         compared,
@@ -112,15 +114,7 @@ fn moved(p: Probe, o: Order) -> Probe
     let compared = p.looked.compared + 1;
     match o {
         Order::Below => aimed(at + 1, p.high, compared),
-        Order::Same => stopped(
-            Verdict {
-                number: 0,
-                place: 0,
-                part: 0,
-            },
-            at,
-            compared,
-        ),
+        Order::Same => stopped(FINE, at, compared),
         Order::Above => aimed(p.low, at, compared),
     }
 }
@@ -145,9 +139,9 @@ pub fn step(object: &[u8], name: &[u8], q: Query, p: Probe, e: EntryRecord) -> P
     }
     stopped(
         Verdict {
-            number: 10,
+            number: BAD_RECORD,
             place: at,
-            part: 0,
+            ..FINE
         },
         0,
         0,
@@ -204,11 +198,7 @@ fn searched(object: &[u8], h: usize, records: &[usize], name: &[u8], folder: boo
                 }
                 Order::Same => {
                     return Looked {
-                        verdict: Verdict {
-                            number: 0,
-                            place: 0,
-                            part: 0,
-                        },
+                        verdict: FINE,
                         index: middle,
                         compared,
                     };
@@ -221,9 +211,9 @@ fn searched(object: &[u8], h: usize, records: &[usize], name: &[u8], folder: boo
         }
         return Looked {
             verdict: Verdict {
-                number: 10,
+                number: BAD_RECORD,
                 place: middle,
-                part: 0,
+                ..FINE
             },
             index: 0,
             compared: 0,
@@ -231,9 +221,8 @@ fn searched(object: &[u8], h: usize, records: &[usize], name: &[u8], folder: boo
     }
     Looked {
         verdict: Verdict {
-            number: 15,
-            place: 0,
-            part: 0,
+            number: NOT_THERE,
+            ..FINE
         },
         index: 0,
         compared,

@@ -5,6 +5,9 @@ ghost use lib.ListN.{length, take, drop};
 ghost use Rattle.ground.specs.Verdict.{stored};
 ghost use Rattle.loose_header.specs.Header.{kindWord, decimal, looseHeader, headerAnswer};
 use ground::Answer;
+use ground::DONE;
+use ground::FINE;
+use ground::NO_MODE_OR_KIND;
 use ground::Verdict;
 
 // The word of an object kind: the first len of its letters; none where the number is no kind.
@@ -60,11 +63,11 @@ fn decimal_of(n: u64) -> Decimal
     let mut rest = n;
     while 10 <= rest {
         at -= 1;
-        text[at] = 48 + (rest % 10) as u8;
+        text[at] = b'0' + (rest % 10) as u8;
         rest /= 10;
     }
     at -= 1;
-    text[at] = 48 + rest as u8;
+    text[at] = b'0' + rest as u8;
     Decimal { text, at }
 }
 
@@ -78,9 +81,8 @@ pub fn loose_header(kind: usize, size: u64, out: &mut [u8]) -> Answer
     if n == 0 {
         return Answer {
             verdict: Verdict {
-                number: 23,
-                place: 0,
-                part: 0,
+                number: NO_MODE_OR_KIND,
+                ..FINE
             },
             count: 0,
         };
@@ -92,21 +94,17 @@ pub fn loose_header(kind: usize, size: u64, out: &mut [u8]) -> Answer
     let a = output::fit(
         out.len(),
         Answer {
-            verdict: Verdict {
-                number: 0,
-                place: 0,
-                part: 0,
-            },
+            verdict: FINE,
             count: need,
         },
     );
     let number = a.verdict.number;
-    if number != 0 {
+    if number != DONE {
         return a;
     }
     let letters = word.letters;
     let digits = d.text;
-    output::put_ended(out, 0, &letters[..n], 32);
+    output::put_ended(out, 0, &letters[..n], b' ');
     output::put_ended(out, next, &digits[from..20], 0);
     a
 }

@@ -9,7 +9,11 @@ ghost use Rattle.mode.specs.Mode.{valueOf, sortOf, executes, kindOf, isT
 ghost use Rattle.mode.specs.Read.{octalFrom, hasSix, textLen, settle, restAt, readMode, readModeAt, alone, modeAlone};
 ghost use Rattle.mode.specs.Write.{trimmed, short, modeText};
 ghost use Rattle.mode.specs.Table.{placeOf, rowAt, writtenOf, wordOf, writtenMode};
+use ground::BROKEN_ENTRY;
+use ground::FINE;
 use ground::Gate;
+use ground::NO_MODE;
+use ground::NO_MODE_OR_KIND;
 use ground::Verdict;
 use ground::sizes;
 use scan::count_to;
@@ -208,11 +212,7 @@ impl ModeAnswer {
         ensures { λ r. ⌜ r ≡ accepted mode ⌝ }
     {
         ModeAnswer {
-            verdict: Verdict {
-                number: 0,
-                place: 0,
-                part: 0,
-            },
+            verdict: FINE,
             mode: mode,
         }
     }
@@ -233,9 +233,9 @@ impl ModeAnswer {
         match read {
             ModeRead::Mode(m, _) => ModeAnswer::done(m),
             ModeRead::Bad => ModeAnswer::refused(Verdict {
-                number: 3,
-                place: 0,
-                part: 1,
+                number: BROKEN_ENTRY,
+                part: NO_MODE,
+                ..FINE
             }),
         }
     }
@@ -359,7 +359,7 @@ impl EntryMode {
         let m = self.internal;
         if m == 0 {
             return ShortText {
-                bytes: [48, 0, 0, 0, 0, 0],
+                bytes: [b'0', 0, 0, 0, 0, 0],
                 len: 1,
             };
         }
@@ -382,9 +382,8 @@ impl EntryMode {
         }
         if n & 0o100000 == 0 {
             return ModeAnswer::refused(Verdict {
-                number: 23,
-                place: 0,
-                part: 0,
+                number: NO_MODE_OR_KIND,
+                ..FINE
             });
         }
         let low = (n % 0o200000) as u16;
@@ -444,7 +443,7 @@ impl EntryMode {
 fn digit(n: u16) -> u8
     ensures { λ r. ⌜ r ≡ 48 + n % 8 ⌝ }
 {
-    48 + (n % 8) as u8
+    b'0' + (n % 8) as u8
 }
 
 // The text of six digits: a tree's loses its first, or has 0 for it.
@@ -457,14 +456,14 @@ fn trimmed(a: u8, b: u8, c: u8, d: u8, e: u8, f: u8) -> ShortText
             len: 6,
         };
     }
-    if a == 48 {
+    if a == b'0' {
         return ShortText {
             bytes: [b, c, d, e, f, 0],
             len: 5,
         };
     }
     ShortText {
-        bytes: [48, b, c, d, e, f],
+        bytes: [b'0', b, c, d, e, f],
         len: 6,
     }
 }
@@ -485,13 +484,13 @@ fn octal_of(t: &[u8]) -> Octal
     let mut n: usize = 0;
     while n < t.len() {
         let b = t[n];
-        if b < 48 {
+        if b < b'0' {
             return Octal::Other;
         }
-        if 55 < b {
+        if b'7' < b {
             return Octal::Other;
         }
-        sum = sum % 0o20000 * 8 + (b - 48) as u16;
+        sum = sum % 0o20000 * 8 + (b - b'0') as u16;
         n += 1;
     }
     Octal::Number(sum)
@@ -504,14 +503,14 @@ fn has_six(i: &[u8]) -> bool
     if i.len() <= 6 {
         return false;
     }
-    if i[6] == 32 { i[5] != 32 } else { false }
+    if i[6] == b' ' { i[5] != b' ' } else { false }
 }
 
 // How many bytes the mode text has.
 fn text_len(i: &[u8]) -> usize
     ensures { λ r. ⌜ r ≡ textLen (now (i .entry)) ⌝ }
 {
-    if has_six(i) { 6 } else { count_to(i, 32) }
+    if has_six(i) { 6 } else { count_to(i, b' ') }
 }
 
 // 16384 from a text that begins with 0 is told from 16384 from another.
@@ -519,7 +518,7 @@ fn settled(v: u16, first: u8) -> u16
     ensures { λ r. ⌜ r ≡ settle v first ⌝ }
 {
     if v == EntryMode::TREE {
-        if first == 48 {
+        if first == b'0' {
             EntryMode::PADDED_TREE
         } else {
             v

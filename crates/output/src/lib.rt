@@ -6,6 +6,9 @@ ghost use lib.ListN.{length};
 ghost use lib.Seq.{sets};
 ghost use Rattle.output.specs.Output.{fitted};
 use ground::Answer;
+use ground::DONE;
+use ground::FINE;
+use ground::SHORT_OUTPUT;
 use ground::Verdict;
 
 // Copies a piece that has room at its place.
@@ -63,16 +66,16 @@ pub fn fit(room: usize, a: Answer) -> Answer
     ensures { λ r. ⌜ r ≡ fitted room a ⌝ }
 {
     let number = a.verdict.number;
-    if number != 0 {
+    if number != DONE {
         return a;
     }
     let need = a.count;
     if room < need {
         return Answer {
             verdict: Verdict {
-                number: 8,
+                number: SHORT_OUTPUT,
                 place: need,
-                part: 0,
+                ..FINE
             },
             count: 0,
         };

@@ -24,8 +24,19 @@ use entry::short_part;
 use front::code_at;
 use front::quick_code;
 use ground::Answer;
+use ground::BOUND;
+use ground::BROKEN_ENTRY;
+use ground::DONE;
+use ground::DOT_GIT;
+use ground::FEW_RECORDS;
+use ground::FINE;
 use ground::Gate;
+use ground::MODE_TEXT;
 use ground::MOST_RECORDS;
+use ground::NAME;
+use ground::ORDER;
+use ground::RULE_SET;
+use ground::SAME_NAME;
 use ground::Verdict;
 use ground::bounds;
 use mode::ModeFound;
@@ -72,15 +83,14 @@ fn count_plain(s: &[u8], h: usize) -> Counted
     while at < s.len() {
         if MOST_RECORDS <= n {
             return Counted::Stopped(Verdict {
-                number: 2,
-                place: 0,
-                part: 0,
+                number: BOUND,
+                ..FINE
             });
         }
         let code = mode_code(s, at);
         if code == 0 {
             return Counted::Stopped(Verdict {
-                number: 3,
+                number: BROKEN_ENTRY,
                 place: at,
                 part: 1,
             });
@@ -90,7 +100,7 @@ fn count_plain(s: &[u8], h: usize) -> Counted
         if left <= h {
             let part = short_part(left);
             return Counted::Stopped(Verdict {
-                number: 3,
+                number: BROKEN_ENTRY,
                 place: at,
                 part,
             });
@@ -110,7 +120,7 @@ fn name_permitted(name: &[u8]) -> bool
     if all == 0 {
         return false;
     }
-    if count_to(name, 47) != all {
+    if count_to(name, b'/') != all {
         return false;
     }
     if same_bytes(name, b".") {
@@ -129,10 +139,10 @@ fn name_permitted(name: &[u8]) -> bool
 fn in_lower(b: u8) -> u8
     ensures { λ r. ⌜ r ≡ lower b ⌝ }
 {
-    if b < 65 {
+    if b < b'A' {
         return b;
     }
-    if 90 < b {
+    if b'Z' < b {
         return b;
     }
     b + 32
@@ -175,8 +185,8 @@ fn after_entry(s: &[u8], marks: &mut [u32], n: usize, last: Last, e: EntryRecord
                 is_folder(e),
             ) {
                 Placed::Fine(k) => Judged::Fine(k),
-                Placed::NotAfter => Judged::Refused(7),
-                Placed::Double => Judged::Refused(17),
+                Placed::NotAfter => Judged::Refused(ORDER),
+                Placed::Double => Judged::Refused(SAME_NAME),
             }
         }
     }
@@ -221,13 +231,13 @@ fn entry_number(rules: u16, s: &[u8], at: usize, e: EntryRecord) -> usize
         let end = e.name_end;
         if name_permitted(&s[start..end]) {
             if is_dot_git(&s[start..end]) {
-                return 18;
+                return DOT_GIT;
             }
-            return 0;
+            return DONE;
         }
-        return 6;
+        return NAME;
     }
-    5
+    MODE_TEXT
 }
 
 // The first pass of the strict reader, with marks enough for the names that can be open at once.
@@ -242,20 +252,19 @@ fn count_marked(rules: u16, s: &[u8], h: usize, marks: &mut [u32]) -> Counted
     while c.at < s.len() {
         if MOST_RECORDS <= n {
             return Counted::Stopped(Verdict {
-                number: 2,
-                place: 0,
-                part: 0,
+                number: BOUND,
+                ..FINE
             });
         }
         match c.decode(s, h) {
             Decoded::Whole(e, next) => {
                 let at = c.at;
                 let number = entry_number(rules, s, at, e);
-                if number != 0 {
+                if number != DONE {
                     return Counted::Stopped(Verdict {
                         number,
                         place: at,
-                        part: 0,
+                        ..FINE
                     });
                 }
                 match after_entry(s, marks, held, last, e) {
@@ -263,7 +272,7 @@ fn count_marked(rules: u16, s: &[u8], h: usize, marks: &mut [u32]) -> Counted
                         return Counted::Stopped(Verdict {
                             number,
                             place: at,
-                            part: 0,
+                            ..FINE
                         });
                     }
                     Judged::Fine(k) => {
@@ -346,20 +355,16 @@ fn finish(s: &[u8], h: usize, count: usize, records: &mut [usize]) -> Answer
     if records.len() / WIDTH < count {
         return Answer {
             verdict: Verdict {
-                number: 4,
+                number: FEW_RECORDS,
                 place: count,
-                part: 0,
+                ..FINE
             },
             count: 0,
         };
     }
     fill(s, h, count, records);
     Answer {
-        verdict: Verdict {
-            number: 0,
-            place: 0,
-            part: 0,
-        },
+        verdict: FINE,
         count,
     }
 }
@@ -397,9 +402,8 @@ fn strict_bounds(rules: u16, h: usize, bytes: usize, records: usize) -> Gate
     }
     match bounds(h, 0, 0) {
         Gate::Open => Gate::Shut(Verdict {
-            number: 19,
-            place: 0,
-            part: 0,
+            number: RULE_SET,
+            ..FINE
         }),
         Gate::Shut(v) => Gate::Shut(v),
     }

@@ -14,7 +14,11 @@ use entry::WIDTH;
 use entry::entry_at;
 use entry::well_formed;
 use ground::Answer;
+use ground::BAD_RECORD;
+use ground::DONE;
+use ground::FINE;
 use ground::Gate;
+use ground::NUL_IN_NAME;
 use ground::Verdict;
 use ground::bounds;
 use ground::longer;
@@ -34,13 +38,13 @@ fn refuse(bytes: &[u8], h: usize, writing: bool, e: EntryRecord) -> usize
             let start = e.name_start;
             let end = e.name_end;
             if count_to(&bytes[start..end], 0) == end - start {
-                return 0;
+                return DONE;
             }
-            return 9;
+            return NUL_IN_NAME;
         }
-        return 0;
+        return DONE;
     }
-    10
+    BAD_RECORD
 }
 
 // The text of a mode that has 16 bits.
@@ -76,12 +80,12 @@ fn measure(bytes: &[u8], h: usize, records: &[usize], writing: bool) -> Answer
     while i < n {
         let e = entry_at(records, i);
         let number = refuse(bytes, h, writing, e);
-        if number != 0 {
+        if number != DONE {
             return Answer {
                 verdict: Verdict {
                     number,
                     place: i,
-                    part: 0,
+                    ..FINE
                 },
                 count: 0,
             };
@@ -90,11 +94,7 @@ fn measure(bytes: &[u8], h: usize, records: &[usize], writing: bool) -> Answer
         i += 1;
     }
     Answer {
-        verdict: Verdict {
-            number: 0,
-            place: 0,
-            part: 0,
-        },
+        verdict: FINE,
         count: sum,
     }
 }
@@ -115,7 +115,7 @@ fn write_entry(out: &mut [u8], at: usize, bytes: &[u8], h: usize, e: EntryRecord
     let last = id + h;
     let name = at + n + 1;
     let next = name + (end - start) + 1;
-    put_ended(out, at, &digits[..n], 32);
+    put_ended(out, at, &digits[..n], b' ');
     put_ended(out, name, &bytes[start..end], 0);
     put(out, next, &bytes[id..last]);
     next + h
@@ -166,7 +166,7 @@ pub fn write_tree(bytes: &[u8], h: usize, records: &[usize], out: &mut [u8]) -> 
     }
     let a = fit(out.len(), measure(bytes, h, records, true));
     let number = a.verdict.number;
-    if number != 0 {
+    if number != DONE {
         return a;
     }
     fill(out, bytes, h, records);

@@ -7,6 +7,7 @@ use entry::WIDTH;
 use entry::entry_at;
 use entry::is_folder;
 use ground::Answer;
+use ground::FINE;
 use ground::Verdict;
 use ground::longer;
 use libc::STDIN_FILENO;
@@ -430,11 +431,7 @@ struct Line {
 
 fn no_answer() -> Answer {
     Answer {
-        verdict: Verdict {
-            number: 0,
-            place: 0,
-            part: 0,
-        },
+        verdict: FINE,
         count: 0,
     }
 }

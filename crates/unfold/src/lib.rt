@@ -5,7 +5,10 @@ ghost use lib.ListN.{length};
 ghost use lib.Seq.{sets};
 ghost use Rattle.unfold.specs.Unfold.{hasForm, skips, plainOf, unfoldAnswer, unfoldAfter};
 use ground::Answer;
+use ground::BAD_RECORD;
+use ground::FINE;
 use ground::Gate;
+use ground::SHORT_OUTPUT;
 use ground::Verdict;
 use ground::longer;
 use ground::sizes;
@@ -28,7 +31,7 @@ fn skip(mark: usize, prev: u8) -> bool
     ensures { λ r. ⌜ r ≡ skips mark prev ⌝ }
 {
     if mark == 1 {
-        return prev == 10;
+        return prev == b'\n';
     }
     false
 }
@@ -92,37 +95,31 @@ pub fn unfold(bytes: &[u8], x: HeaderRecord, out: &mut [u8]) -> Answer
                     if out.len() < need {
                         return Answer {
                             verdict: Verdict {
-                                number: 8,
+                                number: SHORT_OUTPUT,
                                 place: need,
-                                part: 0,
+                                ..FINE
                             },
                             count: 0,
                         };
                     }
                     plain_into(mark, v, out);
                     return Answer {
-                        verdict: Verdict {
-                            number: 0,
-                            place: 0,
-                            part: 0,
-                        },
+                        verdict: FINE,
                         count: need,
                     };
                 }
                 return Answer {
                     verdict: Verdict {
-                        number: 10,
-                        place: 0,
-                        part: 0,
+                        number: BAD_RECORD,
+                        ..FINE
                     },
                     count: 0,
                 };
             }
             Answer {
                 verdict: Verdict {
-                    number: 10,
-                    place: 0,
-                    part: 0,
+                    number: BAD_RECORD,
+                    ..FINE
                 },
                 count: 0,
             }
