@@ -1,9 +1,11 @@
-/* The loader's job: reads a tree object strictly from a file, finds the guest's folder by its name and prints the folder's id in hex.
+/* The loader's job: reads a tree object strictly from a file, finds the guest's folder by its name and prints the folder's id in hex; of
+ * several folders a line each, in the order of their names.
  *
- *     loader FILE FOLDER [sha256]
+ *     loader FILE FOLDER.. [sha256]
  *
- * FILE has the object's bytes, as `git cat-file tree` writes them. Exit status 0: the id is printed. 1: one line `refused N at P`, where
- * N is 15 if there is no such folder (docs/FORMAT.md, "Numbers"). 2: the file cannot be read, or wrong arguments.
+ * FILE has the object's bytes, as `git cat-file tree` writes them. Exit status 0: the ids are printed. 1: one line `refused N at P`, where
+ * N is 15 if there is no such folder (docs/FORMAT.md, "Numbers"); of several, this line stands for each that is not there. 2: the file
+ * cannot be read, or wrong arguments.
  */
 #include <stdio.h>
 #include <stdlib.h>
@@ -43,23 +45,100 @@ static uint8_t *read_file(const char *path, size_t *len)
     return bytes;
 }
 
+/* Prints an id as hex digits. */
+static void print_id(const uint8_t *id, size_t h)
+{
+    uint8_t digits[SARPUKTEN_HEX] = {0};
+    size_t answer[SARPUKTEN_COUNT_ANSWER] = {0};
+
+    sarpukten_hex_of_id(id, h, digits, sizeof digits, answer);
+    printf("%.*s\n", (int)answer[SARPUKTEN_ANSWER_COUNT], (const char *)digits);
+}
+
+static void print_refusal(size_t number, size_t place)
+{
+    printf("refused %zu at %zu\n", number, place);
+}
+
+/* One folder: prints its id or the refusal, and gives the exit status. */
+static int one(const uint8_t *object, size_t len, size_t h, const struct sarpukten_entry *entries, size_t many, const char *name)
+{
+    size_t answer[SARPUKTEN_LOOKUP_ANSWER] = {0};
+
+    if (sarpukten_bisect_in_entries(object, len, h, entries, many, (const uint8_t *)name, strlen(name), true, answer) != SARPUKTEN_DONE) {
+        print_refusal(answer[SARPUKTEN_ANSWER_NUMBER], answer[SARPUKTEN_ANSWER_PLACE]);
+        return 1;
+    }
+    print_id(object + entries[answer[SARPUKTEN_ANSWER_INDEX]].id_start, h);
+    return 0;
+}
+
+/* Several folders by one call: the names are lent one after the other. */
+static int several(
+    const uint8_t *object, size_t len, size_t h, const struct sarpukten_entry *entries, size_t many, char **folders, size_t n)
+{
+    struct sarpukten_sought *sought = calloc(n, sizeof *sought);
+    struct sarpukten_found *found = calloc(n, sizeof *found);
+    size_t answer[SARPUKTEN_COUNT_ANSWER] = {0}, names_len = 0, i;
+    uint8_t *names;
+    int status = 0;
+
+    for (i = 0; i < n; i++)
+        names_len += strlen(folders[i]);
+    names = malloc(names_len + 1); /* one more, so that it is not NULL where all names are empty */
+    if (sought == NULL || found == NULL || names == NULL) {
+        fprintf(stderr, "loader: no memory\n");
+        status = 2;
+    } else {
+        names_len = 0;
+        for (i = 0; i < n; i++) {
+            sought[i].start = names_len;
+            memcpy(names + names_len, folders[i], strlen(folders[i]));
+            names_len += strlen(folders[i]);
+            sought[i].end = names_len;
+            sought[i].is_folder = 1;
+        }
+        if (sarpukten_bisect_all_in_entries(object, len, h, entries, many, names, names_len, sought, n, found, n, answer) != SARPUKTEN_DONE) {
+            print_refusal(answer[SARPUKTEN_ANSWER_NUMBER], answer[SARPUKTEN_ANSWER_PLACE]);
+            status = 1;
+        } else {
+            for (i = 0; i < n; i++) {
+                if (found[i].number == SARPUKTEN_DONE) {
+                    print_id(object + entries[found[i].index].id_start, h);
+                } else {
+                    print_refusal(found[i].number, 0);
+                    status = 1;
+                }
+            }
+        }
+    }
+    free(names);
+    free(found);
+    free(sought);
+    return status;
+}
+
 int main(int argc, char **argv)
 {
-    size_t h = SARPUKTEN_SHA1, len, lent, number, place, answer[4], found[5], i;
-    const size_t *entry;
-    size_t *records;
+    size_t h = SARPUKTEN_SHA1, len, lent, answer[SARPUKTEN_COUNT_ANSWER] = {0};
+    struct sarpukten_entry *entries;
     uint8_t *object;
+    int i, status;
 
-    if (argc == 4 && strcmp(argv[3], "sha256") == 0)
+    if (argc > 3 && strcmp(argv[argc - 1], "sha256") == 0) {
         h = SARPUKTEN_SHA256;
-    else if (argc != 3) {
-        fprintf(stderr, "usage: loader FILE FOLDER [sha256]\n");
+        argc--;
+    }
+    if (argc < 3) {
+        fprintf(stderr, "usage: loader FILE FOLDER.. [sha256]\n");
         return 2;
     }
     /* A lookup answers `guest/file` as it answers `guest`. */
-    if (strchr(argv[2], '/') != NULL) {
-        fprintf(stderr, "loader: a folder's name has no slash\n");
-        return 2;
+    for (i = 2; i < argc; i++) {
+        if (strchr(argv[i], '/') != NULL) {
+            fprintf(stderr, "loader: a folder's name has no slash\n");
+            return 2;
+        }
     }
     object = read_file(argv[1], &len);
     if (object == NULL) {
@@ -71,29 +150,22 @@ int main(int argc, char **argv)
     lent = len / (h + 8);
     if (lent > SARPUKTEN_MOST_RECORDS)
         lent = SARPUKTEN_MOST_RECORDS;
-    records = calloc(lent + 1, SARPUKTEN_ENTRY * sizeof *records); /* one more, so that it is not NULL for an empty file */
-    if (records == NULL) {
+    entries = calloc(lent + 1, sizeof *entries); /* one more, so that it is not NULL for an empty file */
+    if (entries == NULL) {
         fprintf(stderr, "loader: no memory\n");
         free(object);
         return 2;
     }
 
-    number = sarpukten_read_tree_strict(object, len, h, SARPUKTEN_PRESENT, records, SARPUKTEN_ENTRY * lent, answer);
-    place = answer[1];
-    if (number == SARPUKTEN_DONE) {
-        number = sarpukten_bisect_entry(
-            object, len, h, records, SARPUKTEN_ENTRY * answer[3], (const uint8_t *)argv[2], strlen(argv[2]), true, found);
-        place = found[1];
-    }
-    if (number == SARPUKTEN_DONE) {
-        entry = records + SARPUKTEN_ENTRY * found[3];
-        for (i = 0; i < h; i++)
-            printf("%02x", object[entry[3] + i]);
-        printf("\n");
+    if (sarpukten_read_tree_strict_entries(object, len, h, SARPUKTEN_RULES_PRESENT, entries, lent, answer) != SARPUKTEN_DONE) {
+        print_refusal(answer[SARPUKTEN_ANSWER_NUMBER], answer[SARPUKTEN_ANSWER_PLACE]);
+        status = 1;
+    } else if (argc == 3) {
+        status = one(object, len, h, entries, answer[SARPUKTEN_ANSWER_COUNT], argv[2]);
     } else {
-        printf("refused %zu at %zu\n", number, place);
+        status = several(object, len, h, entries, answer[SARPUKTEN_ANSWER_COUNT], argv + 2, (size_t)argc - 2);
     }
-    free(records);
+    free(entries);
     free(object);
-    return number == SARPUKTEN_DONE ? 0 : 1;
+    return status;
 }

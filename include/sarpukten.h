@@ -1,18 +1,28 @@
 /* Sarpukten: Git's tree objects and commit headers, read and written. The library is libsarpukten.a, for x86-64 Linux.
  *
+ *     struct sarpukten_entry entries[64];
+ *     size_t answer[SARPUKTEN_COUNT_ANSWER];
+ *     if (sarpukten_read_tree_strict_entries(object, len, SARPUKTEN_SHA1, SARPUKTEN_RULES_PRESENT, entries, 64, answer) != SARPUKTEN_DONE)
+ *         ... refused: answer[SARPUKTEN_ANSWER_NUMBER] says why, answer[SARPUKTEN_ANSWER_PLACE] where
+ *     ... answer[SARPUKTEN_ANSWER_COUNT] entries were read
+ *
  * docs/FORMAT.md says what is read, refused and written. crates/sarpukten/src/lib.rt has the same calls with their contracts, which are
  * proved: each result, and each array and buffer afterwards, is a stated function of what was passed, whatever was passed.
  *
  * What holds for all calls
  *   - A call's answer stands in `answer`, an array of fixed length that the caller lends. It is written in full, refused or not.
- *   - answer[0] is the number: 0 is done, any other is a refusal (the enum below). The call returns it too.
- *   - answer[1] is the place that belongs to the number: of an entry its first byte, of a record its index, or how many records or bytes
- *     are needed. It is 0 where the number is 0.
- *   - answer[2] is the part, with number 3 only: which part of the entry cannot be read (the enum below). With any other number it is 0.
+ *   - It begins with number, place and part ("Answers"). The number is returned too: 0 is done, any other is a refusal. No refusal is
+ *     below 0.
  *   - Nothing else that is lent is changed by a refusal, and past what a call says it writes, nothing is changed at all.
- *   - Bytes and lists are pointer and length, the length in elements. Lists are flat numbers (see "Records"). Numbers at the end of a list
- *     that are too few for a record are no record.
- *   - The library keeps nothing between calls, allocates nothing, prints nothing and calls nothing but memcpy. Any thread may call it.
+ *   - Bytes and lists are pointer and length. The length of a list is in NUMBERS, a record being several ("Records"); the functions at the
+ *     end ("Records as structs") take lists of structs instead, and count records. Numbers at the end of a list that are too few for a
+ *     record are no record.
+ *   - The library keeps nothing between calls, allocates nothing and prints nothing. It needs memcpy and memset from whoever links it, and
+ *     calls nothing else. Any thread may call it.
+ *   - A strict read keeps marks on the stack, numbers of 4 bytes: 64 where the object has at most 2,079 bytes, 512 where it has at most
+ *     131,072, 4,096 where it has at most 8,388,608, else 46,341. The last two are in functions of their own, so that an object of at most
+ *     131,072 bytes takes less than 3 KB of stack, one of at most 8 MiB less than 20 KB, and only a longer one some 190 KB.
+ *     sarpukten_bisect_entries keeps 192 numbers of its own. Like every other call it takes less than 2 KB.
  *
  * What the caller owes, since C cannot show it
  *   - No pointer is NULL, not even with length 0. Each is aligned for its type and points to as many elements as its length or its array
@@ -31,6 +41,13 @@
 #error "libsarpukten.a is for 64-bit x86"
 #endif
 
+/* At least so many elements are lent: a C compiler that sees a shorter array, or NULL, says so. C++ has no such word. */
+#ifdef __cplusplus
+#define SARPUKTEN_LENT(n) n
+#else
+#define SARPUKTEN_LENT(n) static n
+#endif
+
 #ifdef __cplusplus
 extern "C" {
 #endif
@@ -39,7 +56,7 @@ extern "C" {
 
 enum {
     SARPUKTEN_DONE = 0,
-    SARPUKTEN_ID_LENGTH = 1,         /* the length of ids is neither 20 nor 32; place 0 */
+    SARPUKTEN_ID_LENGTH = 1,         /* the length of ids is neither 20 nor 32, or digits are neither 40 nor 64; place 0 */
     SARPUKTEN_BOUND = 2,             /* a buffer or list is over its bound, or an object has more entries than that; place 0 */
     SARPUKTEN_BROKEN_ENTRY = 3,      /* an entry cannot be read; place: its first byte. A mode text alone: place 0 */
     SARPUKTEN_FEW_RECORDS = 4,       /* the lent list is too short; place: how many records are needed */
@@ -48,7 +65,8 @@ enum {
     SARPUKTEN_ORDER = 7,             /* strict: the entry is not after the one before; place: the entry's first byte */
     SARPUKTEN_SHORT_OUTPUT = 8,      /* the output is too short; place: how many bytes are needed */
     SARPUKTEN_NUL_IN_NAME = 9,       /* a name to be written has a NUL; place: the record's index */
-    SARPUKTEN_BAD_RECORD = 10,       /* a record is not well formed, or what it names is no hex or not folded; place: its index */
+    SARPUKTEN_BAD_RECORD = 10,       /* a record is not well formed, or what it names is no hex or not folded; place: its index. Of many
+                                        lookups: the index of the first name that met it. Digits alone: place 0 */
     SARPUKTEN_COMMIT_FIELD = 11,     /* a commit's field is missing or malformed; place: bytes consumed before it */
     SARPUKTEN_ACTOR = 12,            /* author or committer has not the actor form; place: bytes consumed before its line */
     SARPUKTEN_EMPTY_ENCODING = 13,   /* writing: the encoding is there and empty; place 0 */
@@ -67,26 +85,90 @@ enum {
     SARPUKTEN_CUT_ID = 3             /* fewer than h bytes follow the NUL */
 };
 
-/* ---- Bounds and lengths ---- */
+/* ---- Answers ----
+ * Where a number stands in an answer. The first three are in every answer.
+ */
+enum {
+    SARPUKTEN_ANSWER_NUMBER = 0,     /* the number */
+    SARPUKTEN_ANSWER_PLACE = 1,      /* the place that belongs to it: of an entry its first byte, of a record its index, or how many
+                                        records or bytes are needed. 0 where the number is 0 */
+    SARPUKTEN_ANSWER_PART = 2,       /* the part, with number 3 only. With any other it is 0 */
+    /* of a call that counts */
+    SARPUKTEN_ANSWER_COUNT = 3,      /* how many entries were read, how many names were looked up, how many bytes were written or would
+                                        be; 0 on a refusal */
+    SARPUKTEN_COUNT_ANSWER = 4,
+    /* of a mode */
+    SARPUKTEN_ANSWER_MODE = 3,       /* the mode; 0 on a refusal */
+    SARPUKTEN_MODE_ANSWER = 4,
+    /* of a step */
+    SARPUKTEN_ANSWER_FOUND = 3,      /* 1 if an entry was found, else 0 */
+    SARPUKTEN_ANSWER_NEXT = 4,       /* where to go on */
+    SARPUKTEN_ANSWER_ENTRY = 5,      /* the first of the entry's five numbers, which are all 0 if none was found */
+    SARPUKTEN_STEP_ANSWER = 10,
+    /* of a lookup */
+    SARPUKTEN_ANSWER_INDEX = 3,      /* the record's index; 0 on a refusal */
+    SARPUKTEN_ANSWER_COMPARED = 4,   /* how many records were compared; 0 on a refusal other than 15 */
+    SARPUKTEN_LOOKUP_ANSWER = 5,
+    /* of a commit; after the field all are 0 on a refusal */
+    SARPUKTEN_ANSWER_FIELD = 3,      /* with 11 the field: 1 tree, 2 author, 3 committer, 4 blank line; else 0 */
+    SARPUKTEN_ANSWER_PARENTS = 4,    /* how many parents */
+    SARPUKTEN_ANSWER_HEADERS = 5,    /* how many extra headers */
+    SARPUKTEN_ANSWER_PARTS = 6,      /* the first of the ten numbers of the parts: `answer + SARPUKTEN_ANSWER_PARTS` can be passed as parts */
+    SARPUKTEN_COMMIT_ANSWER = 16
+};
+
+/* ---- Bounds, lengths and rule sets ---- */
 
 #define SARPUKTEN_SHA1 ((size_t)20)               /* the two lengths of ids in bytes: `h` below */
 #define SARPUKTEN_SHA256 ((size_t)32)
-#define SARPUKTEN_WITH_100664 ((uint16_t)1)       /* the two rule sets of strict reading */
-#define SARPUKTEN_PRESENT ((uint16_t)2)
+#define SARPUKTEN_RULES_EARLY ((uint16_t)1)       /* the two rule sets of strict reading: with mode 100664 besides the five, as early Git wrote it */
+#define SARPUKTEN_RULES_PRESENT ((uint16_t)2)     /* and with the five alone */
 #define SARPUKTEN_MOST_BYTES ((size_t)1073741824) /* the longest byte buffer */
 #define SARPUKTEN_MOST_RECORDS ((size_t)1048576)  /* the longest list, in records */
 
 /* ---- Records ----
- * An entry of a tree: mode, where its name starts and ends (its end is past its last byte), where its id of h bytes starts, where its mode
- * text starts. Readers give the entry's first byte for that; to be well formed it is not above the name's start, and nothing is written of it.
- * An extra header of a commit: where its name starts and ends, where its value starts and ends, and its mark: 1 where the value is folded
- * over several lines (it then runs through its last LF), else 0.
- * A parent: where its 2h hex digits start.
- * Every position is one in the lent bytes.
+ * Every position is one in the lent bytes. An end is past the last byte.
  */
-#define SARPUKTEN_ENTRY 5   /* numbers of an entry's record */
-#define SARPUKTEN_HEADER 5  /* numbers of a header's record */
-#define SARPUKTEN_PARENT 1  /* numbers of a parent's record */
+
+/* An entry of a tree: five numbers. */
+enum {
+    SARPUKTEN_ENTRY_MODE = 0,
+    SARPUKTEN_ENTRY_NAME_START = 1,
+    SARPUKTEN_ENTRY_NAME_END = 2,
+    SARPUKTEN_ENTRY_ID_START = 3,    /* its id has h bytes */
+    SARPUKTEN_ENTRY_TEXT_START = 4,  /* where its mode text starts, which readers give: the entry's first byte. To be well formed it is not
+                                        above the name's start; nothing is written of it */
+    SARPUKTEN_ENTRY = 5
+};
+
+/* A name that is sought, one of many: three numbers. To be well formed it runs forward inside the lent names. */
+enum {
+    SARPUKTEN_SOUGHT_START = 0,      /* where it stands in the lent names: start, end */
+    SARPUKTEN_SOUGHT_END = 1,
+    SARPUKTEN_SOUGHT_FOLDER = 2,     /* 1 for a folder, 0 for anything else, and no other number */
+    SARPUKTEN_SOUGHT = 3
+};
+
+/* What was found for it: three numbers. */
+enum {
+    SARPUKTEN_FOUND_NUMBER = 0,      /* SARPUKTEN_DONE or SARPUKTEN_NOT_THERE */
+    SARPUKTEN_FOUND_INDEX = 1,       /* the record's index; 0 where it is not there */
+    SARPUKTEN_FOUND_COMPARED = 2,    /* how many records were compared */
+    SARPUKTEN_FOUND = 3
+};
+
+/* An extra header of a commit: five numbers. */
+enum {
+    SARPUKTEN_HEADER_NAME_START = 0,
+    SARPUKTEN_HEADER_NAME_END = 1,
+    SARPUKTEN_HEADER_VALUE_START = 2,
+    SARPUKTEN_HEADER_VALUE_END = 3,
+    SARPUKTEN_HEADER_MARK = 4,       /* 1 where the value is folded over several lines (it then runs through its last LF), else 0 */
+    SARPUKTEN_HEADER = 5
+};
+
+/* A parent: where its 2h hex digits start. */
+enum { SARPUKTEN_PARENT = 1 };
 
 /* The parts of a commit: ten numbers. */
 enum {
@@ -107,13 +189,11 @@ enum {
  * A mode is 16 bits.
  */
 
-/* The mode that a text says, with or without a space after it. Refuses 2, 3.
- * answer: number, place, part, mode (0 on a refusal). */
-size_t sarpukten_mode_read(const uint8_t *text, size_t text_len, size_t answer[4]);
+/* The mode that a text says, with or without a space after it. Refuses 2, 3. */
+size_t sarpukten_mode_read(const uint8_t *text, size_t text_len, size_t answer[SARPUKTEN_LENT(SARPUKTEN_MODE_ANSWER)]);
 
-/* The mode that a 32-bit number says. Refuses 23.
- * answer: number, place, part, mode (0 on a refusal). */
-size_t sarpukten_mode_from_number(uint32_t n, size_t answer[4]);
+/* The mode that a 32-bit number says. Refuses 23. */
+size_t sarpukten_mode_from_number(uint32_t n, size_t answer[SARPUKTEN_LENT(SARPUKTEN_MODE_ANSWER)]);
 
 /* The number a mode stands for: itself, but 040000 where the top four bits are those of 0140000. */
 uint16_t sarpukten_mode_value(uint16_t mode);
@@ -132,13 +212,15 @@ enum {
     SARPUKTEN_IS_COMMIT = 6,
     SARPUKTEN_QUESTIONS = 7
 };
-void sarpukten_mode_ask(uint16_t mode, size_t answer[SARPUKTEN_QUESTIONS]);
+void sarpukten_mode_ask(uint16_t mode, size_t answer[SARPUKTEN_LENT(SARPUKTEN_QUESTIONS)]);
+
+#define SARPUKTEN_WORD 6 /* room for the longest word and the longest text */
 
 /* The word of a mode's kind: tree, blob, exe, link or commit. All six bytes are written, 0 behind the word; returns its length. */
-size_t sarpukten_mode_word(uint16_t mode, uint8_t word[6]);
+size_t sarpukten_mode_word(uint16_t mode, uint8_t word[SARPUKTEN_LENT(SARPUKTEN_WORD)]);
 
 /* A mode's octal text, as a tree has it. All six bytes are written, 0 behind the text; returns its length. */
-size_t sarpukten_mode_text(uint16_t mode, uint8_t text[6]);
+size_t sarpukten_mode_text(uint16_t mode, uint8_t text[SARPUKTEN_LENT(SARPUKTEN_WORD)]);
 
 /* ---- Names ---- */
 
@@ -148,81 +230,85 @@ int8_t sarpukten_name_order(const uint8_t *a, size_t a_len, bool a_is_tree, cons
 /* ---- Trees ---- */
 
 /* The entry that starts at a place of a tree object, without counting entries. Refuses 1, 2, 3.
- * answer: number, place, part; 1 if an entry was found, else 0; where to go on; the entry's five numbers (all 0 if none was found).
  * At or past the end it is done and finds nothing. After a 3 it goes on at the end, after a 1 or 2 where it stood. */
-size_t sarpukten_tree_step(const uint8_t *bytes, size_t bytes_len, size_t h, size_t at, size_t answer[10]);
+size_t sarpukten_tree_step(
+    const uint8_t *bytes, size_t bytes_len, size_t h, size_t at, size_t answer[SARPUKTEN_LENT(SARPUKTEN_STEP_ANSWER)]);
 
-/* All entries of a tree object into lent records, five numbers each; records_len is in numbers. Refuses 1, 2, 3, 4.
+/* All entries of a tree object into lent records; records_len is in numbers. Refuses 1, 2, 3, 4.
  * An object of n bytes has at most n / (h + 2) entries, one that is read strictly at most n / (h + 8): so many records are enough (but
- * not more than SARPUKTEN_MOST_RECORDS may be lent). An empty list asks how many are needed: that is the place with 4.
- * answer: number, place, part, how many entries (0 on a refusal). */
+ * not more than SARPUKTEN_MOST_RECORDS may be lent). An empty list asks how many are needed: that is the place with 4. */
 size_t sarpukten_read_tree(
-    const uint8_t *bytes, size_t bytes_len, size_t h, size_t *records, size_t records_len, size_t answer[4]);
+    const uint8_t *bytes, size_t bytes_len, size_t h, size_t *records, size_t records_len,
+    size_t answer[SARPUKTEN_LENT(SARPUKTEN_COUNT_ANSWER)]);
 
-/* The same for an object as Git writes it, by a rule set: SARPUKTEN_PRESENT, or SARPUKTEN_WITH_100664, which permits that mode besides
- * the five. Refuses also 19 (after 1 and before 2), 5, 6, 7, 17, 18. For an object from outside this is the one to call: two objects that it
- * takes with the same entries are the same bytes, and so have the same id. */
+/* The same for an object as Git writes it, by a rule set. Refuses also 19 (after 1 and before 2), 5, 6, 7, 17, 18. For an object from
+ * outside this is the one to call: two objects that it takes with the same entries are the same bytes, and so have the same id. */
 size_t sarpukten_read_tree_strict(
-    const uint8_t *bytes, size_t bytes_len, size_t h, uint16_t rules, size_t *records, size_t records_len, size_t answer[4]);
+    const uint8_t *bytes, size_t bytes_len, size_t h, uint16_t rules, size_t *records, size_t records_len,
+    size_t answer[SARPUKTEN_LENT(SARPUKTEN_COUNT_ANSWER)]);
 
 /* The entry with a name, of a folder (true) or not, by halving. Among the records of an object that was read strictly, and for a name
  * without a slash, it is found exactly where it is there; `a/b` is answered as folder `a` is. Refuses 1, 2, 10 (for a record that it
- * compares), 15.
- * answer: number, place, part; the index of the record (0 on a refusal); how many records were compared (0 on a refusal other than 15). */
+ * compares), 15. */
 size_t sarpukten_bisect_entry(
     const uint8_t *object, size_t object_len, size_t h, const size_t *records, size_t records_len, const uint8_t *name, size_t name_len,
-    bool is_folder, size_t answer[5]);
+    bool is_folder, size_t answer[SARPUKTEN_LENT(SARPUKTEN_LOOKUP_ANSWER)]);
 
-/* The most records that a lookup among n compares. */
+/* The entry with a name, of whatever sort: sought as anything but a folder, and where that is not there, as a folder. In the records of
+ * an object that was read strictly, and for a name without a slash, it finds the one entry of that name, or there is none. The records
+ * that both searches compared are counted. Refuses 1, 2, 10 (for a record that it compares), 15. */
+size_t sarpukten_bisect_any(
+    const uint8_t *object, size_t object_len, size_t h, const size_t *records, size_t records_len, const uint8_t *name, size_t name_len,
+    size_t answer[SARPUKTEN_LENT(SARPUKTEN_LOOKUP_ANSWER)]);
+
+/* Many names, each as sarpukten_bisect_entry finds it: what it finds for the sought name i is put into found at i, with 15 too. The names
+ * lie in `names`, one after the other or not, and may overlap. Counts the names. Refuses 1, 2, 4 (place: how many names), 10 (place: the
+ * index of the first name that is not well formed or meets such a record). A refusal stores nothing. Of more than 64 names those after
+ * the 64th are looked up twice. */
+size_t sarpukten_bisect_entries(
+    const uint8_t *object, size_t object_len, size_t h, const size_t *records, size_t records_len, const uint8_t *names, size_t names_len,
+    const size_t *sought, size_t sought_len, size_t *found, size_t found_len, size_t answer[SARPUKTEN_LENT(SARPUKTEN_COUNT_ANSWER)]);
+
+/* The most records that a lookup among n compares; sarpukten_bisect_any compares at most twice as many. */
 size_t sarpukten_most_comparisons(size_t n);
 
-/* How many bytes the tree object has that records name. Refuses 1, 2, 10.
- * answer: number, place, part, the size (0 on a refusal). */
+/* How many bytes the tree object has that records name. Refuses 1, 2, 10. */
 size_t sarpukten_tree_size(
-    const uint8_t *bytes, size_t bytes_len, size_t h, const size_t *records, size_t records_len, size_t answer[4]);
+    const uint8_t *bytes, size_t bytes_len, size_t h, const size_t *records, size_t records_len,
+    size_t answer[SARPUKTEN_LENT(SARPUKTEN_COUNT_ANSWER)]);
 
-/* Writes the tree object that records name, in the order given, to the front of out. Refuses 1, 2, 10, 9, 8.
- * answer: number, place, part, how many bytes were written (0 on a refusal). */
+/* Writes the tree object that records name to the front of out, in the order given: it sorts nothing, so that records in another order
+ * than Git's give an object that a strict read refuses. Refuses 1, 2, 10, 9, 8. */
 size_t sarpukten_write_tree(
     const uint8_t *bytes, size_t bytes_len, size_t h, const size_t *records, size_t records_len, uint8_t *out, size_t out_len,
-    size_t answer[4]);
+    size_t answer[SARPUKTEN_LENT(SARPUKTEN_COUNT_ANSWER)]);
 
 /* ---- Commits ---- */
 
 /* A commit's parts, its parents and its extra headers, the two lists into lent records; their lengths are in numbers.
- * Refuses 1, 2, 11, 12, 4 (for the parents, then for the headers). A commit of n bytes has at most n / (2h + 8) parents and n / 3 headers.
- * answer: number, place, part; with 11 the field (1 tree, 2 author, 3 committer, 4 blank line), else 0; how many parents; how many headers; then the ten
- * numbers of the parts, so that `answer + SARPUKTEN_COMMIT_PARTS` can be passed on as parts. After the place and the field all are 0 on a
- * refusal. */
-enum {
-    SARPUKTEN_COMMIT_FAILED = 3,
-    SARPUKTEN_COMMIT_PARENTS = 4,
-    SARPUKTEN_COMMIT_HEADERS = 5,
-    SARPUKTEN_COMMIT_PARTS = 6,
-    SARPUKTEN_COMMIT_ANSWER = 16
-};
+ * Refuses 1, 2, 11, 12, 4 (for the parents, then for the headers). A commit of n bytes has at most n / (2h + 8) parents and n / 3
+ * headers. */
 size_t sarpukten_read_commit(
     const uint8_t *bytes, size_t bytes_len, size_t h, size_t *parents, size_t parents_len, size_t *headers, size_t headers_len,
-    size_t answer[SARPUKTEN_COMMIT_ANSWER]);
+    size_t answer[SARPUKTEN_LENT(SARPUKTEN_COMMIT_ANSWER)]);
 
 /* The value of a header to the front of out: with mark 1 it is unfolded, one space taken off each line but the first; with mark 0 it is
- * copied. It is never longer than it stands in the bytes. Refuses 2, 10 (place 0), 8.
- * answer: number, place, part, how many bytes were written (0 on a refusal). */
+ * copied. It is never longer than it stands in the bytes. Refuses 2, 10 (place 0), 8. */
 size_t sarpukten_unfold(
-    const uint8_t *bytes, size_t bytes_len, const size_t header[SARPUKTEN_HEADER], uint8_t *out, size_t out_len, size_t answer[4]);
+    const uint8_t *bytes, size_t bytes_len, const size_t header[SARPUKTEN_LENT(SARPUKTEN_HEADER)], uint8_t *out, size_t out_len,
+    size_t answer[SARPUKTEN_LENT(SARPUKTEN_COUNT_ANSWER)]);
 
-/* How many bytes the commit has that parts, parents and headers name. Refuses 1, 2, 10.
- * answer: number, place, part, the size (0 on a refusal). */
+/* How many bytes the commit has that parts, parents and headers name. Refuses 1, 2, 10. */
 size_t sarpukten_commit_size(
-    const uint8_t *bytes, size_t bytes_len, size_t h, const size_t parts[SARPUKTEN_PARTS], const size_t *parents, size_t parents_len,
-    const size_t *headers, size_t headers_len, size_t answer[4]);
+    const uint8_t *bytes, size_t bytes_len, size_t h, const size_t parts[SARPUKTEN_LENT(SARPUKTEN_PARTS)], const size_t *parents,
+    size_t parents_len, const size_t *headers, size_t headers_len, size_t answer[SARPUKTEN_LENT(SARPUKTEN_COUNT_ANSWER)]);
 
 /* Writes that commit to the front of out. A value with mark 0 is folded, one with mark 1 is copied. Refuses 1, 2, 10 (place: the index
- * counted over tree, parents, author, committer, encoding, headers, message), 13, 14, 8.
- * answer: number, place, part, how many bytes were written (0 on a refusal). */
+ * counted over tree, parents, author, committer, encoding, headers, message), 13, 14, 8. */
 size_t sarpukten_write_commit(
-    const uint8_t *bytes, size_t bytes_len, size_t h, const size_t parts[SARPUKTEN_PARTS], const size_t *parents, size_t parents_len,
-    const size_t *headers, size_t headers_len, uint8_t *out, size_t out_len, size_t answer[4]);
+    const uint8_t *bytes, size_t bytes_len, size_t h, const size_t parts[SARPUKTEN_LENT(SARPUKTEN_PARTS)], const size_t *parents,
+    size_t parents_len, const size_t *headers, size_t headers_len, uint8_t *out, size_t out_len,
+    size_t answer[SARPUKTEN_LENT(SARPUKTEN_COUNT_ANSWER)]);
 
 /* ---- Loose objects ---- */
 
@@ -230,9 +316,112 @@ enum { SARPUKTEN_COMMIT = 1, SARPUKTEN_TREE = 2, SARPUKTEN_BLOB = 3, SARPUKTEN_T
 
 #define SARPUKTEN_LOOSE_HEADER 28 /* the longest one */
 
-/* The header of a loose object to the front of out: kind word, space, size in decimal, NUL. Refuses 23, 8.
- * answer: number, place, part, how many bytes were written (0 on a refusal). */
-size_t sarpukten_loose_header(size_t kind, uint64_t size, uint8_t *out, size_t out_len, size_t answer[4]);
+/* The header of a loose object to the front of out: kind word, space, size in decimal, NUL. Refuses 23, 8. */
+size_t sarpukten_loose_header(
+    size_t kind, uint64_t size, uint8_t *out, size_t out_len, size_t answer[SARPUKTEN_LENT(SARPUKTEN_COUNT_ANSWER)]);
+
+/* ---- Ids ----
+ * A tree has ids as bytes, a commit has their hex digits.
+ */
+
+#define SARPUKTEN_ID 32  /* the longest id, in bytes */
+#define SARPUKTEN_HEX 64 /* and in digits */
+
+/* The id that hex digits of either case say, to the front of out. Refuses 1 (neither 40 nor 64 digits), 2, 10 (place 0), 8. */
+size_t sarpukten_id_of_hex(
+    const uint8_t *digits, size_t digits_len, uint8_t *out, size_t out_len, size_t answer[SARPUKTEN_LENT(SARPUKTEN_COUNT_ANSWER)]);
+
+/* The hex digits of an id, in lower case, to the front of out; no NUL is put behind them. Refuses 1 (neither 20 nor 32 bytes), 2, 8. */
+size_t sarpukten_hex_of_id(
+    const uint8_t *id, size_t id_len, uint8_t *out, size_t out_len, size_t answer[SARPUKTEN_LENT(SARPUKTEN_COUNT_ANSWER)]);
+
+/* ---- Records as structs ----
+ * The numbers of an entry, of a sought name and of what was found, by name. The functions below take lists of them and count RECORDS;
+ * else each is the call without `entries` or `in_entries`, sarpukten_bisect_in_entries being sarpukten_bisect_entry, and
+ * sarpukten_bisect_all_in_entries being sarpukten_bisect_entries.
+ */
+struct sarpukten_entry {
+    size_t mode, name_start, name_end, id_start, text_start;
+};
+typedef char sarpukten_entry_is_five_numbers[sizeof(struct sarpukten_entry) == SARPUKTEN_ENTRY * sizeof(size_t) ? 1 : -1];
+
+struct sarpukten_sought {
+    size_t start, end, is_folder;
+};
+typedef char sarpukten_sought_is_three_numbers[sizeof(struct sarpukten_sought) == SARPUKTEN_SOUGHT * sizeof(size_t) ? 1 : -1];
+
+struct sarpukten_found {
+    size_t number, index, compared;
+};
+typedef char sarpukten_found_is_three_numbers[sizeof(struct sarpukten_found) == SARPUKTEN_FOUND * sizeof(size_t) ? 1 : -1];
+
+/* The entry of a step's answer. */
+static inline struct sarpukten_entry sarpukten_entry_of_step(const size_t answer[SARPUKTEN_LENT(SARPUKTEN_STEP_ANSWER)])
+{
+    struct sarpukten_entry e;
+
+    e.mode = answer[SARPUKTEN_ANSWER_ENTRY + SARPUKTEN_ENTRY_MODE];
+    e.name_start = answer[SARPUKTEN_ANSWER_ENTRY + SARPUKTEN_ENTRY_NAME_START];
+    e.name_end = answer[SARPUKTEN_ANSWER_ENTRY + SARPUKTEN_ENTRY_NAME_END];
+    e.id_start = answer[SARPUKTEN_ANSWER_ENTRY + SARPUKTEN_ENTRY_ID_START];
+    e.text_start = answer[SARPUKTEN_ANSWER_ENTRY + SARPUKTEN_ENTRY_TEXT_START];
+    return e;
+}
+
+static inline size_t sarpukten_read_tree_entries(
+    const uint8_t *bytes, size_t bytes_len, size_t h, struct sarpukten_entry *entries, size_t many,
+    size_t answer[SARPUKTEN_LENT(SARPUKTEN_COUNT_ANSWER)])
+{
+    return sarpukten_read_tree(bytes, bytes_len, h, (size_t *)(void *)entries, many * SARPUKTEN_ENTRY, answer);
+}
+
+static inline size_t sarpukten_read_tree_strict_entries(
+    const uint8_t *bytes, size_t bytes_len, size_t h, uint16_t rules, struct sarpukten_entry *entries, size_t many,
+    size_t answer[SARPUKTEN_LENT(SARPUKTEN_COUNT_ANSWER)])
+{
+    return sarpukten_read_tree_strict(bytes, bytes_len, h, rules, (size_t *)(void *)entries, many * SARPUKTEN_ENTRY, answer);
+}
+
+static inline size_t sarpukten_bisect_in_entries(
+    const uint8_t *object, size_t object_len, size_t h, const struct sarpukten_entry *entries, size_t many, const uint8_t *name,
+    size_t name_len, bool is_folder, size_t answer[SARPUKTEN_LENT(SARPUKTEN_LOOKUP_ANSWER)])
+{
+    return sarpukten_bisect_entry(
+        object, object_len, h, (const size_t *)(const void *)entries, many * SARPUKTEN_ENTRY, name, name_len, is_folder, answer);
+}
+
+static inline size_t sarpukten_bisect_any_in_entries(
+    const uint8_t *object, size_t object_len, size_t h, const struct sarpukten_entry *entries, size_t many, const uint8_t *name,
+    size_t name_len, size_t answer[SARPUKTEN_LENT(SARPUKTEN_LOOKUP_ANSWER)])
+{
+    return sarpukten_bisect_any(
+        object, object_len, h, (const size_t *)(const void *)entries, many * SARPUKTEN_ENTRY, name, name_len, answer);
+}
+
+static inline size_t sarpukten_bisect_all_in_entries(
+    const uint8_t *object, size_t object_len, size_t h, const struct sarpukten_entry *entries, size_t many, const uint8_t *names,
+    size_t names_len, const struct sarpukten_sought *sought, size_t many_sought, struct sarpukten_found *found, size_t many_found,
+    size_t answer[SARPUKTEN_LENT(SARPUKTEN_COUNT_ANSWER)])
+{
+    return sarpukten_bisect_entries(
+        object, object_len, h, (const size_t *)(const void *)entries, many * SARPUKTEN_ENTRY, names, names_len,
+        (const size_t *)(const void *)sought, many_sought * SARPUKTEN_SOUGHT, (size_t *)(void *)found, many_found * SARPUKTEN_FOUND,
+        answer);
+}
+
+static inline size_t sarpukten_tree_size_entries(
+    const uint8_t *bytes, size_t bytes_len, size_t h, const struct sarpukten_entry *entries, size_t many,
+    size_t answer[SARPUKTEN_LENT(SARPUKTEN_COUNT_ANSWER)])
+{
+    return sarpukten_tree_size(bytes, bytes_len, h, (const size_t *)(const void *)entries, many * SARPUKTEN_ENTRY, answer);
+}
+
+static inline size_t sarpukten_write_tree_entries(
+    const uint8_t *bytes, size_t bytes_len, size_t h, const struct sarpukten_entry *entries, size_t many, uint8_t *out, size_t out_len,
+    size_t answer[SARPUKTEN_LENT(SARPUKTEN_COUNT_ANSWER)])
+{
+    return sarpukten_write_tree(bytes, bytes_len, h, (const size_t *)(const void *)entries, many * SARPUKTEN_ENTRY, out, out_len, answer);
+}
 
 #ifdef __cplusplus
 }

@@ -1,12 +1,12 @@
 #!/usr/bin/env python3
 """Makes cases, asks the Rust (./answer) and paper.py, compares the two, and writes the list that `replay` replays.
 
-    ./cases.py              writes the list and prints what is in it
+    ./cases.py              writes the list, and what `replay` has to say of it, and prints what is in it
     ./cases.py --many N     runs N random cases of each kind and the long exhaustive ones, and writes nothing
                             (a third word is another seed)
     ./cases.py --read       reads the list back and holds every case against the paper and the Rust once more
 
-The seed is fixed, so the list comes out the same every time. Any difference between the Rust and the paper stops
+The list ends with cases that are wrong on purpose, which `replay` has to name. The seed is fixed, so the list comes out the same every time. Any difference between the Rust and the paper stops
 the run and shows the smallest case that has it. The list format: README.md and lists.py. What a case is: calls.py.
 """
 import collections
@@ -18,7 +18,7 @@ import git_objects
 import paper
 from calls import (CALLS, again, commit_reading, commit_writing, compare, encoded, lookup, loose_header, mode_asked, mode_from_number,
                    mode_text, name_order, tree_reading, tree_writing, unfold)
-from lists import LIST, read_list
+from lists import FIRST, LIST, REPORT, SHAPES, fields, read_list, wrong_on_purpose
 
 HUGE = [2**64 - 1, 2**64 - 20, 2**63, 2**32, 65536]
 BAD_H = [0, 1, 19, 21, 31, 33, 40, 64, 2**32 + 20, 2**64 - 1]
@@ -527,7 +527,7 @@ def read_back():
 
 
 def write_list():
-    """No case twice, and call after call."""
+    """No case twice, and call after call; then those wrong on purpose."""
     tally, made = Tally(), {key: {} for key in CALLS}
     for case in itertools.chain(exhaustive(long=False), from_git(), (make() for make, share in RANDOM for _ in range(share))):
         goes_in, comes_out = encoded(case)
@@ -535,10 +535,23 @@ def write_list():
     for cases in made.values():
         tally.compare([case for _comes_out, case in cases.values()])
     content = [goes_in + comes_out for cases in made.values() for goes_in, (comes_out, _case) in cases.items()]
+    right = len(content)
+    wrong = list(wrong_on_purpose({key: [(case.goes_in, case.comes_out) for _comes_out, case in cases.values()] for key, cases in made.items()}))
+    for (file, call), goes_in, comes_out in wrong:
+        content.append(bytes([call + FIRST[file]]) + fields(SHAPES[file, call][0], goes_in) + fields(SHAPES[file, call][1], comes_out))
     with open(LIST, "wb") as out:
         out.write(b"".join(content))
-    print(f"{len(b''.join(content))} bytes, {len(content)} cases")
+    with open(REPORT, "w") as out:
+        out.write(report({key: len(cases) for key, cases in made.items()}, right, [key for key, _goes_in, _comes_out in wrong]))
+    print(f"{len(b''.join(content))} bytes, {len(content)} cases, {len(wrong)} of them wrong on purpose")
     tally.show()
+
+
+def report(agree, right, wrong):
+    """What `replay` has to say: the cases that differ, a line for each call, and the sum."""
+    lines = [f"differs: case {right + i} call {call + FIRST[file]}" for i, (file, call) in enumerate(wrong)]
+    lines += [f"{name} {agree[key] + wrong.count(key)} agree {agree[key]}" for key, name in CALLS.items()]
+    return "\n".join([*lines, f"cases {right + len(wrong)}, differ {len(wrong)}", ""])
 
 
 if __name__ == "__main__":

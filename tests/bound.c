@@ -24,13 +24,13 @@ static int told(const char *what, size_t number, size_t place, size_t count, siz
 }
 
 static size_t by_set_2(const uint8_t *bytes, size_t len, size_t h, size_t *records, size_t room, size_t *answer) {
-    return sarpukten_read_tree_strict(bytes, len, h, SARPUKTEN_PRESENT, records, room, answer);
+    return sarpukten_read_tree_strict(bytes, len, h, SARPUKTEN_RULES_PRESENT, records, room, answer);
 }
 
 int main(void) {
     size_t most = SARPUKTEN_MOST_RECORDS, room = most * SARPUKTEN_ENTRY, size = 0, shorter = 0;
     uint8_t *object = malloc((most + 1) * 36 + 64);
-    size_t *records = malloc(room * sizeof *records), answer[4];
+    size_t *records = malloc(room * sizeof *records), *last, answer[SARPUKTEN_COUNT_ANSWER];
     int fine = object && records;
     for (size_t i = 0; fine && i <= most; i++) {
         shorter = size;
@@ -40,14 +40,15 @@ int main(void) {
         size_t (*read)(const uint8_t *, size_t, size_t, size_t *, size_t, size_t *) = strict ? by_set_2 : sarpukten_read_tree;
         double began = now();
         read(object, shorter, 20, records, room, answer);
-        fine &= told(strict ? "strict, at the bound" : "plain, at the bound", answer[0], answer[1], answer[3], 0, most, now() - began);
-        fine &= records[room - 5] == 0100644 && records[room - 2] == shorter - 20 && records[room - 1] == shorter - 36;
+        fine &= told(strict ? "strict, at the bound" : "plain, at the bound", answer[SARPUKTEN_ANSWER_NUMBER], answer[SARPUKTEN_ANSWER_PLACE], answer[SARPUKTEN_ANSWER_COUNT], 0, most, now() - began);
+        last = records + room - SARPUKTEN_ENTRY;
+        fine &= last[SARPUKTEN_ENTRY_MODE] == 0100644 && last[SARPUKTEN_ENTRY_ID_START] == shorter - 20 && last[SARPUKTEN_ENTRY_TEXT_START] == shorter - 36;
         began = now();
         read(object, size, 20, records, room, answer);
-        fine &= told(strict ? "strict, one past it" : "plain, one past it", answer[0], answer[1], answer[3], SARPUKTEN_BOUND, 0, now() - began);
+        fine &= told(strict ? "strict, one past it" : "plain, one past it", answer[SARPUKTEN_ANSWER_NUMBER], answer[SARPUKTEN_ANSWER_PLACE], answer[SARPUKTEN_ANSWER_COUNT], SARPUKTEN_BOUND, 0, now() - began);
         began = now();
         read(object, shorter / 2 / 36 * 36, 20, records, room, answer);
-        fine &= told(strict ? "strict, half as many" : "plain, half as many", answer[0], answer[1], answer[3], 0, most / 2, now() - began);
+        fine &= told(strict ? "strict, half as many" : "plain, half as many", answer[SARPUKTEN_ANSWER_NUMBER], answer[SARPUKTEN_ANSWER_PLACE], answer[SARPUKTEN_ANSWER_COUNT], 0, most / 2, now() - began);
     }
     puts(fine ? "bound: as it should be" : "bound: NOT as it should be");
     return !fine;

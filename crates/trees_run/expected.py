@@ -9,7 +9,7 @@ sys.dont_write_bytecode = True
 sys.path.insert(0, sys.argv[1])
 import paper
 
-ROOM = 2048
+ROOM = 400 * paper.WIDTH
 LABELS = ["last byte cut", "id cut off", "id lacks a byte", "mode starts 8", "mode starts 7", "0 before mode", "mode ....6.", "name starts /", "name starts NUL",
           "name empty", "name .", "name ..", "name .git", "name .gita", "entry twice", "exchanged"]
 

@@ -1,10 +1,11 @@
-//! The loader's job: reads a tree object strictly from a file, finds the guest's folder by its name and prints the folder's id in hex.
+//! The loader's job: reads a tree object strictly from a file, finds the guest's folder by its name and prints the folder's id in hex;
+//! of several folders a line each, in the order of their names.
 //!
-//!     loader FILE FOLDER [sha256]
+//!     loader FILE FOLDER.. [sha256]
 //!
-//! Exit status 0: the id is printed. 1: one line `refused N at P`, where N is 15 if there is no such folder. 2: the file cannot be read,
-//! or wrong arguments. examples/loader.c does the same.
-use sarpukten::{Error, Kind, ObjectId, RuleSet, TreeRef, MOST_BYTES};
+//! Exit status 0: the ids are printed. 1: one line `refused N at P`, where N is 15 if there is no such folder; of several, this line stands
+//! for each that is not there. 2: the file cannot be read, or wrong arguments. examples/loader.c does the same.
+use sarpukten::{EntryRef, Error, Kind, ObjectId, Rules, TreeRef, MOST_BYTES};
 use std::env;
 use std::ffi::OsStr;
 use std::fs::File;
@@ -19,24 +20,30 @@ fn read_file(path: &OsStr) -> io::Result<Vec<u8>> {
     Ok(bytes)
 }
 
-fn folder(object: &[u8], kind: Kind, name: &[u8]) -> Result<ObjectId, Error> {
-    let tree = TreeRef::from_bytes_strict(object, kind, RuleSet::Present)?;
-    let entry = tree.bisect_entry(name, true).ok_or(Error { number: 15, place: 0, part: 0, field: 0 })?;
-    Ok(entry.object_id().expect("an entry of a tree that was read has an id"))
+/// The folders' ids, those that are there.
+fn folders(object: &[u8], kind: Kind, names: &[&[u8]]) -> Result<Vec<Option<ObjectId>>, Error> {
+    let tree = TreeRef::from_bytes_strict(object, kind, Rules::Present)?;
+    let found = match names {
+        [name] => vec![tree.bisect_entry(name, true)],
+        _ => tree.bisect_entries(&names.iter().map(|&name| (name, true)).collect::<Vec<_>>())?,
+    };
+    let id = |entry: EntryRef| entry.object_id().expect("an entry of a tree that was read has an id");
+    Ok(found.into_iter().map(|entry| entry.map(id)).collect())
 }
 
 fn main() -> ExitCode {
     let args: Vec<_> = env::args_os().collect();
-    let (file, name, kind) = match &args[..] {
-        [_, file, name] => (file, name, Kind::Sha1),
-        [_, file, name, kind] if kind == "sha256" => (file, name, Kind::Sha256),
+    let (file, names, kind) = match &args[..] {
+        [_, file, names @ .., kind] if !names.is_empty() && kind == "sha256" => (file, names, Kind::Sha256),
+        [_, file, names @ ..] if !names.is_empty() => (file, names, Kind::Sha1),
         _ => {
-            eprintln!("usage: loader FILE FOLDER [sha256]");
+            eprintln!("usage: loader FILE FOLDER.. [sha256]");
             return ExitCode::from(2);
         }
     };
+    let names: Vec<_> = names.iter().map(|name| name.as_bytes()).collect();
     // A lookup answers `guest/file` as it answers `guest`.
-    if name.as_bytes().contains(&b'/') {
+    if names.iter().any(|name| name.contains(&b'/')) {
         eprintln!("loader: a folder's name has no slash");
         return ExitCode::from(2);
     }
@@ -47,10 +54,15 @@ fn main() -> ExitCode {
             return ExitCode::from(2);
         }
     };
-    match folder(&object, kind, name.as_bytes()) {
-        Ok(id) => {
-            println!("{id}");
-            ExitCode::SUCCESS
+    match folders(&object, kind, &names) {
+        Ok(ids) => {
+            for id in &ids {
+                match id {
+                    Some(id) => println!("{id}"),
+                    None => println!("refused 15 at 0"),
+                }
+            }
+            ExitCode::from(u8::from(ids.contains(&None)))
         }
         Err(e) => {
             println!("{e}");

@@ -4,7 +4,7 @@ use std::borrow::Cow;
 use std::io;
 
 /// The numbers of a header's record: name start, name end, value start, value end, mark.
-const WIDTH: usize = 5;
+const WIDTH: usize = ffi::HEADER;
 
 /// A commit, its parts borrowed from the object.
 #[derive(Clone, Debug, PartialEq, Eq)]
@@ -27,7 +27,7 @@ impl<'a> CommitRef<'a> {
         let mut parents = vec![0; (data.len() / (8 + kind.len_in_hex())).min(MOST_RECORDS)];
         let mut headers = vec![0; WIDTH * 2];
         loop {
-            let mut answer = [0; 16];
+            let mut answer = [0; ffi::COMMIT_ANSWER];
             // SAFETY: `data` lives through the call, the lists and `answer` are ours alone, and the lengths are theirs.
             unsafe {
                 ffi::sarpukten_read_commit(
@@ -55,7 +55,13 @@ impl<'a> CommitRef<'a> {
     }
 
     /// The commit that parts and records name; the library made them for `data`.
-    fn of_records(data: &'a [u8], kind: Kind, parts: [usize; 10], parents: &[usize], headers: &[usize]) -> Result<CommitRef<'a>, Error> {
+    fn of_records(
+        data: &'a [u8],
+        kind: Kind,
+        parts: [usize; ffi::PARTS],
+        parents: &[usize],
+        headers: &[usize],
+    ) -> Result<CommitRef<'a>, Error> {
         let digits = |start: usize| &data[start..start + kind.len_in_hex()];
         let mut extra_headers = Vec::with_capacity(headers.len() / WIDTH);
         for h in headers.chunks_exact(WIDTH) {
@@ -101,7 +107,7 @@ impl<'a> CommitRef<'a> {
     /// The parts one after the other in one buffer, with the records that name them there.
     fn laid(&self) -> Laid {
         let kind = Kind::of_len(self.tree.len() / 2).unwrap_or(Kind::Sha1);
-        let mut l = Laid { kind, data: Vec::new(), parts: [0; 10], parents: Vec::new(), headers: Vec::new() };
+        let mut l = Laid { kind, data: Vec::new(), parts: [0; ffi::PARTS], parents: Vec::new(), headers: Vec::new() };
         let tree = l.digits(self.tree);
         for p in &self.parents {
             let start = l.digits(p);
@@ -123,13 +129,13 @@ impl<'a> CommitRef<'a> {
 }
 
 /// A header's value: one that is folded is unfolded into bytes of its own.
-fn value<'a>(data: &'a [u8], record: &[usize; 5]) -> Result<Cow<'a, [u8]>, Error> {
+fn value<'a>(data: &'a [u8], record: &[usize; WIDTH]) -> Result<Cow<'a, [u8]>, Error> {
     let stands = &data[record[2]..record[3]];
     if record[4] == 0 {
         return Ok(stands.into());
     }
     let mut out = vec![0; stands.len()];
-    let mut answer = [0; 4];
+    let mut answer = [0; ffi::COUNT_ANSWER];
     // SAFETY: `data` lives through the call, `out` and `answer` are ours alone, and the lengths are theirs.
     unsafe { ffi::sarpukten_unfold(data.as_ptr(), data.len(), record, out.as_mut_ptr(), out.len(), &mut answer) };
     out.truncate(counted(answer)?);
@@ -140,7 +146,7 @@ fn value<'a>(data: &'a [u8], record: &[usize; 5]) -> Result<Cow<'a, [u8]>, Error
 struct Laid {
     kind: Kind,
     data: Vec<u8>,
-    parts: [usize; 10],
+    parts: [usize; ffi::PARTS],
     parents: Vec<usize>,
     headers: Vec<usize>,
 }
@@ -163,7 +169,7 @@ impl Laid {
     }
 
     fn size(&self) -> Result<usize, Error> {
-        let mut answer = [0; 4];
+        let mut answer = [0; ffi::COUNT_ANSWER];
         // SAFETY: all that is lent lives through the call, `answer` is ours alone, and the lengths are theirs.
         unsafe {
             ffi::sarpukten_commit_size(
@@ -183,7 +189,7 @@ impl Laid {
 
     fn write(&self) -> Result<Vec<u8>, Error> {
         let mut out = vec![0; self.size()?];
-        let mut answer = [0; 4];
+        let mut answer = [0; ffi::COUNT_ANSWER];
         // SAFETY: all that is lent lives through the call, `out` and `answer` are ours alone, and the lengths are theirs.
         unsafe {
             ffi::sarpukten_write_commit(

@@ -1,5 +1,6 @@
 //! Ids: their two lengths, and their hex digits.
-use std::fmt;
+use crate::{counted, ffi};
+use std::{fmt, str};
 
 /// The hash that ids are made with.
 #[derive(Clone, Copy, Debug, PartialEq, Eq, Hash)]
@@ -30,27 +31,26 @@ impl Kind {
 #[derive(Clone, Copy, PartialEq, Eq, Hash)]
 pub struct ObjectId {
     kind: Kind,
-    bytes: [u8; 32],
+    bytes: [u8; ffi::ID],
 }
 
 impl ObjectId {
     /// The id with these bytes, if they are 20 or 32.
     pub fn from_bytes(bytes: &[u8]) -> Option<ObjectId> {
         let kind = Kind::of_len(bytes.len())?;
-        let mut all = [0; 32];
+        let mut all = [0; ffi::ID];
         all[..bytes.len()].copy_from_slice(bytes);
         Some(ObjectId { kind, bytes: all })
     }
 
     /// The id with these hex digits, of either case, if they are 40 or 64.
     pub fn from_hex(digits: &[u8]) -> Option<ObjectId> {
-        let value = |d: u8| (d as char).to_digit(16).map(|v| v as u8);
-        let mut bytes = Vec::with_capacity(32);
-        for pair in digits.chunks(2) {
-            let &[high, low] = pair else { return None };
-            bytes.push(value(high)? << 4 | value(low)?);
-        }
-        ObjectId::from_bytes(&bytes)
+        let mut out = [0; ffi::ID];
+        let mut answer = [0; ffi::COUNT_ANSWER];
+        // SAFETY: `digits` lives through the call, `out` and `answer` are ours alone, and the lengths are theirs.
+        unsafe { ffi::sarpukten_id_of_hex(digits.as_ptr(), digits.len(), out.as_mut_ptr(), out.len(), &mut answer) };
+        // There is room for either length, so a refusal is for the digits.
+        ObjectId::from_bytes(&out[..counted(answer).ok()?])
     }
 
     pub fn as_slice(&self) -> &[u8] {
@@ -64,7 +64,13 @@ impl ObjectId {
 
 impl fmt::Display for ObjectId {
     fn fmt(&self, f: &mut fmt::Formatter<'_>) -> fmt::Result {
-        self.as_slice().iter().try_for_each(|b| write!(f, "{b:02x}"))
+        let id = self.as_slice();
+        let mut out = [0; ffi::HEX];
+        let mut answer = [0; ffi::COUNT_ANSWER];
+        // SAFETY: `id` lives through the call, `out` and `answer` are ours alone, and the lengths are theirs.
+        unsafe { ffi::sarpukten_hex_of_id(id.as_ptr(), id.len(), out.as_mut_ptr(), out.len(), &mut answer) };
+        let written = counted(answer).expect("an id of either length, into the room of the longer");
+        f.write_str(str::from_utf8(&out[..written]).expect("hex digits"))
     }
 }
 

@@ -11,11 +11,18 @@ mod tree;
 pub use commit::CommitRef;
 pub use id::{Kind, ObjectId};
 pub use mode::{EntryKind, EntryMode};
-pub use tree::{name_order, tree_to_bytes, EntryRef, RuleSet, TreeRef, TreeRefIter};
+pub use tree::{name_order, tree_to_bytes, EntryRef, Rules, TreeRef, TreeRefIter};
 
 use std::fmt;
 
 /// A refusal: a number of docs/FORMAT.md, "Numbers", with its place, and with 3 its part.
+///
+/// It may gain fields, so outside of this crate it is read and not made:
+///
+/// ```compile_fail,E0639
+/// let e = sarpukten::Error { number: 3, place: 0, part: 1, field: 0 };
+/// ```
+#[non_exhaustive]
 #[derive(Clone, Copy, Debug, PartialEq, Eq, Hash)]
 pub struct Error {
     /// Why it was refused; never 0.
@@ -71,7 +78,7 @@ impl From<Error> for std::io::Error {
 }
 
 /// Number, place, part and what was counted, as a result.
-pub(crate) fn counted(answer: [usize; 4]) -> Result<usize, Error> {
+pub(crate) fn counted(answer: [usize; ffi::COUNT_ANSWER]) -> Result<usize, Error> {
     let [number, place, part, count] = answer;
     match number {
         0 => Ok(count),
@@ -103,7 +110,7 @@ pub enum ObjectKind {
 /// The header of a loose object: kind word, space, size in decimal, NUL.
 pub fn loose_header(kind: ObjectKind, size: u64) -> Vec<u8> {
     let mut out = vec![0; 28];
-    let mut answer = [0; 4];
+    let mut answer = [0; ffi::COUNT_ANSWER];
     // SAFETY: `out` and `answer` are ours alone, and `out` has the length that is passed.
     unsafe { ffi::sarpukten_loose_header(kind as usize, size, out.as_mut_ptr(), out.len(), &mut answer) };
     let written = counted(answer).expect("one of the four kinds, into the longest header's room");

@@ -29,7 +29,7 @@ impl TryFrom<u32> for EntryMode {
     type Error = Error;
 
     fn try_from(n: u32) -> Result<EntryMode, Error> {
-        let mut answer = [0; 4];
+        let mut answer = [0; ffi::MODE_ANSWER];
         // SAFETY: `answer` is ours alone.
         unsafe { ffi::sarpukten_mode_from_number(n, &mut answer) };
         counted(answer).map(EntryMode::of_record)
@@ -39,7 +39,7 @@ impl TryFrom<u32> for EntryMode {
 impl EntryMode {
     /// The mode that an octal text says.
     pub fn from_bytes(text: &[u8]) -> Result<EntryMode, Error> {
-        let mut answer = [0; 4];
+        let mut answer = [0; ffi::MODE_ANSWER];
         // SAFETY: `text` lives through the call, and `answer` is ours alone.
         unsafe { ffi::sarpukten_mode_read(text.as_ptr(), text.len(), &mut answer) };
         counted(answer).map(EntryMode::of_record)
@@ -73,7 +73,7 @@ impl EntryMode {
     }
 
     fn ask(self, question: usize) -> bool {
-        let mut answer = [0; 7];
+        let mut answer = [0; ffi::QUESTIONS];
         // SAFETY: `answer` is ours alone.
         unsafe { ffi::sarpukten_mode_ask(self.internal, &mut answer) };
         answer[question] == 1
@@ -109,7 +109,7 @@ impl EntryMode {
 
     /// The word of the mode's kind: tree, blob, exe, link or commit.
     pub fn as_str(self) -> &'static str {
-        let mut word = [0; 6];
+        let mut word = [0; ffi::WORD];
         // SAFETY: `word` is ours alone.
         let len = unsafe { ffi::sarpukten_mode_word(self.internal, &mut word) };
         ["tree", "blob", "exe", "link", "commit"].into_iter().find(|w| w.as_bytes() == &word[..len]).expect("one of the five words")

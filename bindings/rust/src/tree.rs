@@ -4,7 +4,7 @@ use std::cmp::Ordering;
 use std::io;
 
 /// The numbers of an entry's record: mode, name start, name end, id start, mode text start.
-const WIDTH: usize = 5;
+const WIDTH: usize = ffi::ENTRY;
 
 /// How many numbers to lend at first for an object of so many bytes: enough for every object that can be read strictly.
 fn guess(bytes: usize, kind: Kind) -> usize {
@@ -17,22 +17,44 @@ pub fn name_order(a: &[u8], a_is_tree: bool, b: &[u8], b_is_tree: bool) -> Order
     unsafe { ffi::sarpukten_name_order(a.as_ptr(), a.len(), a_is_tree, b.as_ptr(), b.len(), b_is_tree) }.cmp(&0)
 }
 
-/// An entry, its name and id borrowed from the object.
-#[derive(Clone, Copy, Debug, PartialEq, Eq)]
+/// An entry, its name and id borrowed from the object. Two are equal when mode, name and id are.
+#[derive(Clone, Copy, Debug)]
 pub struct EntryRef<'a> {
     pub mode: EntryMode,
     pub filename: &'a [u8],
     pub oid: &'a [u8],
+    text: Option<&'a [u8]>,
 }
 
+impl PartialEq for EntryRef<'_> {
+    fn eq(&self, other: &Self) -> bool {
+        (self.mode, self.filename, self.oid) == (other.mode, other.filename, other.oid)
+    }
+}
+
+impl Eq for EntryRef<'_> {}
+
 impl<'a> EntryRef<'a> {
+    /// An entry to be written.
+    pub fn new(mode: EntryMode, filename: &'a [u8], oid: &'a [u8]) -> EntryRef<'a> {
+        EntryRef { mode, filename, oid, text: None }
+    }
+
     /// The entry that a record names in an object; the library made the record for it.
     fn of_record(data: &'a [u8], kind: Kind, record: &[usize]) -> EntryRef<'a> {
         EntryRef {
             mode: EntryMode::of_record(record[0]),
             filename: &data[record[1]..record[2]],
             oid: &data[record[3]..record[3] + kind.len_in_bytes()],
+            // From its first byte to the space before the name.
+            text: Some(&data[record[4]..record[1] - 1]),
         }
+    }
+
+    /// The mode's text as it stood in the object, which need not be the one that is written for the mode: `040000` or `140755`, or
+    /// nothing at all. None for an entry that was not read.
+    pub fn mode_text(&self) -> Option<&'a [u8]> {
+        self.text
     }
 
     /// The id by value; shown in hex. None where `oid` was set to something that is no id.
@@ -49,11 +71,12 @@ pub struct TreeRef<'a> {
     records: Vec<usize>,
 }
 
-/// What a strict reading permits.
-#[derive(Clone, Copy, Debug, PartialEq, Eq)]
-pub enum RuleSet {
-    /// The five modes, and 100664 of early Git's group-writable files.
-    With100664 = 1,
+/// The rule set of a strict reading.
+#[derive(Clone, Copy, Debug, PartialEq, Eq, Hash)]
+#[repr(u16)]
+pub enum Rules {
+    /// The five modes, and 100664 as early Git wrote it.
+    Early = 1,
     /// The five modes.
     Present = 2,
 }
@@ -68,17 +91,29 @@ impl<'a> TreeRef<'a> {
     }
 
     /// Reads an object strictly: the mode texts of a rule set, permitted names, in order and none twice. For objects from outside.
-    pub fn from_bytes_strict(data: &'a [u8], kind: Kind, rules: RuleSet) -> Result<TreeRef<'a>, Error> {
+    pub fn from_bytes_strict(data: &'a [u8], kind: Kind, rules: Rules) -> Result<TreeRef<'a>, Error> {
         // SAFETY: the lengths are those of what is lent, which lives through the call.
         TreeRef::read(data, kind, |records, answer| unsafe {
-            ffi::sarpukten_read_tree_strict(data.as_ptr(), data.len(), kind.len_in_bytes(), rules as u16, records.as_mut_ptr(), records.len(), answer)
+            ffi::sarpukten_read_tree_strict(
+                data.as_ptr(),
+                data.len(),
+                kind.len_in_bytes(),
+                rules as u16,
+                records.as_mut_ptr(),
+                records.len(),
+                answer,
+            )
         })
     }
 
-    fn read(data: &'a [u8], kind: Kind, reader: impl Fn(&mut [usize], &mut [usize; 4]) -> usize) -> Result<TreeRef<'a>, Error> {
+    fn read(
+        data: &'a [u8],
+        kind: Kind,
+        reader: impl Fn(&mut [usize], &mut [usize; ffi::COUNT_ANSWER]) -> usize,
+    ) -> Result<TreeRef<'a>, Error> {
         let mut records = vec![0; guess(data.len(), kind)];
         loop {
-            let mut answer = [0; 4];
+            let mut answer = [0; ffi::COUNT_ANSWER];
             reader(&mut records, &mut answer);
             match counted(answer) {
                 Ok(count) => {
@@ -108,7 +143,7 @@ impl<'a> TreeRef<'a> {
 
     /// The entry at an index.
     pub fn get(&self, index: usize) -> Option<EntryRef<'a>> {
-        self.entries().nth(index)
+        self.records.chunks_exact(WIDTH).nth(index).map(|r| EntryRef::of_record(self.data, self.kind, r))
     }
 
     /// The entry with a name, of a folder or not, by halving. It is meant for a tree in order, as every strictly read one is, and for a
@@ -119,7 +154,7 @@ impl<'a> TreeRef<'a> {
 
     /// The same, and how many entries were compared.
     pub fn bisect_entry_counted(&self, name: &[u8], is_dir: bool) -> (Option<EntryRef<'a>>, usize) {
-        let mut answer = [0; 5];
+        let mut answer = [0; ffi::LOOKUP_ANSWER];
         // SAFETY: object, records and name live through the call, `answer` is ours alone, and the lengths are theirs.
         unsafe {
             ffi::sarpukten_bisect_entry(
@@ -134,10 +169,79 @@ impl<'a> TreeRef<'a> {
                 &mut answer,
             )
         };
+        self.looked(answer)
+    }
+
+    /// The entry with a name, whatever its sort: sought as anything but a folder, and where that is not there, as a folder. In a strictly
+    /// read tree, and for a name without a slash, it is the one entry of that name.
+    pub fn bisect_any(&self, name: &[u8]) -> Option<EntryRef<'a>> {
+        self.bisect_any_counted(name).0
+    }
+
+    /// The same, and how many entries both searches compared: at most twice [`crate::most_comparisons`].
+    pub fn bisect_any_counted(&self, name: &[u8]) -> (Option<EntryRef<'a>>, usize) {
+        let mut answer = [0; ffi::LOOKUP_ANSWER];
+        // SAFETY: object, records and name live through the call, `answer` is ours alone, and the lengths are theirs.
+        unsafe {
+            ffi::sarpukten_bisect_any(
+                self.data.as_ptr(),
+                self.data.len(),
+                self.kind.len_in_bytes(),
+                self.records.as_ptr(),
+                self.records.len(),
+                name.as_ptr(),
+                name.len(),
+                &mut answer,
+            )
+        };
+        self.looked(answer)
+    }
+
+    /// What a lookup answered: the entry, and how many were compared.
+    fn looked(&self, answer: [usize; ffi::LOOKUP_ANSWER]) -> (Option<EntryRef<'a>>, usize) {
         let [number, _, _, index, compared] = answer;
         // The records are the library's own, so beside 15 there is only 2, for a name longer than any object: it is not there either.
         let found = if number == 0 { self.get(index) } else { None };
         (found, compared)
+    }
+
+    /// The entries with many names, each of a folder or not, in one call: for each what [`TreeRef::bisect_entry`] finds, in their order.
+    /// Refused 2 where they are more than [`MOST_RECORDS`] names, or together longer than [`crate::MOST_BYTES`].
+    pub fn bisect_entries(&self, names: &[(&[u8], bool)]) -> Result<Vec<Option<EntryRef<'a>>>, Error> {
+        Ok(self.bisect_entries_counted(names)?.into_iter().map(|(found, _)| found).collect())
+    }
+
+    /// The same, and for each how many entries were compared.
+    pub fn bisect_entries_counted(&self, names: &[(&[u8], bool)]) -> Result<Vec<(Option<EntryRef<'a>>, usize)>, Error> {
+        let mut bytes = Vec::new();
+        let mut sought = Vec::with_capacity(ffi::SOUGHT * names.len());
+        for &(name, is_dir) in names {
+            let start = bytes.len();
+            bytes.extend_from_slice(name);
+            sought.extend_from_slice(&[start, bytes.len(), is_dir.into()]);
+        }
+        let mut found = vec![0; ffi::FOUND * names.len()];
+        let mut answer = [0; ffi::COUNT_ANSWER];
+        // SAFETY: all that is lent lives through the call, `found` and `answer` are ours alone, and the lengths are theirs.
+        unsafe {
+            ffi::sarpukten_bisect_entries(
+                self.data.as_ptr(),
+                self.data.len(),
+                self.kind.len_in_bytes(),
+                self.records.as_ptr(),
+                self.records.len(),
+                bytes.as_ptr(),
+                bytes.len(),
+                sought.as_ptr(),
+                sought.len(),
+                found.as_mut_ptr(),
+                found.len(),
+                &mut answer,
+            )
+        };
+        counted(answer)?;
+        let each = |f: &[usize]| (if f[0] == 0 { self.get(f[1]) } else { None }, f[2]);
+        Ok(found.chunks_exact(ffi::FOUND).map(each).collect())
     }
 
     /// How many bytes [`TreeRef::write_to`] writes.
@@ -168,7 +272,7 @@ pub fn tree_to_bytes(entries: &[EntryRef<'_>], kind: Kind) -> Result<Vec<u8>, Er
 }
 
 fn size(data: &[u8], kind: Kind, records: &[usize]) -> Result<usize, Error> {
-    let mut answer = [0; 4];
+    let mut answer = [0; ffi::COUNT_ANSWER];
     // SAFETY: bytes and records live through the call, `answer` is ours alone, and the lengths are theirs.
     unsafe { ffi::sarpukten_tree_size(data.as_ptr(), data.len(), kind.len_in_bytes(), records.as_ptr(), records.len(), &mut answer) };
     counted(answer)
@@ -176,7 +280,7 @@ fn size(data: &[u8], kind: Kind, records: &[usize]) -> Result<usize, Error> {
 
 fn write(data: &[u8], kind: Kind, records: &[usize]) -> Result<Vec<u8>, Error> {
     let mut out = vec![0; size(data, kind, records)?];
-    let mut answer = [0; 4];
+    let mut answer = [0; ffi::COUNT_ANSWER];
     // SAFETY: bytes and records live through the call, `out` and `answer` are ours alone, and the lengths are theirs.
     unsafe {
         ffi::sarpukten_write_tree(
@@ -218,7 +322,7 @@ impl<'a> Iterator for TreeRefIter<'a> {
         if self.ended {
             return None;
         }
-        let mut answer = [0; 10];
+        let mut answer = [0; ffi::STEP_ANSWER];
         // SAFETY: `data` lives through the call, and `answer` is ours alone.
         unsafe { ffi::sarpukten_tree_step(self.data.as_ptr(), self.data.len(), self.kind.len_in_bytes(), self.at, &mut answer) };
         let [number, place, part, found, next, record @ ..] = answer;

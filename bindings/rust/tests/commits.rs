@@ -15,8 +15,10 @@ fn commit(kind: Kind) -> Vec<u8> {
     .into_bytes()
 }
 
-fn refused(number: usize, place: usize, field: usize) -> Error {
-    Error { number, place, part: 0, field }
+/// Number, place and field of a refusal; its part is 0.
+fn told(e: Error) -> (usize, usize, usize) {
+    assert_eq!(e.part, 0);
+    (e.number, e.place, e.field)
 }
 
 #[test]
@@ -65,16 +67,16 @@ fn many_parents_and_headers() {
 #[test]
 fn refusals() {
     let data = commit(Kind::Sha1);
-    assert_eq!(CommitRef::from_bytes(b"", Kind::Sha1), Err(refused(11, 0, 1)));
-    assert_eq!(CommitRef::from_bytes(&data, Kind::Sha256), Err(refused(11, 0, 1)));
-    assert_eq!(CommitRef::from_bytes(&data[..142], Kind::Sha1), Err(refused(11, 142, 2)));
+    assert_eq!(CommitRef::from_bytes(b"", Kind::Sha1).map_err(told), Err((11, 0, 1)));
+    assert_eq!(CommitRef::from_bytes(&data, Kind::Sha256).map_err(told), Err((11, 0, 1)));
+    assert_eq!(CommitRef::from_bytes(&data[..142], Kind::Sha1).map_err(told), Err((11, 142, 2)));
     let text = String::from_utf8(data.clone()).unwrap();
     let broken = text.replacen("parent 2", "parent x", 1);
-    assert_eq!(CommitRef::from_bytes(broken.as_bytes(), Kind::Sha1), Err(refused(11, 94, 2)));
+    assert_eq!(CommitRef::from_bytes(broken.as_bytes(), Kind::Sha1).map_err(told), Err((11, 94, 2)));
     let nobody = text.replacen(" <author@example.com>", "", 1);
-    assert_eq!(CommitRef::from_bytes(nobody.as_bytes(), Kind::Sha1), Err(refused(12, 142, 0)));
+    assert_eq!(CommitRef::from_bytes(nobody.as_bytes(), Kind::Sha1).map_err(told), Err((12, 142, 0)));
     let endless = text.replacen("\n\nthe message\n", "\n", 1);
-    assert_eq!(CommitRef::from_bytes(endless.as_bytes(), Kind::Sha1), Err(refused(11, endless.len(), 4)));
+    assert_eq!(CommitRef::from_bytes(endless.as_bytes(), Kind::Sha1).map_err(told), Err((11, endless.len(), 4)));
 }
 
 #[test]
@@ -85,20 +87,20 @@ fn writing() {
     c.extra_headers = vec![(b"k", b"a\nb\n"[..].into())];
     assert!(String::from_utf8(c.to_bytes().unwrap()).unwrap().contains("\nk a\n b\n\n"));
     c.encoding = Some(b"");
-    assert_eq!(c.to_bytes(), Err(refused(13, 0, 0)));
+    assert_eq!(c.to_bytes().map_err(told), Err((13, 0, 0)));
     c.encoding = Some(b"a\nb");
-    assert_eq!(c.to_bytes(), Err(refused(14, 0, 0)));
+    assert_eq!(c.to_bytes().map_err(told), Err((14, 0, 0)));
     c.encoding = None;
     assert!(c.to_bytes().is_ok());
     let upper = "A".repeat(40);
     c.tree = upper.as_bytes();
     assert_eq!(c.to_bytes().unwrap()[5..45], *"a".repeat(40).as_bytes());
     c.parents[1] = &upper.as_bytes()[..39];
-    assert_eq!(c.to_bytes(), Err(refused(10, 2, 0)));
+    assert_eq!(c.to_bytes().map_err(told), Err((10, 2, 0)));
     c.parents.clear();
     c.tree = b"short";
-    assert_eq!(c.to_bytes(), Err(refused(10, 0, 0)));
-    assert_eq!(c.size(), Err(refused(10, 0, 0)));
+    assert_eq!(c.to_bytes().map_err(told), Err((10, 0, 0)));
+    assert_eq!(c.size().map_err(told), Err((10, 0, 0)));
 }
 
 #[test]

@@ -9,7 +9,14 @@ fn text(m: EntryMode) -> Vec<u8> {
     m.as_bytes(&mut [0; 6]).to_vec()
 }
 
-const BAD: Error = Error { number: 3, place: 0, part: 1, field: 0 };
+/// The mode that a text says, or number, place and part of the refusal.
+fn read(text: &[u8]) -> Result<EntryMode, (usize, usize, usize)> {
+    EntryMode::from_bytes(text).map_err(told)
+}
+
+fn told(e: Error) -> (usize, usize, usize) {
+    (e.number, e.place, e.part)
+}
 
 #[test]
 fn the_five() {
@@ -52,16 +59,16 @@ fn texts() {
     assert_eq!(text(mode(b"140755 ")), b"040755");
     assert_eq!(text(mode(b"040755 ")), b"40755");
     assert_eq!(text(mode(b"200000 ")), b"0");
-    assert_eq!(EntryMode::from_bytes(b"00000000 x"), Err(BAD));
-    assert_eq!(EntryMode::from_bytes(b"0 abcd e"), Err(BAD));
-    assert_eq!(EntryMode::from_bytes(b""), Err(BAD));
+    assert_eq!(read(b"00000000 x"), Err((3, 0, 1)));
+    assert_eq!(read(b"0 abcd e"), Err((3, 0, 1)));
+    assert_eq!(read(b""), Err((3, 0, 1)));
     assert_eq!(text(mode(b"0 abc de")), b"0");
 }
 
 #[test]
 fn numbers() {
     assert_eq!(EntryMode::try_from(0o300644), Ok(EntryMode::from(EntryKind::Blob)));
-    assert_eq!(EntryMode::try_from(0o200000), Err(Error { number: 23, place: 0, part: 0, field: 0 }));
+    assert_eq!(EntryMode::try_from(0o200000).map_err(told), Err((23, 0, 0)));
     // Every mode's text reads back, but for those that lose their highest bit and for 0.
     for n in 1..=u16::MAX {
         let Ok(m) = EntryMode::try_from(n as u32) else { continue };

@@ -6,18 +6,17 @@ use Prim.Native.Nat.{ℕ, zero, suc, _+_, _-_, _*_, _/_, _<_, _≤_, max}
 use mathlib.Core.Path.{_≡_, refl, ap, sym, _∙_}
 use mathlib.Core.Bool.{Bool, true, false}
 use mathlib.Core.List.{List, [], _∷_, _++_, map}
-use mathlib.Core.Logic.{_⊎_}
 use lib.Dec.{eqb, leb}
 use lib.ListN.{length, getD, drop, length-append, length-map, length-drop, drop-of-length-le}
 use lib.Seq.{drop-cons}
 use borrow.Author.Tests.{eq-eqb, ne-eqb, eqb-true, le-leb, lt-leb, leb-true}
 use Rattle.ground.specs.Basics.{pick}
-use Rattle.ground.specs.Verdict.{verdict, fine, gateOf, mostBytes, mostRecords}
+use Rattle.ground.specs.Verdict.{verdict, fine, gateOf}
 use Rattle.ground.proofs.Laws.{and-left, and-right, gate-open, gate-fine}
 use Rattle.ground.specs.declared.Verdict.{Verdict}
 use Rattle.ground.specs.declared.Gate.{Gate}
 use Rattle.ground.specs.declared.Gate.the-variants.{Open, Shut}
-use Rattle.header.specs.Hex.{isHex}
+use Rattle.hex.specs.Hex.{isHex}
 use Rattle.header.specs.Extra.{foldedForm}
 use Rattle.header.specs.Record.{width, headerAt, wellFormed, valueOf}
 use Rattle.header.proofs.Laws.{WellFormed, well-parts}
@@ -26,7 +25,8 @@ use Rattle.header.specs.declared.CommitParts.{CommitParts}
 use Rattle.output.proofs.Laws.{shut-refuses}
 use Rattle.unfold.specs.Unfold.{hasForm}
 use Rattle.unfold.proofs.Laws.{form-any, form-folded}
-use Rattle.commit_grammar.specs.Named.{idNamed, recordsFrom}
+use Rattle.grammar.specs.Named.{idNamed, recordsFrom}
+use Rattle.commit_check.specs.Sound.{Sound}
 use Rattle.commit_check.specs.Check.{headersOf, ranged, idFits, encodingFits, headerFits, tests, passing, judged, after, checked}
 
 -- ---- one record
@@ -260,20 +260,6 @@ module _ (h : ℕ) (bytes : List ℕ) (p : CommitParts) (parents headers : List 
       checked-fine l = checked-open g ∙ judged-fine row (rw (row-length, ← q) l)
 
 -- ---- a commit that passes
-
-pub record Sound (h : ℕ) (bytes : List ℕ) (p : CommitParts) (parents headers : List ℕ) (room : ℕ) : Type 0 where
-  pub id-length : (h ≡ 20) ⊎ (h ≡ 32)
-  pub bytes-most : length bytes ≤ mostBytes
-  pub room-most : room ≤ mostBytes
-  pub parents-most : length parents ≤ mostRecords
-  pub headers-most : length headers / width ≤ mostRecords
-  pub tree : idFits h bytes (p .tree) ≡ true
-  pub parents-pass : passing (map (idFits h bytes) parents) ≡ length parents
-  pub author : ranged (p .«author_start») (p .«author_end») (length bytes) ≡ true
-  pub committer : ranged (p .«committer_start») (p .«committer_end») (length bytes) ≡ true
-  pub encoding : encodingFits (length bytes) p ≡ true
-  pub headers-pass : passing (map (headerFits bytes) (headersOf headers)) ≡ length headers / width
-  pub message : ranged (p .«message_start») (p .«message_end») (length bytes) ≡ true
 
 pub pass-first : (t : Bool) (l : List Bool) → passing (t ∷ l) ≡ suc (length l) → (t ≡ true) × (passing l ≡ length l)
 pass-first true l e = (refl, omega arith)

@@ -9,12 +9,12 @@ use Rattle.ground.specs.Verdict.{verdict, fine, gateOf}
 use Rattle.ground.specs.declared.Verdict.{Verdict}
 use Rattle.ground.specs.declared.Gate.{Gate}
 use Rattle.ground.specs.declared.Gate.the-variants.{Open, Shut}
-use Rattle.header.specs.Hex.{isHex}
+use Rattle.hex.specs.Hex.{isHex}
 use Rattle.header.specs.Record.{width, wellFormed, valueOf}
 use Rattle.header.specs.declared.HeaderRecord.{HeaderRecord}
 use Rattle.header.specs.declared.CommitParts.{CommitParts}
 use Rattle.unfold.specs.Unfold.{hasForm}
-use Rattle.commit_grammar.specs.Named.{idNamed, recordsFrom}
+use Rattle.grammar.specs.Named.{idNamed, recordsFrom}
 
 -- the header records of a lent list
 abbrev pub headersOf : List ℕ → List HeaderRecord

@@ -17,8 +17,8 @@ use header::HEADER_WIDTH;
 use header::HeaderRecord;
 use header::header_at;
 use header::is_folded;
-use header::is_hex;
 use header::well_formed;
+use hex::is_hex;
 
 // Whether a range runs forward inside so many bytes.
 fn is_range(from: usize, to: usize, len: usize) -> bool

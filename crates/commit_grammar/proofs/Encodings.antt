@@ -19,7 +19,7 @@ use Rattle.header.proofs.Laws.{line-no}
 use Rattle.commit_read.specs.Fields.{encodingAt}
 use Rattle.commit_read.specs.declared.Encoding as read
 use Rattle.commit_read.proofs.Laws.{encoding-none, encoding-some}
-use Rattle.commit_grammar.specs.Grammar.{Header, Encoding, absent, given, line, encodingBytes, lastLf, headerBytes, headersBytes, foldedLines, FoldedForm, HeaderForm, HeaderForms, EncodingForm, FirstForm}
+use Rattle.grammar.specs.Grammar.{Header, Encoding, absent, given, line, encodingBytes, lastLf, headerBytes, headersBytes, foldedLines, FoldedForm, HeaderForm, HeaderForms, EncodingForm, FirstForm}
 use Rattle.commit_grammar.proofs.Pieces.{line-onto, word-read, value-read, value-stands, value-part, line-after}
 
 -- the encoding that a read one names
@@ -28,13 +28,13 @@ encodingNamed s e = pick (eqb (e .mark) 1) (given (part (e .start) (e .end) s)) 
 
 -- ---- the first line of an extra header
 
-record FirstLine (x : Header) (r : List ℕ) : Type 0 where
-  value : List ℕ
-  rest : List ℕ
-  one-line : freeOf 10 value ≡ true
-  bytes : headerBytes x ++ r ≡ line (x .name) value ++ rest
+pub record FirstLine (x : Header) (r : List ℕ) : Type 0 where
+  pub value : List ℕ
+  pub rest : List ℕ
+  pub one-line : freeOf 10 value ≡ true
+  pub bytes : headerBytes x ++ r ≡ line (x .name) value ++ rest
 
-first-line : (x : Header) (r : List ℕ) → HeaderForm x → FirstLine x r
+pub first-line : (x : Header) (r : List ℕ) → HeaderForm x → FirstLine x r
 first-line x r f = by (f .valued)
   where
     onto : (v t : List ℕ) → (x .value ++ lastLf (x .mark)) ++ r ≡ v ++ 10 ∷ t → headerBytes x ++ r ≡ line (x .name) v ++ t
@@ -92,7 +92,7 @@ pub record EncodingStands (s : List ℕ) (e : read.Encoding) (c : Encoding) (r :
   pub rest : drop (e .next) s ≡ r
 
 -- two names that end at the same first space are one
-same-name : (a b r t : List ℕ) → freeOf 32 a ≡ true → freeOf 32 b ≡ true → a ++ 32 ∷ r ≡ b ++ 32 ∷ t → a ≡ b
+pub same-name : (a b r t : List ℕ) → freeOf 32 a ≡ true → freeOf 32 b ≡ true → a ++ 32 ∷ r ≡ b ++ 32 ∷ t → a ≡ b
 same-name a b r t f g e =
     let n : length a ≡ length b = sym (count-free 32 a r f) ∙ ap (countTo 32) e ∙ count-free 32 b t g in
     sym (take-append-seam a (32 ∷ r)) ∙ rw (e, n) (take-append-seam b (32 ∷ t))

@@ -19,8 +19,8 @@ use Rattle.commit_read.specs.declared.Person.the-variants as person
 use Rattle.commit_read.specs.declared.Found.{Found}
 use Rattle.commit_read.specs.declared.Outcome.the-variants.{Whole}
 use Rattle.commit_read.proofs.Laws.{actor-good, actor-parts, ending-is, people-both, fields-are, Parts, fields-parts, blank-fits, tally-count}
-use Rattle.commit_grammar.specs.Grammar.{Header, Encoding, Commit, line, parentsBytes, encodingBytes, headersBytes, commitBytes, CommitForm}
-use Rattle.commit_grammar.specs.Named.{idNamed, headerNamed, commitOf}
+use Rattle.grammar.specs.Grammar.{Header, Encoding, Commit, line, parentsBytes, encodingBytes, headersBytes, commitBytes, CommitForm}
+use Rattle.grammar.specs.Named.{idNamed, headerNamed, commitOf}
 use Rattle.commit_grammar.proofs.Pieces.{cut, part-none, after, byte-is, byte-after, value-part, line-after, word-read, id-read, id-stands, value-read, value-stands}
 use Rattle.commit_grammar.proofs.Parents.{parents-read, parents-stand}
 use Rattle.commit_grammar.proofs.Headers.{headers-read, headers-stand}

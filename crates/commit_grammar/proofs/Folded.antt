@@ -13,7 +13,7 @@ use Rattle.ground.specs.Scan.{placeFrom, freeOf}
 use Rattle.ground.proofs.Laws.{equal, and-left, and-right, place-from}
 use Rattle.header.specs.Extra.{foldFrom, foldEnd}
 use Rattle.header.proofs.Laws.{fold-end-here, fold-other, fold-open, fold-next}
-use Rattle.commit_grammar.specs.Grammar.{foldedLines, OneLines}
+use Rattle.grammar.specs.Grammar.{foldedLines, OneLines}
 use Rattle.commit_grammar.proofs.Pieces.{below, cut-part, part-none, free-part, place-is}
 
 -- bytes that are lines of this kind

@@ -18,11 +18,12 @@ use Rattle.header.specs.declared.HeaderRecord.{HeaderRecord}
 use Rattle.header.specs.declared.Extra.{Extra}
 use Rattle.header.specs.declared.Extra.the-variants.{Got, No}
 use Rattle.header.proofs.Laws.{fold-within, extra-unnamed, extra-bare, extra-folded, extra-line, extra-parts, extra-next}
-use Rattle.commit_read.specs.Headers.{Heads, ended, header, restHeads, tally, recordsOf}
+use Rattle.commit_read.specs.Headers.{Heads, ended, header, headsFrom, restHeads, tally, recordsOf}
 use Rattle.commit_read.proofs.Laws.{heads-end, heads-more}
-use Rattle.commit_grammar.specs.Grammar.{Header, lastLf, headerBytes, headersBytes, foldedLines, FoldedForm, HeaderForm, HeaderForms}
-use Rattle.commit_grammar.specs.Named.{headerNamed}
-use Rattle.commit_grammar.proofs.Pieces.{below, piece, cut, cut-part, part-length, after, part-is, byte-is, byte-inside, byte-after, free-left, free-right, free-part, place-is, place-after}
+use Rattle.grammar.specs.Grammar.{Header, lastLf, headerBytes, headersBytes, foldedLines, FoldedForm, HeaderForm, HeaderForms}
+use Rattle.grammar.specs.Named.{headerNamed}
+use Rattle.grammar.proofs.Laws.{part-length}
+use Rattle.commit_grammar.proofs.Pieces.{below, piece, cut, cut-part, after, part-is, byte-is, byte-inside, byte-after, free-left, free-right, free-part, place-is, place-after}
 use Rattle.commit_grammar.proofs.Folded.{Folds, folds-read, folds-some, folds-stand}
 
 -- ---- one header, read
@@ -138,13 +139,13 @@ pub record HeaderStands (s : List ℕ) (at : ℕ) (x : Header) : Type 0 where
 module _ (s : List ℕ) (at : ℕ) (n v r : List ℕ) (some : 0 < length n) (no-space : freeOf 32 n ≡ true) (no-lf : freeOf 10 n ≡ true) where
   -- a name, a space, a value on one line and LF: where its bytes stand
   module _ (f : freeOf 10 v ≡ true) (e : drop at s ≡ n ++ 32 ∷ (v ++ 10 ∷ r)) where
-    space-at : at + length n ≡ placeFrom 32 s at
+    pub space-at : at + length n ≡ placeFrom 32 s at
     space-at = place-after 32 s at n (v ++ 10 ∷ r) e no-space
 
     value-at : drop (at + length n + 1) s ≡ v ++ 10 ∷ r
     value-at = byte-after s (at + length n) 32 (v ++ 10 ∷ r) (after s at n (32 ∷ (v ++ 10 ∷ r)) e)
 
-    lf-at : at + length n + 1 + length v ≡ placeFrom 10 s at
+    pub lf-at : at + length n + 1 + length v ≡ placeFrom 10 s at
     lf-at =
         let a : drop at s ≡ (n ++ 32 ∷ v) ++ 10 ∷ r = e ∙ sym (append-assoc n (32 ∷ v) (10 ∷ r)) in
         let z : at + length n + 1 + length v ≡ at + length (n ++ 32 ∷ v) = omega (arith, length-append n (32 ∷ v)) in
@@ -153,19 +154,18 @@ module _ (s : List ℕ) (at : ℕ) (n v r : List ℕ) (some : 0 < length n) (no-
     lf-after : drop (at + length n + 1 + length v) s ≡ 10 ∷ r
     lf-after = after s (at + length n + 1) v (10 ∷ r) value-at
 
-    rest-after : drop (at + length n + 1 + length v + 1) s ≡ r
+    pub rest-after : drop (at + length n + 1 + length v + 1) s ≡ r
     rest-after = byte-after s (at + length n + 1 + length v) 10 r lf-after
 
-    lf-inside : at + length n + 1 + length v < length s
+    pub lf-inside : at + length n + 1 + length v < length s
     lf-inside = byte-inside s (at + length n + 1 + length v) 10 r lf-after
 
 same-header : (x : Header) (a b : List ℕ) (m : ℕ) → a ≡ x .name → b ≡ x .value → m ≡ x .mark → record { name = a; value = b; mark = m } ≡ x
 same-header x a b m p q r = rw (p, q, r)
 
 -- a header on one line
-plain-stands : (s : List ℕ) (at : ℕ) (x : Header) (r : List ℕ) → HeaderForm x → x .mark ≡ 0 → freeOf 10 (x .value) ≡ true → (getD r 0 0 ≡ 32 → ⊥)
-    → drop at s ≡ headerBytes x ++ r → HeaderStands s at x
-unfolding foldEnd foldedLines
+pub plain-stands : (s : List ℕ) (at : ℕ) (x : Header) (r : List ℕ) → HeaderForm x → x .mark ≡ 0 → freeOf 10 (x .value) ≡ true
+    → ((i : ℕ) → i ≤ length s → drop i s ≡ r → foldEnd s i ≤ i) → drop at s ≡ headerBytes x ++ r → HeaderStands s at x
 plain-stands s at x r f m g k e =
     let n = x .name in
     let v = x .value in
@@ -177,11 +177,10 @@ plain-stands s at x r f m g k e =
     let va = value-at s at n v r (f .some) (f .no-space) (f .no-lf) g e2 in
     let ra = rest-after s at n v r (f .some) (f .no-space) (f .no-lf) g e2 in
     let li = lf-inside s at n v r (f .some) (f .no-space) (f .no-lf) g e2 in
-    let end : foldEnd s (lf + 1) ≡ lf + 1 + 0 = ap (foldFrom false (lf + 1) (lf + 1)) ra ∙ folds-stand (lf + 1) (lf + 1) [] r tt k in
     record {
       found = headerOf at space (space + 1) lf 0;
       next = lf + 1;
-      read = extra-line s at space lf sa la (omega (arith, f .some)) (omega arith) li (foldEnd s (lf + 1)) refl (omega (arith, end));
+      read = extra-line s at space lf sa la (omega (arith, f .some)) (omega arith) li (foldEnd s (lf + 1)) refl (k (lf + 1) (omega (arith, li)) ra);
       next-is =
           omega (arith, length-append n (32 ∷ (v ++ lastLf (x .mark))), length-append v (lastLf (x .mark)), one m);
       named-is = same-header x (part at space s) (part (space + 1) lf s) 0 (part-is s at n (32 ∷ (v ++ 10 ∷ r)) e2) (part-is s (space + 1) v (10 ∷ r) va)
@@ -198,7 +197,7 @@ lines-some [] p = p
 lines-some (l ∷ ls) p = omega arith
 
 -- a folded header
-folded-stands : (s : List ℕ) (at : ℕ) (x : Header) (r : List ℕ) → HeaderForm x → x .mark ≡ 1 → FoldedForm (x .value) → (getD r 0 0 ≡ 32 → ⊥)
+pub folded-stands : (s : List ℕ) (at : ℕ) (x : Header) (r : List ℕ) → HeaderForm x → x .mark ≡ 1 → FoldedForm (x .value) → (getD r 0 0 ≡ 32 → ⊥)
     → drop at s ≡ headerBytes x ++ r → HeaderStands s at x
 unfolding foldEnd
 folded-stands s at x r f m g k e =
@@ -235,16 +234,31 @@ folded-stands s at x r f m g k e =
     none : x .mark ≡ 1 → length (lastLf (x .mark)) ≡ 0
     none m = rw m
 
+-- bytes that do not start with a space fold nothing
+unfolded : (s r : List ℕ) → (getD r 0 0 ≡ 32 → ⊥) → (i : ℕ) → i ≤ length s → drop i s ≡ r → foldEnd s i ≤ i
+unfolding foldEnd foldedLines
+unfolded s r k i q e = let z : foldFrom false i i (drop i s) ≡ i + 0 = ap (foldFrom false i i) e ∙ folds-stand i i [] r tt k in omega (arith, z)
+
 -- a header of the form is read as itself, where what follows does not start with a space
 pub header-stands : (s : List ℕ) (at : ℕ) (x : Header) (r : List ℕ) → HeaderForm x →
     (getD r 0 0 ≡ 32 → ⊥) → drop at s ≡ headerBytes x ++ r → HeaderStands s at x
 header-stands s at x r f k e = by (f .valued)
   where
     by : ((x .mark ≡ 0) × (freeOf 10 (x .value) ≡ true)) ⊎ ((x .mark ≡ 1) × FoldedForm (x .value)) → HeaderStands s at x
-    by (inl w) = plain-stands s at x r f (w .0) (w .1) k e
+    by (inl w) = plain-stands s at x r f (w .0) (w .1) (unfolded s r k) e
     by (inr w) = folded-stands s at x r f (w .0) (w .1) k e
 
 -- ---- all headers, read
+
+-- one step of the headers: none, or one and those behind it
+pub from-none : (left : ℕ) (s : List ℕ) (at : ℕ) → extraAt s at ≡ No → headsFrom (suc left) s at ≡ ended at
+unfolding headsFrom
+from-none left s at e = rw (e, headsFrom)
+
+pub from-more : (left : ℕ) (s : List ℕ) (at : ℕ) (x : HeaderRecord) (next : ℕ) → extraAt s at ≡ Got x next
+    → headsFrom (suc left) s at ≡ header x (headsFrom left s next)
+unfolding headsFrom
+from-more left s at x next e = rw (e, headsFrom)
 
 pub record HeadersRead (s : List ℕ) (at : ℕ) (l : Heads) : Type 0 where
   pub forms : HeaderForms (map (headerNamed s) (recordsOf l))
@@ -276,7 +290,7 @@ headers-one s at x next l m q f g =
 past-none : (s : List ℕ) (at : ℕ) → length s ≤ at → extraAt s at ≡ No
 past-none s at h = extra-unnamed s at at (placeFrom 10 s at) (sym (place-end 32 s at h)) refl (omega arith)
 
-headers-read-from : (left : ℕ) (s : List ℕ) (at n : ℕ) → length s ≤ at + left → n ≤ at → HeadersRead s at (restHeads s at n)
+pub headers-read-from : (left : ℕ) (s : List ℕ) (at n : ℕ) → length s ≤ at + left → n ≤ at → HeadersRead s at (restHeads s at n)
 headers-read-from zero s at n p q = headers-none s at _ (heads-end s at n (past-none s at (omega arith)))
 headers-read-from (suc left) s at n p q = by (extraAt s at) refl (λ next k. headers-read-from left s next (n + 1) (omega arith) (omega arith))
   where
@@ -320,11 +334,11 @@ blank-none s at m e = by (below at (placeFrom 32 s at))
     by (inl a) = extra-bare s at (placeFrom 32 s at) at refl lf a (omega arith)
     by (inr b) = extra-unnamed s at (placeFrom 32 s at) at refl lf b
 
-stand-none : (s : List ℕ) (at : ℕ) (l : Heads) → l ≡ ended at → HeadersStand s at l []
+pub stand-none : (s : List ℕ) (at : ℕ) (l : Heads) → l ≡ ended at → HeadersStand s at l []
 unfolding headersBytes tally recordsOf
 stand-none s at l q = rw q (record { named-are = refl; end-is = omega arith })
 
-stand-one : (s : List ℕ) (at : ℕ) (x : Header) (xs : List Header) (l m : Heads) (f : HeaderStands s at x) → l ≡ header (f .found) m
+pub stand-one : (s : List ℕ) (at : ℕ) (x : Header) (xs : List Header) (l m : Heads) (f : HeaderStands s at x) → l ≡ header (f .found) m
     → HeadersStand s (f .next) m xs → HeadersStand s at l (x ∷ xs)
 unfolding headersBytes tally recordsOf
 stand-one s at x xs l m f q g =

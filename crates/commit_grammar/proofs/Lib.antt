@@ -7,3 +7,5 @@ pub mod Fields
 pub mod Refusals
 pub mod Theorems
 pub mod Unfolded
+pub mod Longest
+pub mod Refused

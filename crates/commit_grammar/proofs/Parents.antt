@@ -10,9 +10,10 @@ use Rattle.ground.specs.Basics.{pick}
 use Rattle.header.specs.Words.{parentWord}
 use Rattle.commit_read.specs.Parents.{parentAt, parentsFrom, restParents, parentCount, parentStarts}
 use Rattle.commit_read.proofs.Laws.{parent-fits, parents-end, parents-more}
-use Rattle.commit_grammar.specs.Grammar.{line, parentsBytes, HexForm, HexForms}
-use Rattle.commit_grammar.specs.Named.{idNamed}
-use Rattle.commit_grammar.proofs.Pieces.{after, line-length, value-part, id-read, id-stands}
+use Rattle.grammar.specs.Grammar.{line, parentsBytes, HexForm, HexForms}
+use Rattle.grammar.specs.Named.{idNamed}
+use Rattle.grammar.proofs.Laws.{line-length}
+use Rattle.commit_grammar.proofs.Pieces.{after, value-part, id-read, id-stands}
 
 -- ---- read
 

@@ -7,18 +7,19 @@ use mathlib.Core.Logic.{_⊎_, inl, inr}
 use native.Mathlib.Decide.{decLt}
 use native.Mathlib.Numerals.{add-one}
 use native.Mathlib.Omega.{arith}
-use lib.ListN.{length, getD, drop, length-append, length-drop, take-append-drop}
-use lib.Seq.{drop-cons, drop-drop, take-add, take-append-seam, drop-append-seam, getD-drop, length-take-le}
+use lib.ListN.{length, getD, drop, length-drop, take-append-drop}
+use lib.Seq.{drop-cons, drop-drop, take-add, take-append-seam, drop-append-seam, getD-drop}
 use lib.Dec.{eqb}
 use borrow.Author.Tests.{eqb-true}
 use Rattle.ground.specs.Basics.{part}
 use Rattle.ground.specs.Scan.{countTo, placeFrom, sameBytes, freeOf}
 use Rattle.ground.proofs.Laws.{and-left, and-right, count-is, count-free, free-count, place-from, same-refl, same-true}
-use Rattle.header.specs.Hex.{isHex}
+use Rattle.hex.specs.Hex.{isHex}
 use Rattle.header.specs.Line.{wordAt, idFrom, idAt, lineAt}
 use Rattle.header.specs.declared.Line.the-variants.{Value}
 use Rattle.header.proofs.Laws.{word-is, word-fits, id-yes, id-fits, id-line-is, id-line-parts, line-value, line-parts}
-use Rattle.commit_grammar.specs.Grammar.{line, HexForm}
+use Rattle.grammar.specs.Grammar.{line, HexForm}
+use Rattle.grammar.proofs.Laws.{part-length}
 
 -- ---- pieces
 
@@ -43,9 +44,6 @@ cut-part s at m e p q r =
     let y : at + (m - at) ≡ m = omega arith in
     let z : e - m ≡ suc (e - (m + 1)) = omega arith in
     rw (x, take-add (m - at) (e - m) (drop at s), drop-drop (m - at) at s, y, drop-cons s m 0 (omega arith), z, add-one m)
-
-pub part-length : (s : List ℕ) (at e : ℕ) → at ≤ e → e ≤ length s → length (part at e s) ≡ e - at
-part-length s at e p q = length-take-le (e - at) (drop at s) (rw (length-drop at s) (omega arith))
 
 pub part-none : (s : List ℕ) (at : ℕ) → part at at s ≡ []
 part-none s at = let z : at - at ≡ 0 = omega arith in rw z
@@ -116,9 +114,6 @@ word-stands w s at r e =
 -- a line and what follows it
 pub line-onto : (w v r : List ℕ) → line w v ++ r ≡ w ++ 32 ∷ (v ++ 10 ∷ r)
 line-onto w v r = append-assoc w (32 ∷ (v ++ 10 ∷ [])) r ∙ ap (λ (l : List ℕ). w ++ 32 ∷ l) (append-assoc v (10 ∷ []) r)
-
-pub line-length : (w v : List ℕ) → length (line w v) ≡ length w + length v + 2
-line-length w v = omega (arith, length-append w (32 ∷ (v ++ 10 ∷ [])), length-append v (10 ∷ []))
 
 -- the line of an id: read, and standing
 module _ (w : List ℕ) (h : ℕ) (s : List ℕ) (at : ℕ) where

@@ -1,12 +1,11 @@
 -- Reading a commit, and the grammar: what is accepted is a commit and its bytes, and every commit is accepted as itself. Assumes nothing.
-use Prim.Native.Nat.{ℕ, _+_, _*_, _/_, _≤_, max}
+use Prim.Native.Nat.{ℕ, _+_, _*_, _/_, max}
 use mathlib.Core.Path.{_≡_, refl, ap, sym, _∙_}
 use mathlib.Core.List.{List, [], _∷_, _++_, append-assoc}
-use mathlib.Core.Logic.{_⊎_}
 use native.Mathlib.Omega.{arith}
 use lib.ListN.{length, take, drop, length-append, length-map}
 use lib.Seq.{take-at, getD-append-add}
-use Rattle.ground.specs.Verdict.{fine, mostBytes, mostRecords}
+use Rattle.ground.specs.Verdict.{fine}
 use Rattle.ground.proofs.Laws.{gate-fine}
 use Rattle.header.specs.Record.{width, flat, headerAt}
 use Rattle.header.specs.declared.HeaderRecord.{HeaderRecord}
@@ -18,8 +17,10 @@ use Rattle.commit_read.specs.declared.Found.{Found}
 use Rattle.commit_read.specs.declared.Outcome.{Outcome}
 use Rattle.commit_read.specs.declared.Outcome.the-variants.{Whole, Fails}
 use Rattle.commit_read.proofs.Laws.{starts-length, outcome-inverse, outcome-whole, outcome-fits, tally-count}
-use Rattle.commit_grammar.specs.Grammar.{Commit, commitBytes, CommitForm}
-use Rattle.commit_grammar.specs.Named.{headerNamed, recordsFrom, named}
+use Rattle.grammar.specs.Grammar.{Commit, commitBytes, CommitForm}
+use Rattle.grammar.specs.Named.{headerNamed, recordsFrom}
+use Rattle.commit_grammar.specs.Named.{named}
+use Rattle.commit_grammar.specs.Claims.{ReadIsCommit, CommitIsRead}
 use Rattle.commit_grammar.proofs.Fields.{foundCommit, found-is-commit, commit-is-found}
 use Rattle.commit_grammar.proofs.Refusals.{BadOutcome, outcome-bad}
 
@@ -48,7 +49,7 @@ record-at pre i q x rest =
       getD-append-add pre l 0 0,
     )
 
-records-back : (pre : List ℕ) (i : ℕ) → length pre ≡ i * width → (l : List HeaderRecord) (rest : List ℕ) → recordsFrom i (length l)
+pub records-back : (pre : List ℕ) (i : ℕ) → length pre ≡ i * width → (l : List HeaderRecord) (rest : List ℕ) → recordsFrom i (length l)
     (pre ++ (flats l ++ rest)) ≡ l
 unfolding recordsFrom flats
 records-back pre i q [] rest = refl
@@ -73,10 +74,7 @@ named-found s h ps hs o x q n =
 
 -- ---- the theorems
 
--- an accepted commit is a commit by the grammar, and the bytes are its bytes
-pub read-is-commit : (s : List ℕ) (h : ℕ) (ps hs : List ℕ) → commitAnswer s h ps hs .verdict ≡ fine
-    → (s ≡ commitBytes (named h s (commitAnswer s h ps hs) (commitParents s h ps hs) (commitHeaders s h ps hs)))
-    × CommitForm h (named h s (commitAnswer s h ps hs) (commitParents s h ps hs) (commitHeaders s h ps hs))
+pub read-is-commit : ReadIsCommit
 unfolding answerIn
 read-is-commit s h ps hs v = by (commitOutcome s h ps hs) refl (outcome-bad s h (length ps) (length hs / width)) v
   where
@@ -89,13 +87,7 @@ read-is-commit s h ps hs v = by (commitOutcome s h ps hs) refl (outcome-bad s h 
         let n : x .headers ≡ length (recordsOf (heads s (x .first))) = f .headers-are ∙ tally-count 0 (heads s (x .first)) ∙ omega arith in
         rw (named-found s h ps hs (commitOutcome s h ps hs) x q n) (found-is-commit s h x (outcome-inverse s h (length ps) (length hs / width) x q .1))
 
--- a commit by the grammar, within the bounds and with room for its parents and headers, is accepted, and what is named is that commit
-pub commit-is-read : (h : ℕ) (c : Commit) (ps hs : List ℕ) → CommitForm h c → (h ≡ 20) ⊎ (h ≡ 32) → length (commitBytes c) ≤ mostBytes
-    → length ps ≤ mostRecords → length hs / width ≤ mostRecords → length (c .parents) ≤ length ps → length (c .headers) ≤ length hs / width
-    → (commitAnswer (commitBytes c) h ps hs .verdict ≡ fine)
-    × (commitAnswer (commitBytes c) h ps hs .parents ≡ length (c .parents))
-    × (commitAnswer (commitBytes c) h ps hs .headers ≡ length (c .headers))
-    × (named h (commitBytes c) (commitAnswer (commitBytes c) h ps hs) (commitParents (commitBytes c) h ps hs) (commitHeaders (commitBytes c) h ps hs) ≡ c)
+pub commit-is-read : CommitIsRead
 unfolding answerIn
 commit-is-read h c ps hs k id bytes np nh rp rh =
     let s = commitBytes c in

@@ -3,7 +3,6 @@ use Prim.Native.Nat.{ℕ, suc, _+_, _-_}
 use mathlib.Core.Path.{_≡_, refl, ap, sym, _∙_}
 use mathlib.Core.Bool.{true, false, _&&_, not}
 use mathlib.Core.List.{List, [], _∷_, _++_, append-nil}
-use mathlib.Core.Logic.{_↔_}
 use native.Mathlib.Nat.{sub-zero}
 use native.Mathlib.Omega.{arith}
 use lib.ListN.{length, drop, length-append}
@@ -16,8 +15,10 @@ use Rattle.ground.proofs.Laws.{and-left, and-right, count-is, count-free, free-
 use Rattle.header.specs.Extra.{foldFrom, foldEnd, foldedForm}
 use Rattle.header.proofs.Laws.{form-is}
 use Rattle.unfold.specs.Unfold.{plainFrom, plainOf}
-use Rattle.commit_grammar.specs.Grammar.{foldedLines, plainLines, OneLines, FoldedForm}
-use Rattle.commit_grammar.proofs.Pieces.{cut-part, part-length}
+use Rattle.grammar.specs.Grammar.{foldedLines, plainLines, OneLines, FoldedForm}
+use Rattle.grammar.proofs.Laws.{part-length}
+use Rattle.commit_grammar.specs.Claims.{FoldedExactly, UnfoldsToLines}
+use Rattle.commit_grammar.proofs.Pieces.{cut-part}
 use Rattle.commit_grammar.proofs.Folded.{Folds, folds-read, folds-some, folds-stand}
 use Rattle.commit_grammar.proofs.Headers.{lines-some}
 
@@ -59,7 +60,7 @@ form-folded v f =
     ∙ eq-eqb (length a + 1 + length ls) (length v) (omega (arith, long))
 
 -- the test and the form are one
-pub folded-exactly : (v : List ℕ) → (foldedForm v ≡ true) ↔ FoldedForm v
+pub folded-exactly : FoldedExactly
 folded-exactly v = (folded-form v, form-folded v)
 
 -- ---- unfolding
@@ -79,7 +80,7 @@ lines-plain [] f = refl
 lines-plain (l ∷ ls) f = keeps-line 32 l (foldedLines ls) (λ z. omega arith) (f .0) ∙ ap (λ (t : List ℕ). l ++ 10 ∷ t) (lines-plain ls (f .1))
 
 -- a folded value unfolds to its lines, one space less for each but the first, the last LF kept
-pub unfolds-to-lines : (v : List ℕ) (f : FoldedForm v) → plainOf 1 v ≡ f .first ++ 10 ∷ plainLines (f .more)
+pub unfolds-to-lines : UnfoldsToLines
 unfolding plainOf
 unfolds-to-lines v f =
     ap (plainFrom 1 0) (f .whole) ∙ keeps-line 0 (f .first) (foldedLines (f .more)) (λ z. omega arith) (f .one-line)

@@ -1,2 +1,3 @@
-pub mod Grammar
 pub mod Named
+pub mod Claims
+pub mod Refused

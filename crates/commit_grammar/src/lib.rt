@@ -1,1 +1,1 @@
-// What a commit is, written out from Git's format, and that reading accepts exactly the commits: definitions and theorems, no code.
+// That reading accepts exactly the commits by the grammar, and what it refuses: theorems, no code.

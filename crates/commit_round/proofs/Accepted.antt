@@ -27,9 +27,9 @@ use Rattle.commit_read.specs.declared.Encoding.{Encoding}
 use Rattle.commit_read.specs.declared.Found.{Found}
 use Rattle.commit_read.specs.declared.Outcome.the-variants.{Whole}
 use Rattle.commit_read.proofs.Laws.{actor-parts, blank-fits, encoding-none, encoding-some, fields-parts}
-use Rattle.commit_grammar.specs.Grammar.{FoldedForm, HexForm, HexForms}
-use Rattle.commit_grammar.specs.Named.{idNamed}
-use Rattle.commit_grammar.proofs.Headers.{header-read}
+use Rattle.grammar.specs.Grammar.{FoldedForm, HexForm, HexForms}
+use Rattle.grammar.specs.Named.{idNamed}
+use Rattle.commit_grammar.proofs.Headers.{header-read, from-none, from-more}
 use Rattle.commit_grammar.proofs.Unfolded.{folded-exactly}
 use Rattle.commit_check.proofs.Laws as check
 use Rattle.commit_check.specs.Check.{ranged, idFits, encodingFits, headerFits, passing}
@@ -87,14 +87,6 @@ header-fits : (s : List ℕ) (at : ℕ) (x : HeaderRecord) (next : ℕ) → extr
 unfolding headerFits
 header-fits s at x next q =
     rw (well-made x (length s) (well s at x next (extra-parts s at x next q)), form s x (header-read s at x next q .form .valued))
-
-from-none : (left : ℕ) (s : List ℕ) (at : ℕ) → extraAt s at ≡ No → headsFrom (suc left) s at ≡ ended at
-unfolding headsFrom
-from-none left s at e = rw (e, headsFrom)
-
-from-more : (left : ℕ) (s : List ℕ) (at : ℕ) (x : HeaderRecord) (next : ℕ) → extraAt s at ≡ Got x next → headsFrom (suc left) s at ≡ header x (headsFrom left s next)
-unfolding headsFrom
-from-more left s at x next e = rw (e, headsFrom)
 
 -- all that are read fit
 abbrev pub AllFit : List ℕ → Heads → Type 0

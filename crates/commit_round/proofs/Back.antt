@@ -1,22 +1,19 @@
 -- A commit that is written is read back (`reads-back`): the ids in lower case, a value of several lines folded, one of a single line
 -- without its LF; and a folded value that comes back unfolds to the value (`fold-unfolds` of proofs/Folding.antt). Assumes nothing.
-use Prim.Native.Nat.{ℕ, _+_, _-_, _/_, _≤_}
+use Prim.Native.Nat.{ℕ, _+_, _-_, _≤_}
 use mathlib.Core.Path.{_≡_, refl, ap, sym, _∙_}
 use mathlib.Core.Bool.{Bool, true, false}
 use mathlib.Core.List.{List, [], _∷_, _++_, map, append-nil}
 use mathlib.Core.Logic.{_⊎_, inl, inr}
 use native.Mathlib.Decide.{decLt}
 use native.Mathlib.Omega.{arith}
-use lib.ListN.{length, take, length-map}
+use lib.ListN.{take, length-map}
 use lib.Dec.{eqb}
 use borrow.Author.Tests.{eq-eqb, ne-eqb, le-leb, lt-leb}
 use Rattle.ground.specs.Basics.{pick}
 use Rattle.ground.specs.Scan.{countTo, freeOf}
-use Rattle.ground.specs.Verdict.{fine, mostBytes, mostRecords}
-use Rattle.header.specs.Hex.{hexValue, isHex}
-use Rattle.header.specs.Record.{width}
-use Rattle.commit_read.specs.Read.{commitAnswer, commitParents, commitHeaders}
-use Rattle.commit_grammar.specs.Grammar.{
+use Rattle.hex.specs.Hex.{hexValue, isHex}
+use Rattle.grammar.specs.Grammar.{
   Header,
   Encoding,
   absent,
@@ -39,6 +36,7 @@ use Rattle.commit_grammar.proofs.Theorems.{commit-is-read}
 use Rattle.commit_write.specs.Fold.{foldValue}
 use Rattle.commit_write.specs.Written.{lowerDigit, lowerHex, headerWritten, headersWritten, commitWritten}
 use Rattle.commit_write.proofs.Laws.{digit-low, digit-high, digit-letter}
+use Rattle.commit_round.specs.Claims.{ReadsBack}
 use Rattle.commit_round.specs.Round.{severalLines, headerBack, commitBack, Writable, Writables, WritableCommit}
 use Rattle.commit_round.proofs.Folding.{Within, fold-shape}
 use Rattle.commit_round.proofs.Rewriting.{header-copied}
@@ -188,11 +186,7 @@ back-form h c w =
       first = first-form (c .encoding) (c .headers) (w .first);
     }
 
--- within the bounds and with room for its parents and headers, what was written is accepted, and what is named is the commit read back
-pub reads-back : (h : ℕ) (c : Commit) (ps hs : List ℕ) → WritableCommit h c → (h ≡ 20) ⊎ (h ≡ 32) → length (commitWritten c) ≤ mostBytes
-    → length ps ≤ mostRecords → length hs / width ≤ mostRecords → length (c .parents) ≤ length ps → length (c .headers) ≤ length hs / width
-    → (commitAnswer (commitWritten c) h ps hs .verdict ≡ fine)
-    × (named h (commitWritten c) (commitAnswer (commitWritten c) h ps hs) (commitParents (commitWritten c) h ps hs) (commitHeaders (commitWritten c) h ps hs) ≡ commitBack c)
+pub reads-back : ReadsBack
 reads-back h c ps hs w id bytes np nh rp rh =
     let e = written-back h c w in
     let k = commit-is-read h (commitBack c) ps hs (back-form h c w) id (rw e at bytes) np nh

@@ -13,10 +13,10 @@ use borrow.Author.Tests.{eq-eqb, ne-eqb, eqb-true, eqb-false, not-true}
 use Rattle.ground.specs.Basics.{pick}
 use Rattle.ground.specs.Scan.{countTo, freeOf}
 use Rattle.ground.proofs.Laws.{and-left, and-right}
-use Rattle.unfold.specs.Unfold.{plainOf}
-use Rattle.commit_grammar.specs.Grammar.{foldedLines, plainLines, OneLines, FoldedForm}
+use Rattle.grammar.specs.Grammar.{foldedLines, plainLines, OneLines, FoldedForm}
 use Rattle.commit_grammar.proofs.Unfolded.{unfolds-to-lines}
 use Rattle.commit_write.specs.Fold.{foldRest, foldValue}
+use Rattle.commit_round.specs.Claims.{FoldUnfolds, UnfoldedFolds}
 use Rattle.commit_round.specs.Round.{some, severalLines}
 
 -- ---- one byte
@@ -71,17 +71,13 @@ pub fold-lines : (first : List ℕ) (more : List (List ℕ)) → freeOf 10 first
 unfolding foldValue
 fold-lines first more f g = line-fold 0 first (plainLines more) (λ z. omega arith) f ∙ ap (λ (t : List ℕ). first ++ 10 ∷ t) (lines-fold more g)
 
--- with two lines or more, what is written has the folded form, and unfolds to the value
-pub fold-unfolds : (first : List ℕ) (more : List (List ℕ)) → freeOf 10 first ≡ true → OneLines more → 0 < length more
-    → FoldedForm (foldValue (first ++ 10 ∷ plainLines more))
-    × (plainOf 1 (foldValue (first ++ 10 ∷ plainLines more)) ≡ first ++ 10 ∷ plainLines more)
+pub fold-unfolds : FoldUnfolds
 fold-unfolds first more f g n =
     let w : FoldedForm (foldValue (first ++ 10 ∷ plainLines more)) =
     record { first = first; more = more; whole = fold-lines first more f g; one-line = f; one-lines = g; some = n } in
     (w, unfolds-to-lines (foldValue (first ++ 10 ∷ plainLines more)) w)
 
--- a folded value is written as it stands, which is what unfolding and folding it gives
-pub unfolded-folds : (v : List ℕ) → FoldedForm v → foldValue (plainOf 1 v) ≡ v
+pub unfolded-folds : UnfoldedFolds
 unfolded-folds v f = ap foldValue (unfolds-to-lines v f) ∙ fold-lines (f .first) (f .more) (f .one-line) (f .one-lines) ∙ sym (f .whole)
 
 -- the last byte of a value, prev where it is empty

@@ -15,12 +15,14 @@ use Rattle.commit_read.specs.Read.{commitOutcome, commitAnswer, commitParents, 
 use Rattle.commit_read.specs.declared.Outcome.{Outcome}
 use Rattle.commit_read.specs.declared.Outcome.the-variants.{Whole, Fails}
 use Rattle.commit_read.proofs.Laws.{outcome-fits, tally-count, flats-length}
-use Rattle.commit_grammar.specs.Named.{commitOf, recordsFrom, named}
+use Rattle.grammar.specs.Named.{commitOf, recordsFrom}
+use Rattle.commit_grammar.specs.Named.{named}
 use Rattle.commit_grammar.proofs.Refusals.{BadOutcome, outcome-bad}
 use Rattle.commit_check.specs.Check.{headersOf}
 use Rattle.commit_write.specs.Written.{lowerHex}
 use Rattle.commit_write.specs.Write.{commitNamed, written}
 use Rattle.commit_round.specs.Round.{LowerIds}
+use Rattle.commit_round.specs.Claims.{parentsFront, headersFront}
 use Rattle.commit_round.proofs.Rewriting.{read-rewrites}
 
 -- ---- the front of a list of records
@@ -64,20 +66,14 @@ headers-there s h ps hs v = by (commitOutcome s h ps hs) refl (outcome-bad s h (
         omega (arith, n, flats-length l, length-append (flats l) (drop (x .headers * width) hs))
 
 module _ (s : List ℕ) (h : ℕ) (ps hs : List ℕ) (v : commitAnswer s h ps hs .verdict ≡ fine) where
-  abbrev pub parentsFront : List ℕ
-  parentsFront = take (commitAnswer s h ps hs .parents) (commitParents s h ps hs)
-
-  abbrev pub headersFront : List ℕ
-  headersFront = take (commitAnswer s h ps hs .headers * width) (commitHeaders s h ps hs)
-
-  pub fronts-name : commitNamed h s (commitAnswer s h ps hs .parts) parentsFront headersFront
+  pub fronts-name : commitNamed h s (commitAnswer s h ps hs .parts) (parentsFront s h ps hs) (headersFront s h ps hs)
       ≡ named h s (commitAnswer s h ps hs) (commitParents s h ps hs) (commitHeaders s h ps hs)
   fronts-name =
-      ap (λ (xs : List HeaderRecord). commitOf h s (commitAnswer s h ps hs .parts) parentsFront xs)
+      ap (λ (xs : List HeaderRecord). commitOf h s (commitAnswer s h ps hs .parts) (parentsFront s h ps hs) xs)
       (front-records (commitHeaders s h ps hs) (commitAnswer s h ps hs .headers) (headers-there s h ps hs v))
 
   -- an accepted commit with its ids in lower case is written as itself
-  pub read-written : lowerHex (commitNamed h s (commitAnswer s h ps hs .parts) parentsFront headersFront .tree) ≡ commitNamed h s (commitAnswer s h ps hs .parts) parentsFront headersFront .tree
-      → LowerIds (commitNamed h s (commitAnswer s h ps hs .parts) parentsFront headersFront .parents)
-      → written h s (commitAnswer s h ps hs .parts) parentsFront headersFront ≡ s
-  read-written t l = read-rewrites s h ps hs v (commitNamed h s (commitAnswer s h ps hs .parts) parentsFront headersFront) fronts-name t l
+  pub read-written : lowerHex (commitNamed h s (commitAnswer s h ps hs .parts) (parentsFront s h ps hs) (headersFront s h ps hs) .tree) ≡ commitNamed h s (commitAnswer s h ps hs .parts) (parentsFront s h ps hs) (headersFront s h ps hs) .tree
+      → LowerIds (commitNamed h s (commitAnswer s h ps hs .parts) (parentsFront s h ps hs) (headersFront s h ps hs) .parents)
+      → written h s (commitAnswer s h ps hs .parts) (parentsFront s h ps hs) (headersFront s h ps hs) ≡ s
+  read-written t l = read-rewrites s h ps hs v (commitNamed h s (commitAnswer s h ps hs .parts) (parentsFront s h ps hs) (headersFront s h ps hs)) fronts-name t l

@@ -1,16 +1,14 @@
 -- What was read may be written: the parts of an accepted commit and the fronts of the lent lists pass every check (`read-sound`), so that,
 -- with its ids in lower case and its encoding not empty, it is written as itself and nothing refuses (`accepted-rewrites`).
 -- Assumes nothing.
-use Prim.Native.Nat.{ℕ, _+_, _-_, _*_, _/_, _≤_, max}
+use Prim.Native.Nat.{ℕ, _-_, _*_, _/_, _≤_, max}
 use mathlib.Core.Path.{_≡_, refl, ap, sym, subst, _∙_}
-use mathlib.Core.List.{List, [], _∷_, _++_, map, append-assoc}
+use mathlib.Core.List.{List, [], _∷_, _++_, map}
 use native.Mathlib.Omega.{arith}
-use lib.ListN.{length, take, drop, length-append, length-take}
-use lib.Seq.{getD-append-add}
+use lib.ListN.{length, take, drop, length-take}
 use Rattle.ground.specs.Verdict.{fine, counted, mostBytes}
 use Rattle.ground.proofs.Laws.{gate-open, id-small}
-use Rattle.header.specs.Record.{width, flat, headerAt}
-use Rattle.header.proofs.Laws.{header-is}
+use Rattle.header.specs.Record.{width}
 use Rattle.header.specs.declared.HeaderRecord.{HeaderRecord}
 use Rattle.commit_read.specs.Headers.{heads, restHeads, recordsOf, flats}
 use Rattle.commit_read.specs.Read.{commitOutcome, commitAnswer, commitParents, commitHeaders, answerIn, headersIn}
@@ -18,41 +16,20 @@ use Rattle.commit_read.specs.declared.Found.{Found}
 use Rattle.commit_read.specs.declared.Outcome.{Outcome}
 use Rattle.commit_read.specs.declared.Outcome.the-variants.{Whole, Fails}
 use Rattle.commit_read.proofs.Laws.{outcome-inverse, outcome-fits, tally-count}
-use Rattle.commit_grammar.specs.Grammar.{Encoding, absent, given, Commit, EncodingForm, CommitForm}
-use Rattle.commit_grammar.specs.Named.{recordsFrom, named}
+use Rattle.grammar.specs.Grammar.{Encoding, absent, given, Commit, EncodingForm, CommitForm}
+use Rattle.grammar.specs.Named.{recordsFrom}
 use Rattle.commit_grammar.proofs.Refusals.{BadOutcome, outcome-bad}
-use Rattle.commit_grammar.proofs.Theorems.{read-is-commit}
+use Rattle.commit_grammar.proofs.Theorems.{records-back, read-is-commit}
 use Rattle.commit_check.specs.Check.{headersOf, headerFits, passing}
-use Rattle.commit_check.proofs.Laws.{Sound, records-length}
+use Rattle.commit_check.specs.Sound.{Sound}
+use Rattle.commit_check.proofs.Laws.{records-length}
 use Rattle.commit_write.specs.Written.{lowerHex}
 use Rattle.commit_write.specs.Write as write
 use Rattle.commit_write.proofs.Done.{writes}
+use Rattle.commit_round.specs.Claims.{parentsFront, headersFront, AcceptedRewrites}
 use Rattle.commit_round.specs.Round.{LowerIds}
-use Rattle.commit_round.proofs.Fronts.{front-records, headers-there, parentsFront, headersFront, fronts-name, read-written}
+use Rattle.commit_round.proofs.Fronts.{front-records, headers-there, fronts-name, read-written}
 use Rattle.commit_round.proofs.Accepted.{AllFit, PartsFit, parts-fit, heads-fit, id-fits, ids-fit}
-
--- ---- records stored are the records
-
-record-at : (pre : List ℕ) (i : ℕ) → length pre ≡ i * width → (x : HeaderRecord) (rest : List ℕ) → headerAt (pre ++ (flat x ++ rest)) i ≡ x
-record-at pre i q x rest =
-    let l = flat x ++ rest in
-    let z : i * width ≡ length pre + 0 = omega (arith, q) in
-    let z1 : i * width + 1 ≡ length pre + 1 = omega (arith, q) in
-    let z2 : i * width + 2 ≡ length pre + 2 = omega (arith, q) in
-    let z3 : i * width + 3 ≡ length pre + 3 = omega (arith, q) in
-    let z4 : i * width + 4 ≡ length pre + 4 = omega (arith, q) in
-    header-is (pre ++ l) i (omega (arith, length-append pre l, q))
-    ∙ rw (z1, z2, z3, z4, z, getD-append-add pre l 1 0, getD-append-add pre l 2 0, getD-append-add pre l 3 0, getD-append-add pre l 4 0, getD-append-add pre l 0 0)
-
-records-back : (pre : List ℕ) (i : ℕ) → length pre ≡ i * width → (l : List HeaderRecord) (rest : List ℕ) → recordsFrom i (length l) (pre ++ (flats l ++ rest)) ≡ l
-unfolding recordsFrom flats
-records-back pre i q [] rest = refl
-records-back pre i q (x ∷ l) rest =
-    let a : (flat x ++ flats l) ++ rest ≡ flat x ++ (flats l ++ rest) = append-assoc (flat x) (flats l) rest in
-    let b : pre ++ (flat x ++ (flats l ++ rest)) ≡ (pre ++ flat x) ++ (flats l ++ rest) = sym (append-assoc pre (flat x) (flats l ++ rest)) in
-    let m : length (pre ++ flat x) ≡ (i + 1) * width = omega (arith, length-append pre (flat x), q) in
-    rw (a, record-at pre i q x (flats l ++ rest)) (ap (λ (t : List HeaderRecord). x ∷ t)
-    (ap (recordsFrom (i + 1) (length l)) b ∙ records-back (pre ++ flat x) (i + 1) m l rest))
 
 -- ---- what was found
 
@@ -102,14 +79,14 @@ module _ (s : List ℕ) (h : ℕ) (ps hs : List ℕ) (x : Found) (q : commitOutc
   all-fit = heads-fit (length s - 0) s (x .first)
 
 module _ (s : List ℕ) (h : ℕ) (ps hs : List ℕ) (v : commitAnswer s h ps hs .verdict ≡ fine) (room : ℕ) (m : room ≤ mostBytes) where
-  sound-by : (x : Found) → commitOutcome s h ps hs ≡ Whole x → Sound h s (commitAnswer s h ps hs .parts) (parentsFront s h ps hs v) (headersFront s h ps hs v) room
+  sound-by : (x : Found) → commitOutcome s h ps hs ≡ Whole x → Sound h s (commitAnswer s h ps hs .parts) (parentsFront s h ps hs) (headersFront s h ps hs) room
   sound-by x q =
       let o = outcome-inverse s h (length ps) (length hs / width) x q in
       let g = gate-open h (length s) (max (length ps) (length hs / width)) (o .0) in
       let c = read-is-commit s h ps hs v .1 in
       let small = id-small h (g .0) .0 in
       let p : PartsFit s (commitAnswer s h ps hs .parts) = subst (PartsFit s) (sym (parts-are s h ps hs x q)) (parts-fit s h x (o .1)) in
-      let hl : headersOf (headersFront s h ps hs v) ≡ recordsOf (heads s (x .first)) = front-are s h ps hs x q v in
+      let hl : headersOf (headersFront s h ps hs) ≡ recordsOf (heads s (x .first)) = front-are s h ps hs x q v in
       record {
         id-length = g .0;
         bytes-most = g .1;
@@ -117,17 +94,17 @@ module _ (s : List ℕ) (h : ℕ) (ps hs : List ℕ) (v : commitAnswer s h ps hs
         parents-most = omega (arith, length-take (commitAnswer s h ps hs .parents) (commitParents s h ps hs), parents-are s h ps hs x q, o .2, g .2);
         headers-most = omega (arith, length-take (commitAnswer s h ps hs .headers * width) (commitHeaders s h ps hs), headers-are s h ps hs x q, o .3, g .2);
         tree = id-fits h s (commitAnswer s h ps hs .parts .tree) (omega (arith, small)) (c .tree);
-        parents-pass = ids-fit h s (parentsFront s h ps hs v) (omega (arith, small)) (c .parents);
+        parents-pass = ids-fit h s (parentsFront s h ps hs) (omega (arith, small)) (c .parents);
         author = p .author;
         committer = p .committer;
         encoding = p .encoding;
         headers-pass =
             ap (λ (l : List HeaderRecord). passing (map (headerFits s) l)) hl ∙ all-fit s h ps hs x q ∙ ap length (sym hl)
-            ∙ records-length 0 (length (headersFront s h ps hs v) / width) (headersFront s h ps hs v);
+            ∙ records-length 0 (length (headersFront s h ps hs) / width) (headersFront s h ps hs);
         message = p .message;
       }
 
-  pub read-sound : Sound h s (commitAnswer s h ps hs .parts) (parentsFront s h ps hs v) (headersFront s h ps hs v) room
+  pub read-sound : Sound h s (commitAnswer s h ps hs .parts) (parentsFront s h ps hs) (headersFront s h ps hs) room
   read-sound = let k = read-found s h ps hs v in sound-by (k .found) (k .whole)
 
 -- ---- the theorem
@@ -138,18 +115,12 @@ allowed absent f n = refl
 allowed (given []) f n = absurd (n refl)
 allowed (given (b ∷ bs)) f n = rw f
 
--- an accepted commit whose ids are in lower case and whose encoding is not empty, handed over with the answer's parts and the fronts of the
--- lent lists, is written as itself wherever it has room
-pub accepted-rewrites : (s : List ℕ) (h : ℕ) (ps hs : List ℕ) (v : commitAnswer s h ps hs .verdict ≡ fine) (room : ℕ) → length s ≤ room → room ≤ mostBytes
-    → (c : Commit) → c ≡ named h s (commitAnswer s h ps hs) (commitParents s h ps hs) (commitHeaders s h ps hs)
-    → lowerHex (c .tree) ≡ c .tree → LowerIds (c .parents) → (c .encoding ≡ given [] → ⊥)
-    → (write.commitAnswer h s (commitAnswer s h ps hs .parts) (parentsFront s h ps hs v) (headersFront s h ps hs v) room ≡ counted (length s))
-    × (write.written h s (commitAnswer s h ps hs .parts) (parentsFront s h ps hs v) (headersFront s h ps hs v) ≡ s)
+pub accepted-rewrites : AcceptedRewrites
 accepted-rewrites s h ps hs v room l m c e t d n =
     let same = sym (fronts-name s h ps hs v ∙ sym e) in
     let f : CommitForm h c = rw e (read-is-commit s h ps hs v .1) in
     let w = read-written s h ps hs v (subst (λ (y : Commit). lowerHex (y .tree) ≡ y .tree) same t) (subst (λ (y : Commit). LowerIds (y .parents)) same d) in
     let a : write.encodingRefusal (c .encoding) ≡ 0 = allowed (c .encoding) (f .encoding) n in
-    let k = writes h s (commitAnswer s h ps hs .parts) (parentsFront s h ps hs v) (headersFront s h ps hs v) room (read-sound s h ps hs v room m)
+    let k = writes h s (commitAnswer s h ps hs .parts) (parentsFront s h ps hs) (headersFront s h ps hs) room (read-sound s h ps hs v room m)
     (ap (λ (y : Commit). write.encodingRefusal (y .encoding)) (sym same) ∙ a) (rw w l) in
     (k ∙ ap (λ (y : List ℕ). counted (length y)) w, w)

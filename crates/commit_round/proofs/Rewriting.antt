@@ -10,7 +10,7 @@ use borrow.Author.Tests.{eq-eqb, ne-eqb}
 use Rattle.ground.specs.Scan.{freeOf}
 use Rattle.ground.specs.Verdict.{fine}
 use Rattle.commit_read.specs.Read.{commitAnswer, commitParents, commitHeaders}
-use Rattle.commit_grammar.specs.Grammar.{Header, Commit, headerBytes, headersBytes, commitBytes, FoldedForm, HeaderForm, HeaderForms, CommitForm}
+use Rattle.grammar.specs.Grammar.{Header, Commit, headerBytes, headersBytes, commitBytes, FoldedForm, HeaderForm, HeaderForms, CommitForm}
 use Rattle.commit_grammar.specs.Named.{named}
 use Rattle.commit_grammar.proofs.Theorems.{read-is-commit}
 use Rattle.commit_write.specs.Written.{lowerHex, headerWritten, headersWritten, commitWritten}

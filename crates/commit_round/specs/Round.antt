@@ -10,7 +10,7 @@ use lib.Dec.{eqb}
 use Rattle.ground.specs.Basics.{pick}
 use Rattle.ground.specs.Scan.{countTo, freeOf}
 use Rattle.actor.specs.Form.{ActorForm}
-use Rattle.commit_grammar.specs.Grammar.{Header, Commit, HexForm, HexForms, FoldedForm, EncodingForm, FirstForm}
+use Rattle.grammar.specs.Grammar.{Header, Commit, HexForm, HexForms, FoldedForm, EncodingForm, FirstForm}
 use Rattle.commit_write.specs.Fold.{foldValue}
 use Rattle.commit_write.specs.Written.{lowerHex}
 

@@ -14,7 +14,8 @@ use Rattle.ground.proofs.Laws.{equal}
 use Rattle.output.specs.Output.{fitted}
 use Rattle.output.proofs.Laws.{fitted-fine, fitted-done}
 use Rattle.header.specs.declared.CommitParts.{CommitParts}
-use Rattle.commit_check.proofs.Laws.{Sound, checked-sound, sound-checked}
+use Rattle.commit_check.specs.Sound.{Sound}
+use Rattle.commit_check.proofs.Laws.{checked-sound, sound-checked}
 use Rattle.commit_write.specs.Write.{encodingNamed, written, measured, encodingRefusal, commitSize, commitAnswer}
 use Rattle.commit_write.proofs.Laws.{measured-fine, measured-checked, measured-length, checked-less, answer-bad, answer-fault, answer-fits}
 

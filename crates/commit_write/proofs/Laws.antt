@@ -10,7 +10,7 @@ use mathlib.Core.Logic.{⊎-elim}
 use lib.Dec.{eqb}
 use lib.ListN.{length, getD, drop, set, length-append, length-map, drop-of-length-le}
 use lib.Seq.{sets, drop-cons, append-snoc}
-use borrow.Author.Tests.{eq-eqb, ne-eqb, le-leb, lt-leb}
+use borrow.Author.Tests.{eq-eqb, ne-eqb}
 use Rattle.ground.specs.Basics.{pick, part}
 use Rattle.ground.specs.Verdict.{verdict, counted, refused, mostBytes, mostRecords}
 use Rattle.ground.specs.Scan.{countTo, freeOf}
@@ -19,33 +19,20 @@ use Rattle.ground.specs.declared.Answer.{Answer}
 use Rattle.ground.proofs.Laws.{equal, is-false, id-small, free-whole, whole-free, sets-append}
 use Rattle.output.specs.Output.{fitted}
 use Rattle.output.proofs.Laws.{sets-ended, fitted-bad}
+pub use Rattle.hex.proofs.Laws.{digit-low, digit-high, digit-letter}
 use Rattle.header.specs.Words.{treeWord, parentWord, authorWord, committerWord, encodingWord}
 use Rattle.header.specs.Record.{width, headerAt, nameOf, valueOf}
 use Rattle.header.specs.declared.HeaderRecord.{HeaderRecord}
 use Rattle.header.specs.declared.CommitParts.{CommitParts}
-use Rattle.commit_grammar.specs.Grammar.{absent, given, line, parentsBytes, encodingBytes}
-use Rattle.commit_grammar.specs.Named.{idNamed, headerNamed, recordsFrom}
-use Rattle.commit_grammar.proofs.Pieces.{part-length, line-length}
+use Rattle.grammar.specs.Grammar.{absent, given, line, parentsBytes, encodingBytes}
+use Rattle.grammar.specs.Named.{idNamed, headerNamed, recordsFrom}
+use Rattle.grammar.proofs.Laws.{part-length, line-length}
 use Rattle.commit_check.specs.Check.{headersOf, ranged, idFits, encodingFits, headerFits, passing, checked}
-use Rattle.commit_check.proofs.Laws.{Sound, checked-sound, sound-checked, pass-first, records-length, id-inside, range-parts, encoding-one, header-well, records-end, records-more}
+use Rattle.commit_check.specs.Sound.{Sound}
+use Rattle.commit_check.proofs.Laws.{checked-sound, sound-checked, pass-first, records-length, id-inside, range-parts, encoding-one, header-well, records-end, records-more}
 use Rattle.commit_write.specs.Fold.{foldRest, foldValue}
 use Rattle.commit_write.specs.Written.{lowerDigit, lowerHex, headerWritten, headersWritten, commitWritten}
 use Rattle.commit_write.specs.Write.{encodingNamed, written, measured, encodingRefusal, encoded, commitAnswer}
-
--- ---- a hex digit
-
-module _ (b : ℕ) where
-  pub digit-low : b < 65 → lowerDigit b ≡ b
-  unfolding lowerDigit
-  digit-low p = simp (lt-leb 65 b p)
-
-  pub digit-high : 70 < b → lowerDigit b ≡ b
-  unfolding lowerDigit
-  digit-high p = simp (le-leb 65 b (omega arith), lt-leb b 70 p)
-
-  pub digit-letter : 65 ≤ b → b ≤ 70 → lowerDigit b ≡ b + 32
-  unfolding lowerDigit
-  digit-letter p q = simp (le-leb 65 b p, le-leb b 70 q)
 
 -- ---- pieces stored one after another
 

@@ -8,13 +8,13 @@ use Rattle.ground.specs.Scan.{placeFrom}
 use Rattle.ground.specs.Verdict.{verdict, counted, refused, idLength, sizeGate, gateOf, stored}
 use Rattle.ground.specs.declared.Answer.{Answer}
 use Rattle.output.specs.Output.{fitted}
-use Rattle.header.specs.Hex.{hexValue}
+use Rattle.hex.specs.Hex.{hexValue}
 use Rattle.header.specs.Extra.{foldFrom, foldEnd, foldedForm}
 use Rattle.header.specs.Record.{headerAt, wellFormed}
 use Rattle.header.specs.declared.CommitParts.{CommitParts}
 use Rattle.unfold.specs.Unfold.{hasForm}
-use Rattle.commit_grammar.specs.Grammar.{parentsBytes, encodingBytes}
-use Rattle.commit_grammar.specs.Named.{recordsFrom}
+use Rattle.grammar.specs.Grammar.{parentsBytes, encodingBytes}
+use Rattle.grammar.specs.Named.{recordsFrom}
 use Rattle.commit_check.specs.Check.{ranged, idFits, encodingFits, headerFits, judged, after, checked}
 use Rattle.commit_write.specs.Fold.{foldRest, foldValue}
 use Rattle.commit_write.specs.Written.{lowerDigit, headerWritten, headersWritten, commitWritten}

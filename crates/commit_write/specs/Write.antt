@@ -10,8 +10,8 @@ use Rattle.ground.specs.Verdict.{verdict, counted, refused}
 use Rattle.ground.specs.declared.Answer.{Answer}
 use Rattle.output.specs.Output.{fitted}
 use Rattle.header.specs.declared.CommitParts.{CommitParts}
-use Rattle.commit_grammar.specs.Grammar.{Encoding, absent, given, Commit}
-use Rattle.commit_grammar.specs.Named.{commitOf}
+use Rattle.grammar.specs.Grammar.{Encoding, absent, given, Commit}
+use Rattle.grammar.specs.Named.{commitOf}
 use Rattle.commit_check.specs.Check.{headersOf, checked}
 use Rattle.commit_write.specs.Written.{commitWritten}
 

@@ -1,20 +1,13 @@
 -- The bytes of a commit as it is written (docs/FORMAT.md, "Commit writing"). Assumes nothing.
 use Prim.Native.Nat.{ℕ, _+_}
-use mathlib.Core.Bool.{_&&_}
 use mathlib.Core.List.{List, [], _∷_, _++_, map}
-use lib.Dec.{eqb, leb}
+use lib.Dec.{eqb}
 use Rattle.ground.specs.Basics.{pick}
+unfoldable pub use Rattle.hex.specs.Hex.{lowerDigit}
+pub use Rattle.hex.specs.Hex.{lowerHex}
 use Rattle.header.specs.Words.{treeWord, authorWord, committerWord}
-use Rattle.commit_grammar.specs.Grammar.{Header, Commit, line, parentsBytes, encodingBytes}
+use Rattle.grammar.specs.Grammar.{Header, Commit, line, parentsBytes, encodingBytes}
 use Rattle.commit_write.specs.Fold.{foldValue}
-
--- `A` to `F` become `a` to `f`
-unfoldable pub lowerDigit : ℕ → ℕ
-lowerDigit b = pick (leb 65 b && leb b 70) (b + 32) b
-
--- the digits of an id in lower case
-abbrev pub lowerHex : List ℕ → List ℕ
-lowerHex d = map lowerDigit d
 
 -- name, space, value: a folded one as it stands
 unfoldable pub headerWritten : Header → List ℕ

@@ -8,11 +8,11 @@ ghost use lib.ListN.{length, set};
 ghost use lib.Seq.{sets};
 ghost use Rattle.ground.specs.Verdict.{mostBytes, mostRecords, stored};
 ghost use Rattle.header.specs.Record.{width};
-ghost use Rattle.commit_grammar.specs.Grammar.{line, parentsBytes, encodingBytes};
-ghost use Rattle.commit_grammar.specs.Named.{idNamed, headerNamed};
+ghost use Rattle.grammar.specs.Grammar.{line, parentsBytes, encodingBytes};
+ghost use Rattle.grammar.specs.Named.{idNamed, headerNamed};
 ghost use Rattle.commit_check.specs.Check.{headersOf, idFits, encodingFits, headerFits, passing, checked};
 ghost use Rattle.commit_write.specs.Fold.{foldValue};
-ghost use Rattle.commit_write.specs.Written.{lowerDigit, lowerHex, headerWritten, headersWritten};
+ghost use Rattle.commit_write.specs.Written.{lowerHex, headerWritten, headersWritten};
 ghost use Rattle.commit_write.specs.Write.{encodingNamed, written, encodingRefusal, measured, commitSize, commitAnswer};
 use commit_check::check_commit;
 use ground::Answer;
@@ -25,23 +25,11 @@ use header::CommitParts;
 use header::HEADER_WIDTH;
 use header::HeaderRecord;
 use header::header_at;
+use hex::lower;
 use output::fit;
 use output::put;
 use output::put_ended;
 use scan::count_to;
-
-// A hex digit in lower case.
-fn lower(b: u8) -> u8
-    ensures { λ r. ⌜ r ≡ lowerDigit b ⌝ }
-{
-    if b < b'A' {
-        return b;
-    }
-    if b'F' < b {
-        return b;
-    }
-    b + 32
-}
 
 // Stores a byte where it has room.
 fn put_byte(out: &mut [u8], at: usize, b: u8)

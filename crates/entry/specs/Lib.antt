@@ -1,3 +1,4 @@
 pub mod Record
 pub mod Entry
 pub mod Decode
+pub mod Parts

@@ -136,7 +136,7 @@ fn broken(at: usize, part: usize) -> Decoded
 }
 
 // The part that is missing where so many bytes stand from the name's end on: 2 where no NUL is there, 3 where the id is cut.
-pub fn short_part(left: usize) -> usize
+fn short_part(left: usize) -> usize
     ensures { λ r. ⌜ r ≡ shortPart left ⌝ }
 {
     if left == 0 { NO_NUL } else { CUT_ID }

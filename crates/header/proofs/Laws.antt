@@ -1,4 +1,4 @@
--- Laws of hex digits, lines, extra headers and records, one for each way through a definition. Assumes nothing.
+-- Laws of lines, extra headers and records, one for each way through a definition. Assumes nothing.
 use Prim.Native.Nat.{ℕ, suc, _+_, _*_, _/_, _<_, _≤_}
 use mathlib.Core.Path.{_≡_, refl, ap, sym, _∙_}
 use mathlib.Core.Bool.{Bool, true, false, true≢false, _&&_}
@@ -14,7 +14,7 @@ use borrow.Author.Tests.{eq-eqb, ne-eqb, lt-ltb, le-ltb, ltb-true, ltb-false, le
 use Rattle.ground.specs.Basics.{pick, part}
 use Rattle.ground.specs.Scan.{countTo, placeFrom, sameBytes}
 use Rattle.ground.proofs.Laws.{and-left, and-right, place-from}
-use Rattle.header.specs.Hex.{hexValue, isHex}
+use Rattle.header.specs.Hex.{isHex}
 use Rattle.header.specs.Line.{wordAt, idFrom, idAt, lineFrom, lineAt}
 use Rattle.header.specs.Extra.{foldFrom, foldEnd, foldedOr, extraAt, foldedForm}
 use Rattle.header.specs.Record.{width, headerOf, flat, headerAt, putHeader, wellFormed}
@@ -25,18 +25,6 @@ use Rattle.header.specs.declared.Extra.the-variants.{Got, No}
 -- what a test says of a number, from the number's own name and the test's answer
 pub told : {A : Type 0} (f : ℕ → A) {m n : ℕ} {g w : A} → m ≡ n → g ≡ f m → g ≡ w → f n ≡ w
 told f p q r = ap f (sym p) ∙ sym q ∙ r
-
--- ---- hex digits, from a place on: one, another byte, the end
-
-module _ (t : List ℕ) (i : ℕ) where
-  pub hex-more : i < length t → (hexValue (getD t i 0) ≡ 255 → ⊥) → isHex (drop i t) ≡ isHex (drop (i + 1) t)
-  hex-more h e = rw (add-one i, drop-cons t i 0 h) (simp (ne-eqb (hexValue (getD t i 0)) 255 e))
-
-  pub hex-not : i < length t → hexValue (getD t i 0) ≡ 255 → isHex (drop i t) ≡ false
-  hex-not h e = rw (drop-cons t i 0 h) (simp (eq-eqb (hexValue (getD t i 0)) 255 e))
-
-  pub hex-end : length t ≤ i → isHex (drop i t) ≡ true
-  hex-end h = rw (drop-of-length-le t {i = i} h)
 
 -- ---- a word and a space
 

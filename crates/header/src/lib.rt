@@ -1,10 +1,10 @@
 // The lines of a commit's header: words, ids, values, extra headers and their records (docs/FORMAT.md, "Commits"; Rust: src/parse.rs).
 ghost use mathlib.Core.Path.{_≡_};
-ghost use Rattle.header.specs.Hex.{hexValue, isHex};
 ghost use Rattle.header.specs.Line.{wordAt, idFrom, idAt, lineAt};
 ghost use Rattle.header.specs.Extra.{foldEnd, extraAt, foldedForm};
 ghost use Rattle.header.specs.Record.{headerAt, putHeader, wellFormed};
 use ground::byte_at;
+use hex::is_hex;
 use scan::count_to;
 use scan::find_byte;
 use scan::same_bytes;
@@ -45,45 +45,6 @@ pub enum Line {
 pub enum Extra {
     Got(HeaderRecord, usize),
     No,
-}
-
-// The value of a hex digit of either case, 255 for another byte.
-pub fn hex_digit(b: u8) -> u8
-    ensures { λ r. ⌜ r ≡ hexValue b ⌝ }
-{
-    if b < b'0' {
-        return 255;
-    }
-    if b <= b'9' {
-        return b - b'0';
-    }
-    if b < b'A' {
-        return 255;
-    }
-    if b <= b'F' {
-        return b - 55;
-    }
-    if b < b'a' {
-        return 255;
-    }
-    if b <= b'f' {
-        return b - 87;
-    }
-    255
-}
-
-// Whether each byte is a hex digit.
-pub fn is_hex(t: &[u8]) -> bool
-    ensures { λ r. ⌜ r ≡ isHex (now (t .entry)) ⌝ }
-{
-    let mut i: usize = 0;
-    while i < t.len() {
-        if hex_digit(t[i]) == 255 {
-            return false;
-        }
-        i += 1;
-    }
-    true
 }
 
 // Whether a word and one space stand at a place.

@@ -1,4 +1,4 @@
--- The laws of the halving and of the lookup. Nothing else opens `halving`, `searchFrom` or `lookupIn`. Assumes nothing.
+-- The laws of the halving and of the lookup. Nothing else opens `halving`, `searchFrom`, `lookupIn` or `anyIn`. Assumes nothing.
 use mathlib.Core.Path.{_≡_, refl, sym, ap, subst, _∙_}
 use mathlib.Core.Bool.{Bool, true, false}
 use mathlib.Core.List.{List}
@@ -7,7 +7,7 @@ use native.Mathlib.Decide.{decLt}
 use native.Mathlib.Omega.{arith}
 use lib.ListN.{length}
 use lib.Count.{leading-length}
-use borrow.Author.Tests.{lt-ltb, le-ltb}
+use borrow.Author.Tests.{eq-eqb, ne-eqb, lt-ltb, le-ltb}
 use Rattle.ground.specs.Verdict.{verdict, gateOf}
 use Rattle.ground.specs.declared.Verdict.{Verdict}
 use Rattle.ground.specs.declared.Gate.the-variants.{Open, Shut}
@@ -18,7 +18,7 @@ use Rattle.entry.specs.declared.EntryRecord.{EntryRecord}
 use Rattle.entry.specs.Record.{wellFormed, nameOf, folderOf}
 use Rattle.lookup.specs.declared.Looked.{Looked}
 use Rattle.lookup.specs.Halving.{Met, bad, met, found, absent, declined, mid, turn, halving, searchFrom, mostComparisons}
-use Rattle.lookup.specs.Lookup.{compareEntry, nth, compareAt, lookupIn}
+use Rattle.lookup.specs.Lookup.{compareEntry, nth, compareAt, lookupIn, anyIn}
 
 -- ---- binary digits
 
@@ -131,11 +131,6 @@ module _ (h : ℕ) (object name : List ℕ) (folder : Bool) (e : EntryRecord) wh
   unfolding compareEntry
   met-good w = rw w
 
--- what a comparison said of a record's name, with the sort that was found for it
-pub told-of : (object name : List ℕ) (folder : Bool) (e : EntryRecord) {sort : Bool} {r o : Order} → sort ≡ folderOf e → r ≡ nameOrder (nameOf object e) sort name folder → r ≡ o
-    → nameOrder (nameOf object e) (folderOf e) name folder ≡ o
-told-of object name folder e p q told = ap (λ (s : Bool). nameOrder (nameOf object e) s name folder) (sym p) ∙ sym q ∙ told
-
 -- the search between low and high among records, where e is the one in the middle
 module _ (h : ℕ) (object : List ℕ) (records : List EntryRecord) (name : List ℕ) (folder : Bool) (low high c : ℕ) (l : low < high) where
   abbrev how : ℕ → Met
@@ -144,15 +139,19 @@ module _ (h : ℕ) (object : List ℕ) (records : List EntryRecord) (name : List
   search-met : (o : Met) → how (mid low high) ≡ o → searchFrom how low high c ≡ turn o (searchFrom how) low high (mid low high) c
   search-met o q = search-more how low high c l ∙ ap (λ (x : Met). turn x (searchFrom how) low high (mid low high) c) q
 
-  module _ (e : EntryRecord) (r : e ≡ nth records (low + (high - low) / 2)) where
+  module _ (e : EntryRecord) (read : e ≡ nth records (low + (high - low) / 2)) where
     pub search-bad : wellFormed h (length object) e ≡ false → searchFrom how low high c ≡ declined (verdict 10 (low + (high - low) / 2))
     unfolding mid
-    search-bad w = search-met bad (ap (compareEntry h object name folder) (sym r) ∙ met-bad h object name folder e w)
+    search-bad w = search-met bad (ap (compareEntry h object name folder) (sym read) ∙ met-bad h object name folder e w)
 
-    pub search-good : wellFormed h (length object) e ≡ true → (o : Order) → nameOrder (nameOf object e) (folderOf e) name folder ≡ o
+    -- by what the leaves answer that compare it
+    pub search-told : wellFormed h (length object) e ≡ true → (o : Order) {sort : Bool} {r : Order} → sort ≡ folderOf e
+        → r ≡ nameOrder (nameOf object e) sort name folder → r ≡ o
         → searchFrom how low high c ≡ turn (met o) (searchFrom how) low high (low + (high - low) / 2) c
     unfolding mid
-    search-good w o q = search-met (met o) (ap (compareEntry h object name folder) (sym r) ∙ met-good h object name folder e w ∙ ap met q)
+    search-told w o {sort} {r} f k t =
+        let q : nameOrder (nameOf object e) (folderOf e) name folder ≡ o = ap (λ (x : Bool). nameOrder (nameOf object e) x name folder) (sym f) ∙ sym k ∙ t in
+        search-met (met o) (ap (compareEntry h object name folder) (sym read) ∙ met-good h object name folder e w ∙ ap met q)
 
 -- ---- the whole
 
@@ -165,3 +164,20 @@ module _ (h : ℕ) (object : List ℕ) (records : List EntryRecord) (name : List
       → lookupIn h object records name folder ≡ searchFrom (compareAt h object records name folder) 0 (length records) 0
   unfolding lookupIn
   lookup-open e = rw e
+
+-- ---- a name of any sort
+
+module _ (h : ℕ) (object : List ℕ) (records : List EntryRecord) (name : List ℕ) {first : Looked} (f : first ≡ lookupIn h object records name false) where
+  pub any-first : (first .verdict .number ≡ 15 → ⊥) → anyIn h object records name ≡ first
+  unfolding anyIn
+  any-first n = rw (← f) (simp (ne-eqb (first .verdict .number) 15 n))
+
+  module _ (gone : first .verdict .number ≡ 15) {second : Looked} (s : second ≡ lookupIn h object records name true) where
+    pub any-broken : second .verdict .number ≡ 10 → anyIn h object records name ≡ second
+    unfolding anyIn
+    any-broken b = rw (← f, ← s) (simp (eq-eqb (first .verdict .number) 15 gone, eq-eqb (second .verdict .number) 10 b))
+
+    pub any-second : (second .verdict .number ≡ 10 → ⊥)
+        → anyIn h object records name ≡ record { verdict = second .verdict; index = second .index; compared = first .compared + second .compared }
+    unfolding anyIn
+    any-second n = rw (← f, ← s) (simp (eq-eqb (first .verdict .number) 15 gone, ne-eqb (second .verdict .number) 10 n))

@@ -2,14 +2,16 @@
 -- Assumes nothing.
 use mathlib.Core.Path.{_≡_, refl, sym, ap, subst, _∙_}
 use mathlib.Core.Logic.{_⊎_, inl, inr, ⊎-elim, _↔_}
-use mathlib.Core.Bool.{Bool, true}
+use mathlib.Core.Bool.{Bool, true, false}
 use mathlib.Core.List.{List, _∷_, _++_}
-use Prim.Native.Nat.{ℕ, zero, suc, _+_, _-_, _^_, _≤_, _<_, max}
+use Prim.Native.Nat.{ℕ, zero, suc, _+_, _-_, _*_, _^_, _≤_, _<_, max}
 use native.Mathlib.Nat.{pow-suc}
 use native.Mathlib.Numerals.{add-one}
 use native.Mathlib.Decide.{decLt}
 use native.Mathlib.Omega.{arith}
+use lib.Dec.{eqb}
 use lib.ListN.{length, length-append}
+use Rattle.ground.specs.Basics.{pick}
 use Rattle.ground.specs.Verdict.{verdict, gateOf}
 use Rattle.ground.specs.declared.Gate.{Gate}
 use Rattle.ground.specs.declared.Gate.the-variants.{Open, Shut}
@@ -23,7 +25,7 @@ use Rattle.entry.specs.declared.EntryRecord.{EntryRecord}
 use Rattle.entry.specs.Record.{nameOf, folderOf}
 use Rattle.lookup.specs.declared.Looked.{Looked}
 use Rattle.lookup.specs.Halving.{Met, bad, met, found, absent, mid, turn, searchFrom, mostComparisons}
-use Rattle.lookup.specs.Lookup.{nth, compareAt, lookupIn, Allowed, standing, Sorted, Stands}
+use Rattle.lookup.specs.Lookup.{nth, compareAt, lookupIn, anyIn, Allowed, standing, Sorted, Stands}
 use Rattle.lookup.proofs.Laws.{digits-are, mid-high, search-end, search-more, Turns, by-turns, met-good, lookup-shut, lookup-open}
 
 -- ---- how often it compares
@@ -56,6 +58,37 @@ lookup-count h object records name folder = go (gateOf h (max (length object) (l
         rw (lookup-open h object records name folder e)
         (search-count (compareAt h object records name folder) (length records) (omega (arith, gate-open h _ (length records) e)))
     go (Shut v) e = rw (lookup-shut h object records name folder v e) (omega arith)
+
+-- so the count is small
+pub looked-small : (h : ℕ) (object : List ℕ) (records : List EntryRecord) (name : List ℕ) (folder : Bool) {r : Looked} → r ≡ lookupIn h object records name folder
+    → r .compared ≤ 64
+unfolding mostComparisons
+looked-small h object records name folder e =
+    subst (λ (x : Looked). x .compared ≤ 64) (sym e) (omega (arith, lookup-count h object records name folder))
+
+-- a name of any sort takes at most twice as many comparisons
+pub any-count : (h : ℕ) (object : List ℕ) (records : List EntryRecord) (name : List ℕ)
+    → (anyIn h object records name) .compared ≤ 2 * mostComparisons (length records)
+unfolding anyIn
+any-count h object records name = go (eqb (first .verdict .number) 15) (eqb (second .verdict .number) 10)
+  where
+    first : Looked
+    first = lookupIn h object records name false
+
+    second : Looked
+    second = lookupIn h object records name true
+
+    a : first .compared ≤ mostComparisons (length records)
+    a = lookup-count h object records name false
+
+    b : second .compared ≤ mostComparisons (length records)
+    b = lookup-count h object records name true
+
+    go : (v w : Bool) → pick v (pick w second (record { verdict = second .verdict; index = second .index; compared = first .compared + second .compared })) first .compared
+        ≤ 2 * mostComparisons (length records)
+    go true true = omega (arith, b)
+    go true false = omega (arith, a, b)
+    go false w = omega (arith, a)
 
 -- ---- the halving where no record is bad
 

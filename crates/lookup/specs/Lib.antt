@@ -1,3 +1,2 @@
 pub mod Halving
 pub mod Lookup
-pub mod Probe

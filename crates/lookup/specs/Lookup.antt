@@ -1,8 +1,9 @@
 -- The lookup of a name in a list of records, and the sorted listings it is meant for (docs/FORMAT.md, "Lookup"). Assumes nothing.
 use Prim.Native.Nat.{ℕ, _+_, _<_, max}
 use mathlib.Core.Path.{_≡_}
-use mathlib.Core.Bool.{Bool, true}
+use mathlib.Core.Bool.{Bool, true, false}
 use mathlib.Core.List.{List}
+use lib.Dec.{eqb}
 use lib.ListN.{length, getD}
 use Rattle.ground.specs.Basics.{pick}
 use Rattle.ground.specs.Verdict.{gateOf}
@@ -39,6 +40,16 @@ behind (Shut v) r = declined v
 unfoldable pub lookupIn : ℕ → List ℕ → List EntryRecord → List ℕ → Bool → Looked
 lookupIn h object records name folder =
     behind (gateOf h (max (length object) (length name)) (length records)) (searchFrom (compareAt h object records name folder) 0 (length records) 0)
+
+-- what a second lookup answers after one that compared c records: those are counted too, but with a 10, which counts none
+abbrev pub afterwards : ℕ → Looked → Looked
+afterwards c r = pick (eqb (r .verdict .number) 10) r (record { verdict = r .verdict; index = r .index; compared = c + r .compared })
+
+-- a name of any sort: as anything else than a folder, and where that is not there, as a folder
+unfoldable pub anyIn : ℕ → List ℕ → List EntryRecord → List ℕ → Looked
+anyIn h object records name =
+    let first = lookupIn h object records name false in
+    pick (eqb (first .verdict .number) 15) (afterwards (first .compared) (lookupIn h object records name true)) first
 
 -- ---- what the theorems speak of
 

@@ -11,6 +11,7 @@ use lib.ListN.{length, getD, drop, set, length-append, length-set, List·getD-ap
 use lib.Seq.{drop-cons, append-snoc, getD-set-same, drop-set-lt}
 use borrow.Author.Tests.{le-leb, lt-ltb, le-ltb, ltb-true, ltb-false}
 use Rattle.ground.specs.Basics.{pick}
+use Rattle.loose_header.specs.Digits.{saidAfter, areDigits}
 use Rattle.loose_header.specs.Header.{digits, decimal}
 
 -- ---- one more digit
@@ -78,20 +79,10 @@ decimal-most n = digits-most 20 n
 
 -- ---- what they say
 
--- the number that decimal digits say, read from the left after some that said a number
-unfoldable pub saidAfter : ℕ → List ℕ → ℕ
-saidAfter n [] = n
-saidAfter n (d ∷ ds) = saidAfter (n * 10 + (d - 48)) ds
-
 said-append : (n : ℕ) (a b : List ℕ) → saidAfter n (a ++ b) ≡ saidAfter (saidAfter n a) b
 unfolding saidAfter
 said-append n [] b = refl
 said-append n (d ∷ a) b = said-append (n * 10 + (d - 48)) a b
-
--- every byte is a digit
-unfoldable pub areDigits : List ℕ → Bool
-areDigits [] = true
-areDigits (d ∷ ds) = (leb 48 d && leb d 57) && areDigits ds
 
 digits-append : (a b : List ℕ) → areDigits (a ++ b) ≡ (areDigits a && areDigits b)
 unfolding areDigits

@@ -20,6 +20,7 @@ use Rattle.entry.specs.declared.EntryRecord.{EntryRecord}
 use Rattle.entry.specs.declared.Decoded.the-variants.{Whole}
 use Rattle.reading.specs.Listing.{Listing, done, entry, follow, plain, recordsIn}
 use Rattle.reading.proofs.Laws.{plain-some, plain-none}
+use Rattle.one_listing.specs.Again.{againEntry}
 
 -- an entry that can be written and read again: a mode of 16 bits that is not 0, no NUL in the name, an id of h bytes
 pub record Writable (h : ℕ) (e : Entry) : Type 0 where
@@ -32,11 +33,7 @@ abbrev pub AllWritable : ℕ → List Entry → Type 0
 AllWritable h [] = Unit {0}
 AllWritable h (e ∷ es) = Writable h e × AllWritable h es
 
--- the entry that is read where e was written: its mode as its text reads
-unfoldable pub againEntry : Entry → Entry
-againEntry e = record { mode = again (e .mode); name = e .name; id = e .id }
-
--- its record, where it was written at a place
+-- the record of an entry, where it was written at a place
 unfoldable pub recordFor : ℕ → Entry → EntryRecord
 recordFor at e = recordAt at (again (e .mode)) (length (writeMode (e .mode)) + 1) (length (e .name))
 

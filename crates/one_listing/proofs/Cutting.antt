@@ -10,7 +10,7 @@ use lib.ListN.{length, getD, take, drop, length-append, length-drop, take-append
 use lib.Seq.{drop-drop, drop-cons, append-snoc, take-append-seam, take-at, drop-append-seam, length-take-le}
 use borrow.Author.Tests.{eq-eqb, eqb-true}
 use Rattle.ground.specs.Basics.{pick}
-use Rattle.ground.specs.Scan.{countTo, sameBytes, freeOf}
+use Rattle.ground.specs.Scan.{countTo, sameBytes}
 use Rattle.ground.specs.Verdict.{verdict}
 use Rattle.ground.proofs.Laws.{same-refl, same-true, count-is}
 use Rattle.mode.specs.Read.{readMode}
@@ -29,31 +29,15 @@ use Rattle.entry.specs.declared.Cursor.{Cursor}
 use Rattle.entry.specs.declared.Decoded.{Decoded}
 use Rattle.entry.specs.declared.Decoded.the-variants.{Whole, Broken}
 use Rattle.entry.proofs.Laws.{Parts, decode-parts}
+use Rattle.rules.specs.Rules.{Rules, orElse, isText, judge}
 use Rattle.reading.specs.Listing.{Listing, stop, entry, follow, plain, recordsIn, tally}
-use Rattle.reading.specs.Rules.{Rules, orElse, isText, judge, textOf, cut}
 use Rattle.reading.specs.declared.Counted.the-variants.{Total}
-use Rattle.reading.proofs.Laws.{cut-fine}
-use Rattle.one_listing.specs.Sound.{isMode, Permitted, Sound, Before}
-use Rattle.one_listing.proofs.Back.{Writable, AllWritable, againEntry, recordFor, listed, bytes-append, record-names}
-
--- ---- what is asked of rules
-
--- a row's text is the one that is written for its mode, which is not 0, has 16 bits and reads back as itself
-pub record RowOk (r : Written) : Type 0 where
-  pub written : shown (r .text) ≡ writeMode (r .mode)
-  pub some : r .mode ≡ 0 → ⊥
-  pub small : r .mode < 65536
-  pub same : again (r .mode) ≡ r .mode
-
-abbrev pub RowsOk : List Written → Type 0
-RowsOk [] = Unit {0}
-RowsOk (r ∷ rs) = RowOk r × RowsOk rs
-
--- the laws that rules have to keep: of their rows, that a permitted name has no NUL, and that an entry permitted after another stands after it
-pub record RulesOk (R : Rules) : Type 0 where
-  pub modes : RowsOk (R .modes)
-  pub names : (n : List ℕ) → R .nameNo n ≡ 0 → freeOf 0 n ≡ true
-  pub after : (p : Entry) (ps : List Entry) (e : Entry) → R .afterNo (p ∷ ps) e ≡ 0 → Before p e
+use Rattle.strict.specs.Strict.{textOf, cut}
+use Rattle.strict.proofs.Laws.{cut-fine}
+use Rattle.one_listing.specs.Sound.{isMode, Permitted, Sound}
+use Rattle.one_listing.specs.Lawful.{RowOk, RowsOk, RulesOk}
+use Rattle.one_listing.specs.Again.{againEntry}
+use Rattle.one_listing.proofs.Back.{Writable, AllWritable, recordFor, listed, bytes-append, record-names}
 
 -- ---- modes and texts of the rows
 
@@ -240,7 +224,7 @@ module _ (h : ℕ) (s : List ℕ) (at : ℕ) (b : List ℕ) (here-is : drop at s
   unfolding textOf
   text-is = let z : e .«name_start» - 1 - at ≡ P .size - 1 = omega (arith, start-is) in rw (z, here-is)
 
-  name-is : nameOf s e ≡ take t c
+  pub name-is : nameOf s e ≡ take t c
   unfolding nameOf
   name-is =
       let z : e .«name_end» - e .«name_start» ≡ t = omega (arith, start-is, end-is) in
@@ -259,17 +243,24 @@ module _ (h : ℕ) (s : List ℕ) (at : ℕ) (b : List ℕ) (here-is : drop at s
       let z : at + (next .at - at) ≡ next .at = omega (arith, P .past) in
       sym (ap (drop (next .at - at)) (sym here-is) ∙ drop-drop (next .at - at) at s ∙ ap (λ (x : ℕ). drop x s) z)
 
-  id-sized : length (idOf h s e) ≡ h
+  pub id-sized : length (idOf h s e) ≡ h
   id-sized = ap length id-bytes ∙ length-take-le h (drop (t + 1) c) (omega (arith, length-drop (t + 1) c, P .inside))
 
+  -- the bytes are a text and a space, the name and NUL, the id, and what follows
+  pub laid-out : (w : List ℕ) → take (P .size) b ≡ w ++ 32 ∷ [] → b ≡ w ++ 32 ∷ (nameOf s e ++ 0 ∷ (idOf h s e ++ drop (next .at - at) b))
+  laid-out w q =
+      sym (rw (name-is, id-bytes, rest-is)
+      (ap (λ (l : List ℕ). w ++ 32 ∷ l) (rejoin h c (P .inside)) ∙ sym (append-snoc w 32 c) ∙ ap (λ (l : List ℕ). l ++ c) (sym q)
+      ∙ take-append-drop (P .size) b))
+
   -- the bytes are those of the entry and what follows
-  bytes-are : take (P .size) b ≡ writeMode (e .mode) ++ 32 ∷ [] → b ≡ entryBytes (entryOf h s e) ++ drop (next .at - at) b
+  pub bytes-are : take (P .size) b ≡ writeMode (e .mode) ++ 32 ∷ [] → b ≡ entryBytes (entryOf h s e) ++ drop (next .at - at) b
   unfolding entryBytes entryOf
   bytes-are w =
-      sym (rw (name-is, id-bytes, rest-is)
-      (append-assoc (writeMode (e .mode)) (32 ∷ (take t c ++ 0 ∷ take h (drop (t + 1) c))) (drop (t + 1 + h) c)
-      ∙ ap (λ (l : List ℕ). writeMode (e .mode) ++ 32 ∷ l) (append-assoc (take t c) (0 ∷ take h (drop (t + 1) c)) (drop (t + 1 + h) c) ∙ rejoin h c (P .inside))
-      ∙ sym (append-snoc (writeMode (e .mode)) 32 c) ∙ ap (λ (l : List ℕ). l ++ c) (sym w) ∙ take-append-drop (P .size) b))
+      let r : List ℕ = drop (next .at - at) b in
+      laid-out (writeMode (e .mode)) w
+      ∙ sym (append-assoc (writeMode (e .mode)) (32 ∷ (nameOf s e ++ 0 ∷ idOf h s e)) r
+      ∙ ap (λ (l : List ℕ). writeMode (e .mode) ++ 32 ∷ l) (append-assoc (nameOf s e) (0 ∷ idOf h s e) r))
 
   -- an entry that the rules permit, whose mode text is one of theirs
   pub entry-sound : (R : Rules) → RulesOk R → 6 < h → (before : List Entry) → judge R before (textOf s at e) (entryOf h s e) ≡ 0

@@ -16,11 +16,11 @@ use Rattle.order.specs.declared.Order.{Order}
 use Rattle.order.specs.declared.Order.the-variants.{Below, Same, Above}
 use Rattle.entry.specs.Entry.{Entry}
 use Rattle.doubles.specs.Doubles.{namedBefore}
-use Rattle.reading.specs.Rules.{orElse, groupRow, modesOf, permitted, lower, isDotGit, nameNumber, isBelow, standsBefore, isAfter, afterNumber, gitRules}
-use Rattle.reading.proofs.Judging.{permitted-parts}
+use Rattle.rules.specs.Rules.{orElse, groupRow, modesOf, isPlain, permitted, lower, isDotGit, nameNumber, isBelow, standsBefore, isAfter, afterNumber, gitRules}
+use Rattle.rules.proofs.Laws.{permitted-parts}
 use Rattle.one_listing.specs.Sound.{isMode, Permitted, Sound, Five, SoundEntry, Before, Ascending, EachSound, Distinct, SoundListing}
+use Rattle.one_listing.specs.Lawful.{RowsOk, RulesOk}
 use Rattle.one_listing.specs.Demand.{OneListing, ShortRoom, OneObject}
-use Rattle.one_listing.proofs.Cutting.{RowsOk, RulesOk}
 use Rattle.one_listing.proofs.Theorem.{one-listing, short-room, one-object}
 
 -- ---- the laws
@@ -91,6 +91,7 @@ git-ok k =
     record {
       modes = modes-ok k;
       names = λ n e. permitted-parts n (named-parts n e .0) .1;
+      slashless = λ n e. permitted-parts n (named-parts n e .0) .2;
       after = λ p ps e q. after-before p ps e (placed-parts (p ∷ ps) e q .0);
     }
 
@@ -183,7 +184,7 @@ permitted-plain k h before e p =
     }
 
 name-fine : (k h : ℕ) (e : Entry) → SoundEntry k h e → nameNumber (e .name) ≡ 0
-unfolding nameNumber permitted isDotGit
+unfolding nameNumber permitted isPlain isDotGit
 name-fine k h e s =
     rw (
       this-not (e .name) [] (s .some),

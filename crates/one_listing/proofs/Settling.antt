@@ -6,9 +6,9 @@ use mathlib.Core.Logic.{_⊎_, inl, inr}
 use Rattle.mode.specs.Mode.{isTree}
 use Rattle.order.proofs.Laws.{order-trans, order-irreflexive}
 use Rattle.entry.specs.Entry.{Entry}
-use Rattle.reading.specs.Rules.{Rules}
+use Rattle.rules.specs.Rules.{Rules}
 use Rattle.one_listing.specs.Sound.{Sound, Before}
-use Rattle.one_listing.proofs.Cutting.{RulesOk}
+use Rattle.one_listing.specs.Lawful.{RulesOk}
 
 before-trans : (a b c : Entry) → Before a b → Before b c → Before a c
 before-trans a b c = order-trans (a .name) (isTree (a .mode)) (b .name) (isTree (b .mode)) (c .name) (isTree (c .mode))

@@ -4,23 +4,26 @@ use native.Mathlib.Omega.{arith}
 use mathlib.Core.Path.{_≡_, refl, sym, ap, subst, _∙_}
 use mathlib.Core.List.{List, [], _∷_, _++_}
 use mathlib.Core.Logic.{_⊎_}
-use lib.ListN.{length, take, drop}
+use lib.ListN.{length, take, drop, length-map}
 use Rattle.ground.specs.Verdict.{verdict, counted, mostBytes, mostRecords, stored}
 use Rattle.ground.specs.declared.Verdict.{Verdict}
 use Rattle.ground.specs.declared.Answer.{Answer}
 use Rattle.ground.proofs.Laws.{gate-fine, gate-open, id-small, stored-done}
 use Rattle.entry.specs.Record.{many, recordsOf}
-use Rattle.entry.specs.Entry.{Entry, entriesOf, asWritten}
+use Rattle.entry.specs.Entry.{Entry, entryOf, entriesOf, asWritten}
 use Rattle.entry.specs.declared.EntryRecord.{EntryRecord}
+use Rattle.rules.specs.Rules.{Rules}
 use Rattle.reading.specs.Listing.{Listing, listing, tally, recordsIn, flats}
-use Rattle.reading.specs.Rules.{Rules, cut, strictly}
 use Rattle.reading.specs.Whole.{inRoom, readAnswer, readRecords}
 use Rattle.reading.specs.declared.Counted.the-variants.{Total}
-use Rattle.reading.proofs.Laws.{answer-counted, room-fine, room-short, answer-done, cut-refuses, tally-length, strict-plain}
+use Rattle.reading.proofs.Laws.{answer-counted, room-fine, room-short, answer-done, tally-length}
+use Rattle.strict.specs.Strict.{cut, strictly}
+use Rattle.strict.proofs.Laws.{cut-refuses, strict-plain}
 use Rattle.one_listing.specs.Sound.{Sound}
-use Rattle.one_listing.specs.Demand.{Accepts, SameSet, OneListing, ShortRoom, OneObject}
+use Rattle.one_listing.specs.Lawful.{RulesOk}
+use Rattle.one_listing.specs.Demand.{Accepts, SameSet, SomeListing, OneListing, ShortRoom, OneObject}
 use Rattle.one_listing.proofs.Back.{listed, read-written, names-listed, listed-length}
-use Rattle.one_listing.proofs.Cutting.{RulesOk, sound-writable, sound-again, sound-uncut, uncut-sound}
+use Rattle.one_listing.proofs.Cutting.{sound-writable, sound-again, sound-uncut, uncut-sound}
 use Rattle.one_listing.proofs.Settling.{set-settles}
 
 -- the records that were stored are the records that are read back
@@ -38,6 +41,19 @@ pub listed-total : (at n : ℕ) (es : List Entry) → tally n (listed at es) ≡
 unfolding tally listed
 listed-total at n [] = let z : n + 0 ≡ n = omega arith in rw z
 listed-total at n (e ∷ es) = let z : n + length (e ∷ es) ≡ n + 1 + length es = omega arith in rw z (listed-total _ (n + 1) es)
+
+-- whatever is counted has a listing: what the stored records name
+pub some-listing : (R : Rules) → SomeListing R
+some-listing R h s lent n a =
+    let l : Listing = strictly R h s in
+    let d = answer-done l h (length s) (many (length lent)) (many (length lent)) n (cut-refuses R h s) a in
+    let z : 0 + length (recordsIn l) ≡ length (recordsIn l) = omega arith in
+    let m : n ≡ length (recordsIn l) = tally-length 0 l n (d .1) ∙ z in
+    let es : List Entry = entriesOf h s (recordsIn l) in
+    let k : length es ≡ n = length-map (recordsIn l) (entryOf h s) ∙ sym m in
+    let r : take (length es) (recordsOf (readRecords h s l lent)) ≡ recordsIn l
+    = stored-records l (readAnswer h s l lent .verdict) lent (length es) (ap (λ (x : Answer). x .verdict .number) a) (k ∙ m) in
+    (es, record { answer = a ∙ ap counted (sym k); listed = ap (entriesOf h s) r })
 
 module _ (R : Rules) (ok : RulesOk R) where
   -- a sound listing as written is read to its end, and the records name it

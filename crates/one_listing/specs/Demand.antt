@@ -7,8 +7,9 @@ use lib.ListN.{length, take}
 use Rattle.ground.specs.Verdict.{verdict, counted, refused, mostBytes, mostRecords}
 use Rattle.entry.specs.Record.{many, recordsOf}
 use Rattle.entry.specs.Entry.{Entry, entriesOf, asWritten}
-use Rattle.reading.specs.Rules.{Rules, strictly}
+use Rattle.rules.specs.Rules.{Rules}
 use Rattle.reading.specs.Whole.{readAnswer, readRecords}
+use Rattle.strict.specs.Strict.{strictly}
 use Rattle.one_listing.specs.Sound.{Sound}
 
 -- the strict reader accepts the bytes s, with this list lent, and returns this listing: it counts its entries, and the first records of the list name them
@@ -19,6 +20,10 @@ pub record Accepts (R : Rules) (h : ℕ) (s lent : List ℕ) (es : List Entry) :
 -- two listings hold the same set of entries
 abbrev pub SameSet : List Entry → List Entry → Type 0
 SameSet es fs = (e : Entry) → List·Memᴰ e es ↔ List·Memᴰ e fs
+
+-- whatever is counted has a listing: where the strict reader is done, it returns one
+abbrev pub SomeListing : Rules → Type 0
+SomeListing R = (h : ℕ) (s lent : List ℕ) (n : ℕ) → readAnswer h s (strictly R h s) lent ≡ counted n → (es : List Entry) × Accepts R h s lent es
 
 -- within the bounds bytes are accepted, with a listing, exactly when they are that listing as written, it is sound, and the list lent has room for it
 abbrev pub OneListing : Rules → Type 0
@@ -32,7 +37,7 @@ ShortRoom R =
     (h : ℕ) (s lent : List ℕ) (es : List Entry) → (h ≡ 20) ⊎ (h ≡ 32) → length s ≤ mostBytes → many (length lent) < length es → length es ≤ mostRecords
     → Sound R h [] es → s ≡ asWritten es → readAnswer h s (strictly R h s) lent ≡ refused (verdict 4 (length es))
 
--- two accepted objects with ids of one length hold the same set of entries exactly when their bytes are equal
+-- of two accepted objects whose ids are equally long: the same entries, in whatever order they are asked for, and the same bytes follow from each other
 abbrev pub OneObject : Rules → Type 0
 OneObject R =
     (h : ℕ) (s t lent space : List ℕ) (es fs : List Entry) → Accepts R h s lent es → Accepts R h t space fs → SameSet es fs ↔ (s ≡ t)

@@ -1,2 +1,4 @@
 pub mod Sound
+pub mod Lawful
+pub mod Again
 pub mod Demand

@@ -13,7 +13,7 @@ use Rattle.mode.specs.declared.Written.{Written}
 use Rattle.order.specs.Order.{nameOrder}
 use Rattle.order.specs.declared.Order.the-variants.{Below}
 use Rattle.entry.specs.Entry.{Entry}
-use Rattle.reading.specs.Rules.{Rules, lower}
+use Rattle.rules.specs.Rules.{Rules, lower}
 
 -- a mode of one of the rows
 unfoldable pub isMode : List Written → ℕ → Bool

@@ -1,9 +1,11 @@
 -- The first demand of writing commits. Assumes nothing.
-use Prim.Native.Nat.{ℕ}
-use mathlib.Core.Path.{refl}
+use Prim.Native.Nat.{ℕ, suc, _<_}
+use native.Mathlib.Omega.{arith}
+use mathlib.Core.Path.{_≡_, refl, ap}
 use mathlib.Core.Bool.{Bool, true, false, _&&_, not}
 use mathlib.Core.List.{List, [], _∷_}
 use lib.Dec.{eqb}
+use borrow.Author.Tests.{eqb-false}
 use lib.ListN.{length}
 use Rattle.ground.specs.Basics.{pick}
 use Rattle.ground.specs.Scan.{freeOf}
@@ -12,23 +14,32 @@ use Rattle.ground.specs.declared.Verdict.{Verdict}
 use Rattle.ground.specs.declared.Answer.{Answer}
 use Rattle.ground.proofs.Laws.{stored-refused}
 use Rattle.header.specs.declared.CommitParts.{CommitParts}
-use Rattle.commit_grammar.specs.Grammar.{Encoding, absent, given}
+use Rattle.grammar.specs.Grammar.{Encoding, absent, given}
 use Rattle.commit_check.specs.Check.{headersOf, tests, passing, judged, after, checked}
 use Rattle.commit_write.specs.Write.{encodingNamed, measured, encodingRefusal, encoded, commitSize, commitAnswer}
 use Rattle.paper.specs.Call.{Refusal, Fits}
 use Rattle.paper.specs.Calls.{ofVerdict, ofAnswer}
 use Rattle.paper.specs.Demand1.{OfCommitWriting}
-use Rattle.paper.proofs.Laws.{Of, done, zero, wider, keeps-reads, keeps-writes, each-pick, each-passed, each-gate, each-fitted}
+use Rattle.paper.proofs.Laws.{Of, done, zero, wider, keeps-reads, keeps-writes, each-passed, each-gate, each-fitted}
 
--- every way to check a commit: 0, 1, 2, 10
-each-checked : (P : Verdict → Type 0) → P fine → P (verdict 1 0) → P (verdict 2 0) → ((i : ℕ) → P (verdict 10 i))
-    → (h : ℕ) (bytes : List ℕ) (p : CommitParts) (parents headers : List ℕ) (room : ℕ) → P (checked h bytes p parents headers room)
+-- where not all pass, the first that does not is one of them
+passing-less : (l : List Bool) → (passing l ≡ length l → ⊥) → passing l < length l
+passing-less [] f = absurd (f refl)
+passing-less (true ∷ l) f = let r : passing l < length l = passing-less l (λ e. f (ap suc e)) in omega arith
+passing-less (false ∷ l) f = omega arith
+
+-- every way to check a commit: 0, 1, 2, 10 at a record
+pub each-checked : (P : Verdict → Type 0) → P fine → P (verdict 1 0) → P (verdict 2 0) → (h : ℕ) (bytes : List ℕ) (p : CommitParts) (parents headers : List ℕ) (room : ℕ)
+    → ((i : ℕ) → i < length (tests h bytes p parents (headersOf headers)) → P (verdict 10 i)) → P (checked h bytes p parents headers room)
 unfolding checked after judged
-each-checked P ok one two ten h bytes p parents headers room =
-    each-gate (λ g. P (after g (judged l))) (each-pick P (eqb (passing l) (length l)) fine (verdict 10 (passing l)) ok (ten (passing l))) one two h _ _
+each-checked P ok one two h bytes p parents headers room ten = each-gate (λ g. P (after g (judged l))) (held (eqb (passing l) (length l)) refl) one two h _ _
   where
     l : List Bool
     l = tests h bytes p parents (headersOf headers)
+
+    held : (b : Bool) → eqb (passing l) (length l) ≡ b → P (pick b fine (verdict 10 (passing l)))
+    held true q = ok
+    held false q = ten (passing l) (passing-less l (eqb-false (passing l) (length l) q))
 
 -- every way to hold an answer to the encoding: as it was, 13, 14
 each-encoded : (Q : Answer → Type 0) → Q (refused (verdict 13 0)) → Q (refused (verdict 14 0)) → (e : Encoding) (a : Answer) → Q a → Q (encoded e a)
@@ -50,30 +61,33 @@ each-encoded Q thirteen fourteen e a was = go (eqb (a .verdict .number) 0) e
 
 -- every way to write a commit: a count, 1, 2, 10, 13, 14, 8; and to ask for its size: a count, 1, 2, 10
 module _ (Q : Answer → Type 0) (count : (n : ℕ) → Q (counted n)) (one : Q (refused (verdict 1 0))) (two : Q (refused (verdict 2 0)))
-    (ten : (i : ℕ) → Q (refused (verdict 10 i))) (h : ℕ) (bytes : List ℕ) (p : CommitParts) (parents headers : List ℕ) where
-  each-measured : (room : ℕ) → Q (measured h bytes p parents headers room)
+    (h : ℕ) (bytes : List ℕ) (p : CommitParts) (parents headers : List ℕ)
+    (ten : (i : ℕ) → i < length (tests h bytes p parents (headersOf headers)) → Q (refused (verdict 10 i))) where
+  pub each-measured : (room : ℕ) → Q (measured h bytes p parents headers room)
   unfolding measured
   each-measured room =
       each-passed Q (checked h bytes p parents headers room) _ (count _)
-      (each-checked (λ v. Refusal v → Q (refused v)) (λ z. absurd (z refl)) (λ z. one) (λ z. two) (λ i z. ten i) h bytes p parents headers room)
+      (each-checked (λ v. Refusal v → Q (refused v)) (λ z. absurd (z refl)) (λ z. one) (λ z. two) h bytes p parents headers room (λ i l z. ten i l))
 
-  each-written : Q (refused (verdict 13 0)) → Q (refused (verdict 14 0)) → ((n : ℕ) → Q (refused (verdict 8 n))) → (room : ℕ) → Q (commitAnswer h bytes p parents headers room)
+  pub each-written : Q (refused (verdict 13 0)) → Q (refused (verdict 14 0)) → (room : ℕ) → ((n : ℕ) → room < n → Q (refused (verdict 8 n)))
+      → Q (commitAnswer h bytes p parents headers room)
   unfolding commitAnswer
-  each-written thirteen fourteen eight room =
+  each-written thirteen fourteen room eight =
       each-fitted Q room _ (each-encoded Q thirteen fourteen (encodingNamed bytes p) (measured h bytes p parents headers room) (each-measured room)) eight
 
 pub size-fits : (h : ℕ) (bytes : List ℕ) (p : CommitParts) (parents headers : List ℕ) → Fits (0 ∷ 1 ∷ 2 ∷ 10 ∷ []) (ofAnswer (commitSize h bytes p parents headers))
 size-fits h bytes p parents headers =
-    each-measured (Of _ ofAnswer) (λ n. done refl refl) (zero refl refl) (zero refl refl) (λ i. zero refl refl) h bytes p parents headers 0
+    each-measured (Of _ ofAnswer) (λ n. done refl refl) (zero refl refl) (zero refl refl) h bytes p parents headers (λ i l. zero refl refl) 0
 
 pub commit-fits : (h : ℕ) (bytes : List ℕ) (p : CommitParts) (parents headers : List ℕ) (room : ℕ)
     → Fits (0 ∷ 1 ∷ 2 ∷ 8 ∷ 10 ∷ 13 ∷ 14 ∷ []) (ofAnswer (commitAnswer h bytes p parents headers room))
-commit-fits h bytes p parents headers =
-    each-written (Of _ ofAnswer) (λ n. done refl refl) (zero refl refl) (zero refl refl) (λ i. zero refl refl) h bytes p parents headers (zero refl refl) (zero refl refl) (λ n. zero refl refl)
+commit-fits h bytes p parents headers room =
+    each-written (Of _ ofAnswer) (λ n. done refl refl) (zero refl refl) (zero refl refl) h bytes p parents headers (λ i l. zero refl refl)
+    (zero refl refl) (zero refl refl) room (λ n l. zero refl refl)
 
 pub of-commit-writing : OfCommitWriting
 of-commit-writing = record {
-  check-commit = keeps-reads _ _ _ _ (λ i o m. m) (λ i. each-checked (Of _ ofVerdict) (done refl refl) (zero refl refl) (zero refl refl) (λ i. zero refl refl) _ _ _ _ _ _);
-  commit-size = keeps-reads _ _ _ _ (λ i o m. m) (λ i. wider (size-fits _ _ _ _ _) refl);
-  write-commit = keeps-writes _ _ _ _ _ _ _ (λ i o m. m) (λ i. wider (commit-fits _ _ _ _ _ _) refl) (λ i z. stored-refused _ _ _ z);
+  check-commit = keeps-reads _ (λ i. tt) _ _ _ (λ i o m. m) (λ i. each-checked (Of _ ofVerdict) (done refl refl) (zero refl refl) (zero refl refl) _ _ _ _ _ _ (λ i l. zero refl refl));
+  commit-size = keeps-reads _ (λ i. tt) _ _ _ (λ i o m. m) (λ i. wider (size-fits _ _ _ _ _) refl);
+  write-commit = keeps-writes _ (λ i. tt) _ _ _ _ _ _ (λ i o m. m) (λ i. wider (commit-fits _ _ _ _ _ _) refl) (λ i z. stored-refused _ _ _ z);
 }

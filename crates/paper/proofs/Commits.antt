@@ -1,9 +1,10 @@
 -- The first demand of unfolding and of reading commits. Assumes nothing.
-use Prim.Native.Nat.{ℕ, _+_}
+use Prim.Native.Nat.{ℕ, _+_, _<_}
 use mathlib.Core.Path.{_≡_, refl, ap}
 use mathlib.Core.Bool.{_&&_}
 use mathlib.Core.List.{List, [], _∷_}
-use lib.Dec.{eqb, leb}
+use mathlib.Core.Logic.{_⊎_, inl, inr}
+use lib.Dec.{eqb}
 use lib.ListN.{length, getD}
 use Rattle.ground.specs.Basics.{part}
 use Rattle.ground.specs.Verdict.{verdict}
@@ -28,16 +29,16 @@ use Rattle.commit_read.specs.declared.Outcome.the-variants.{Whole, Fails}
 use Rattle.paper.specs.Call.{none, _and_, Refusal, Fits}
 use Rattle.paper.specs.Calls.{ofAnswer, ofCommit}
 use Rattle.paper.specs.Demand1.{OfCommits}
-use Rattle.paper.proofs.Laws.{same, Of, done, zero, wider, two-lists, keeps, keeps-writes, keeps-stores, each-pick, each-size, each-gate}
+use Rattle.paper.proofs.Laws.{same, Of, done, zero, wider, two-lists, keeps, keeps-writes, keeps-stores, each-pick, each-within, each-size, each-gate}
 
 -- every way to unfold: a value, 2, 10, 8
-each-plan : (Q : Plan → Type 0) → ((v : List ℕ) → Q (stores v)) → Q (refuses (verdict 2 0)) → Q (refuses (verdict 10 0)) → ((n : ℕ) → Q (refuses (verdict 8 n)))
-    → (s : List ℕ) (x : HeaderRecord) (room : ℕ) → Q (unfoldPlan s x room)
+pub each-plan : (Q : Plan → Type 0) → ((v : List ℕ) → Q (stores v)) → Q (refuses (verdict 2 0)) → Q (refuses (verdict 10 0))
+    → (s : List ℕ) (x : HeaderRecord) (room : ℕ) → ((n : ℕ) → room < n → Q (refuses (verdict 8 n))) → Q (unfoldPlan s x room)
 unfolding unfoldPlan gatePlan valuePlan roomPlan
-each-plan Q value two ten eight s x room =
+each-plan Q value two ten s x room eight =
     each-size (λ g. Q (gatePlan g (valuePlan s x room)))
     (each-pick Q (wellFormed x (length s) && hasForm (x .mark) (valueOf s x)) (roomPlan v room) (refuses (verdict 10 0))
-    (each-pick Q (leb (length v) room) (stores v) (refuses (verdict 8 (length v))) (value v) (eight (length v)))
+    (each-within Q (length v) room (stores v) (refuses (verdict 8 (length v))) (λ p. value v) (eight (length v)))
     ten)
     two _ 0
   where
@@ -76,17 +77,17 @@ module _ (Q : Outcome → Type 0) (whole : (f : Found) → Q (Whole f)) (eleven 
   unfolding fieldsOf
   each-fields = each-pick Q (idAt treeWord h s 0) _ (Fails (refusal 11 0 1)) (each-people _ _) (eleven 0 1)
 
-each-outcome : (Q : Outcome → Type 0) → ((f : Found) → Q (Whole f)) → Q (Fails (refusal 1 0 0)) → Q (Fails (refusal 2 0 0))
-    → ((at field : ℕ) → Q (Fails (refusal 11 at field))) → ((at : ℕ) → Q (Fails (refusal 12 at 0))) → ((n : ℕ) → Q (Fails (refusal 4 n 0)))
-    → (s : List ℕ) (h np nh : ℕ) → Q (outcomeOf s h np nh)
+pub each-outcome : (Q : Outcome → Type 0) → ((f : Found) → Q (Whole f)) → Q (Fails (refusal 1 0 0)) → Q (Fails (refusal 2 0 0))
+    → ((at field : ℕ) → Q (Fails (refusal 11 at field))) → ((at : ℕ) → Q (Fails (refusal 12 at 0)))
+    → (s : List ℕ) (h np nh : ℕ) → ((n : ℕ) → (np < n) ⊎ (nh < n) → Q (Fails (refusal 4 n 0))) → Q (outcomeOf s h np nh)
 unfolding outcomeOf gatedBy roomOf
-each-outcome Q whole one two eleven twelve four s h np nh =
+each-outcome Q whole one two eleven twelve s h np nh four =
     each-gate (λ g. Q (gatedBy g (roomOf np nh (fieldsOf s h)))) (each-fields (λ o. Q (roomOf np nh o)) room eleven twelve s h) one two h _ _
   where
     room : (f : Found) → Q (roomOf np nh (Whole f))
     room f =
-        each-pick Q (leb (f .parents) np) _ (Fails (refusal 4 (f .parents) 0))
-        (each-pick Q (leb (f .headers) nh) (Whole f) (Fails (refusal 4 (f .headers) 0)) (whole f) (four _)) (four _)
+        each-within Q (f .parents) np _ (Fails (refusal 4 (f .parents) 0))
+        (λ p. each-within Q (f .headers) nh (Whole f) (Fails (refusal 4 (f .headers) 0)) (λ q. whole f) (λ l. four (f .headers) (inr l))) (λ l. four (f .parents) (inl l))
 
 pub outcome-kept : (s : List ℕ) (h : ℕ) (ps hs : List ℕ) (o : Outcome) → Refusal (answerIn o .verdict) → parentsIn h ps o ∷ headersIn s hs o ∷ [] ≡ ps ∷ hs ∷ []
 unfolding answerIn parentsIn headersIn
@@ -95,25 +96,26 @@ outcome-kept s h ps hs (Fails r) z = refl
 
 pub unfold-fits : (s : List ℕ) (x : HeaderRecord) (room : ℕ) → Fits (0 ∷ 2 ∷ 8 ∷ 10 ∷ []) (ofAnswer (answerOf (unfoldPlan s x room)))
 unfolding answerOf
-unfold-fits = each-plan (Of _ (λ p. ofAnswer (answerOf p))) (λ v. done refl refl) (zero refl refl) (zero refl refl) (λ n. zero refl refl)
+unfold-fits s x room = each-plan (Of _ (λ p. ofAnswer (answerOf p))) (λ v. done refl refl) (zero refl refl) (zero refl refl) s x room (λ n l. zero refl refl)
 
 pub commit-fits : (s : List ℕ) (h np nh : ℕ) → Fits (0 ∷ 1 ∷ 2 ∷ 4 ∷ 11 ∷ 12 ∷ []) (ofCommit (answerIn (outcomeOf s h np nh)))
 unfolding answerIn
-commit-fits =
-    each-outcome (Of _ (λ o. ofCommit (answerIn o))) (λ f. done refl refl) (zero refl refl) (zero refl refl) (λ at k. zero refl refl) (λ at. zero refl refl) (λ n. zero refl refl)
+commit-fits s h np nh =
+    each-outcome (Of _ (λ o. ofCommit (answerIn o))) (λ f. done refl refl) (zero refl refl) (zero refl refl) (λ at k. zero refl refl) (λ at. zero refl refl)
+    s h np nh (λ n l. zero refl refl)
 
 pub of-commits : OfCommits
 of-commits = record {
-  unfold-value = keeps-writes _ _ _ _ _ _ _ (λ i o m. m) (λ i. wider (unfold-fits _ _ _) refl) (λ i z. plan-kept _ _ z);
-  read-commit = keeps _ _ (record {
+  unfold-value = keeps-writes _ (λ i. tt) _ _ _ _ _ _ (λ i o m. m) (λ i. wider (unfold-fits _ _ _) refl) (λ i z. plan-kept _ _ z);
+  read-commit = keeps _ _ (λ i. tt) (record {
     answers = λ i. _;
     hands = λ i. [];
     leaves = λ i. _;
     says = λ i. _;
     told = λ i o m. (m .0, refl, two-lists (m .1 .0) (m .1 .1), ap ofCommit (m .0));
   }) (λ i. wider (commit-fits _ _ _ _) refl) (λ i z. outcome-kept _ _ _ _ _ z);
-  put-header = keeps-stores _ _ _ _ _ (λ i o m. (refl, m));
+  put-header = keeps-stores _ (λ i. tt) _ _ _ _ (λ i o m. (refl, m));
   commit-questions =
-      (λ i o p. same) and (λ i o p. same) and (λ i o p. same) and (λ i o p. same) and (λ i o p. same) and (λ i o p. same) and (λ i o p. same) and (λ i o p. same)
-      and (λ i o p. same) and none;
+      ((λ i. tt), (λ i o p. same)) and ((λ i. tt), (λ i o p. same)) and ((λ i. tt), (λ i o p. same)) and ((λ i. tt), (λ i o p. same)) and
+      ((λ i. tt), (λ i o p. same)) and ((λ i. tt), (λ i o p. same)) and ((λ i. tt), (λ i o p. same)) and none;
 }

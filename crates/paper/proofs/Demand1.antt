@@ -5,9 +5,11 @@ use Rattle.paper.proofs.Entries as entries
 use Rattle.paper.proofs.Reading as reading
 use Rattle.paper.proofs.Lookup as lookup
 use Rattle.paper.proofs.Writing as writing
+use Rattle.paper.proofs.Hex as hex
 use Rattle.paper.proofs.Commits as commits
 use Rattle.paper.proofs.CommitWriting as commit-writing
 use Rattle.paper.proofs.Border as border
+use Rattle.paper.proofs.Places as places
 
 pub first-demand : FirstDemand
 first-demand = record {
@@ -17,7 +19,9 @@ first-demand = record {
   of-reading = reading.of-reading;
   of-lookup = lookup.of-lookup;
   of-writing = writing.of-writing;
+  of-hex = hex.of-hex;
   of-commits = commits.of-commits;
   of-commit-writing = commit-writing.of-commit-writing;
   of-border = border.of-border;
+  places = places.places;
 }

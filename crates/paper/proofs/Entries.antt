@@ -1,11 +1,10 @@
 -- The first demand of entries, and where a step leaves the cursor. Assumes nothing.
-use Prim.Native.Nat.{ℕ}
+use Prim.Native.Nat.{ℕ, _<_}
 use native.Mathlib.Omega.{arith}
 use mathlib.Core.Path.{_≡_, refl}
 use mathlib.Core.Bool.{true}
 use mathlib.Core.List.{List, [], _∷_}
 use mathlib.Core.Logic.{_⊎_, ⊎-elim}
-use lib.Dec.{leb}
 use lib.ListN.{length, drop}
 use Rattle.ground.specs.Verdict.{verdict, fine, broken, isPart}
 use Rattle.entry.specs.Decode.{decode, noEntry, stepOver, stepFrom, stepOf}
@@ -19,10 +18,10 @@ use Rattle.paper.specs.Call.{none, _and_, Fits}
 use Rattle.paper.specs.Calls.{ofStep, ofDecoded}
 use Rattle.paper.specs.Demand1.{OfEntries}
 use Rattle.paper.specs.Sentences.{CursorSentences}
-use Rattle.paper.proofs.Laws.{same, Of, done, zero, wider, keeps-reads, keeps-stores, each-pick, each-gate}
+use Rattle.paper.proofs.Laws.{same, Of, done, zero, wider, keeps-reads, keeps-stores, each-within, each-gate}
 
 -- every way to decode: an entry, or 3 at its first byte with one of the three parts
-each-decoded : (Q : Decoded → Type 0) → ((e : EntryRecord) (next : Cursor) → Q (Whole e next)) → (h at : ℕ) (b : List ℕ)
+pub each-decoded : (Q : Decoded → Type 0) → ((e : EntryRecord) (next : Cursor) → Q (Whole e next)) → (h at : ℕ) (b : List ℕ)
     → ((k : ℕ) → isPart k ≡ true → Q (Broken (broken at k))) → Q (decode h at b)
 each-decoded Q whole h at b three = go (decode h at b) refl
   where
@@ -30,34 +29,34 @@ each-decoded Q whole h at b three = go (decode h at b) refl
     go (Whole e next) q = whole e next
     go (Broken v) q = let w = decode-three h at b v q in rw (w .1) (three (w .0) (w .2))
 
--- every way to step: 1 or 2 with the cursor as given, nothing at the end, 3 with the cursor at the end, an entry
+-- every way to step: 1 or 2 with the cursor as given, nothing at the end, 3 inside the object with the cursor at the end, an entry
 pub each-step : (Q : Step → Type 0) (h : ℕ) (s : List ℕ) (c : Cursor) → Q (noEntry (verdict 1 0) c) → Q (noEntry (verdict 2 0) c) → Q (noEntry fine c)
-    → ((k : ℕ) → isPart k ≡ true → Q (noEntry (broken (c .at) k) (record { at = length s })))
+    → ((k : ℕ) → c .at < length s → isPart k ≡ true → Q (noEntry (broken (c .at) k) (record { at = length s })))
     → ((e : EntryRecord) (next : Cursor) → Q (record { verdict = fine; found = true; entry = e; next = next })) → Q (stepOf h s c)
 unfolding stepOf stepFrom stepOver
 each-step Q h s c one two end three whole =
     each-gate (λ g. Q (stepFrom h s c g))
-    (each-pick Q (leb (length s) (c .at)) (noEntry fine c) (stepOver (length s) (decode h (c .at) (drop (c .at) s))) end
-    (each-decoded (λ d. Q (stepOver (length s) d)) whole h (c .at) (drop (c .at) s) three))
+    (each-within Q (length s) (c .at) (noEntry fine c) (stepOver (length s) (decode h (c .at) (drop (c .at) s))) (λ p. end)
+    (λ l. each-decoded (λ d. Q (stepOver (length s) d)) whole h (c .at) (drop (c .at) s) (λ k. three k l)))
     one two h (length s) 0
 
 pub cursor-sentences : CursorSentences
 cursor-sentences = record {
   as-given = λ h s c. each-step (λ x. (x .verdict .number ≡ 1) ⊎ (x .verdict .number ≡ 2) → x .next ≡ c) h s c
-      (λ e. refl) (λ e. refl) (λ e. refl) (λ k p. ⊎-elim (λ z. absurd (omega arith)) (λ z. absurd (omega arith)))
+      (λ e. refl) (λ e. refl) (λ e. refl) (λ k l p. ⊎-elim (λ z. absurd (omega arith)) (λ z. absurd (omega arith)))
       (λ e next. ⊎-elim (λ z. absurd (omega arith)) (λ z. absurd (omega arith)));
   at-end = λ h s c. each-step (λ x. x .verdict .number ≡ 3 → x .next .at ≡ length s) h s c
-      (λ z. absurd (omega arith)) (λ z. absurd (omega arith)) (λ z. absurd (omega arith)) (λ k p z. refl) (λ e next z. absurd (omega arith));
+      (λ z. absurd (omega arith)) (λ z. absurd (omega arith)) (λ z. absurd (omega arith)) (λ k l p z. refl) (λ e next z. absurd (omega arith));
   past-end = λ h s c. step-end h s c;
 }
 
 pub step-fits : (h : ℕ) (s : List ℕ) (c : Cursor) → Fits (0 ∷ 1 ∷ 2 ∷ 3 ∷ []) (ofStep (stepOf h s c))
-step-fits h s c = each-step (Of _ ofStep) h s c (zero refl refl) (zero refl refl) (done refl refl) (λ k p. zero refl p) (λ e next. done refl refl)
+step-fits h s c = each-step (Of _ ofStep) h s c (zero refl refl) (zero refl refl) (done refl refl) (λ k l p. zero refl p) (λ e next. done refl refl)
 
 pub of-entries : OfEntries
 of-entries = record {
-  cursor-step = keeps-reads _ _ _ _ (λ i o m. m) (λ i. wider (step-fits _ _ _) refl);
-  cursor-decode = keeps-reads _ _ _ _ (λ i o m. m) (λ i. each-decoded (Of _ ofDecoded) (λ e next. done refl refl) _ _ _ (λ k p. zero refl p));
-  put-entry = keeps-stores _ _ _ _ _ (λ i o m. (refl, m));
-  entry-questions = (λ i o p. same) and (λ i o p. same) and (λ i o p. same) and none;
+  cursor-step = keeps-reads _ (λ i. tt) _ _ _ (λ i o m. m) (λ i. wider (step-fits _ _ _) refl);
+  cursor-decode = keeps-reads _ (λ i. tt) _ _ _ (λ i o m. m) (λ i. each-decoded (Of _ ofDecoded) (λ e next. done refl refl) _ _ _ (λ k p. zero refl p));
+  put-entry = keeps-stores _ (λ i. tt) _ _ _ _ (λ i o m. (refl, m));
+  entry-questions = ((λ i. tt), (λ i o p. same)) and ((λ i. tt), (λ i o p. same)) and ((λ i. tt), (λ i o p. same)) and none;
 }

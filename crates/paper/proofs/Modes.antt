@@ -18,7 +18,7 @@ use Rattle.paper.specs.Demand1.{OfGround, OfModes}
 use Rattle.paper.proofs.Laws.{same, Of, done, zero, wider, keeps-reads, keeps-stores, each-pick, each-size, each-gate}
 
 -- every way to read a mode text alone: a mode, 2, 3
-each-alone : (Q : ModeAnswer → Type 0) → ((m : EntryMode) → Q (accepted m)) → Q (rejected (verdict 2 0)) → Q (rejected (broken 0 1)) → (i : List ℕ) → Q (modeAlone i)
+pub each-alone : (Q : ModeAnswer → Type 0) → ((m : EntryMode) → Q (accepted m)) → Q (rejected (verdict 2 0)) → Q (rejected (broken 0 1)) → (i : List ℕ) → Q (modeAlone i)
 unfolding modeAlone
 each-alone Q mode two three i = each-size (λ g. Q (begun g (alone (readMode i)))) (read (readMode i)) two (length i) 0
   where
@@ -41,20 +41,24 @@ number-fits = each-number (Of _ ofMode) (λ m. done refl refl) (zero refl refl)
 
 pub of-ground : OfGround
 of-ground = record {
-  sizes = keeps-reads _ _ _ _ (λ i o m. m) (λ i. each-size (Of _ ofGate) (done refl refl) (zero refl refl) _ _);
-  bounds = keeps-reads _ _ _ _ (λ i o m. m) (λ i. each-gate (Of _ ofGate) (done refl refl) (zero refl refl) (zero refl refl) _ _ _);
-  scans = (λ i o p. same) and (λ i o p. same) and (λ i o p. same) and (λ i o p. same) and (λ i o p. same) and (λ i o p. same) and (λ i o p. same) and none;
-  put = keeps-stores _ _ _ _ _ (λ i o m. (refl, m));
-  put-ended = keeps-stores _ _ _ _ _ (λ i o m. (refl, m));
+  sizes = keeps-reads _ (λ i. tt) _ _ _ (λ i o m. m) (λ i. each-size (Of _ ofGate) (done refl refl) (zero refl refl) _ _);
+  bounds = keeps-reads _ (λ i. tt) _ _ _ (λ i o m. m) (λ i. each-gate (Of _ ofGate) (done refl refl) (zero refl refl) (zero refl refl) _ _ _);
+  scans =
+      ((λ i. tt), (λ i o p. same)) and ((λ i. tt), (λ i o p. same)) and ((λ i. tt), (λ i o p. same)) and ((λ i. tt), (λ i o p. same)) and
+      ((λ i. tt), (λ i o p. same)) and ((λ i. tt), (λ i o p. same)) and ((λ i. tt), (λ i o p. same)) and none;
+  put = keeps-stores _ (λ i. tt) _ _ _ _ (λ i o m. (refl, m));
+  put-ended = keeps-stores _ (λ i. tt) _ _ _ _ (λ i o m. (refl, m));
 }
 
 pub of-modes : OfModes
 of-modes = record {
-  from-bytes = keeps-reads _ _ _ _ (λ i o m. m) (λ i. wider (alone-fits _) refl);
-  from-number = keeps-reads _ _ _ _ (λ i o m. m) (λ i. wider (number-fits _) refl);
+  from-bytes = keeps-reads _ (λ i. tt) _ _ _ (λ i o m. m) (λ i. wider (alone-fits _) refl);
+  from-number = keeps-reads _ (λ i. tt) _ _ _ (λ i o m. m) (λ i. wider (number-fits _) refl);
   mode-questions =
-      (λ i o p. same) and (λ i o p. same) and (λ i o p. same) and (λ i o p. same) and (λ i o p. same) and (λ i o p. same) and (λ i o p. same)
-      and (λ i o p. same) and (λ i o p. same) and (λ i o p. same) and (λ i o p. same) and (λ i o p. same) and (λ i o p. same) and (λ i o p. same)
-      and (λ i o p. same) and (λ i o p. same) and none;
-  orders = (λ i o p. same) and (λ i o p. same) and (λ i o p. same) and none;
+      ((λ i. tt), (λ i o p. same)) and ((λ i. tt), (λ i o p. same)) and ((λ i. tt), (λ i o p. same)) and ((λ i. tt), (λ i o p. same)) and
+      ((λ i. tt), (λ i o p. same)) and ((λ i. tt), (λ i o p. same)) and ((λ i. tt), (λ i o p. same)) and ((λ i. tt), (λ i o p. same)) and
+      ((λ i. tt), (λ i o p. same)) and ((λ i. tt), (λ i o p. same)) and ((λ i. tt), (λ i o p. same)) and ((λ i. tt), (λ i o p. same)) and
+      ((λ i. tt), (λ i o p. same)) and ((λ i. tt), (λ i o p. same)) and ((λ i. tt), (λ i o p. same)) and ((λ i. tt), (λ i o p. same)) and none;
+  orders =
+      ((λ i. tt), (λ i o p. same)) and ((λ i. tt), (λ i o p. same)) and ((λ i. tt), (λ i o p. same)) and none;
 }

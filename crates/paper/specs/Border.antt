@@ -5,6 +5,15 @@ use mathlib.Core.List.{List, [], _∷_}
 use lib.ListN.{getD, drop}
 use denote.Ref.{now}
 use Rattle.ground.specs.declared.Verdict.{Verdict}
+use Rattle.lookup.proofs as lookup
+use Rattle.border.proofs as border
+use Rattle.border_mode.proofs as bm
+use Rattle.border_tree.proofs as bt
+use Rattle.border_lookup.proofs as bl
+use Rattle.border_hex.proofs as bh
+use Rattle.border_tree_write.proofs as btw
+use Rattle.border_commit.proofs as bc
+use Rattle.border_commit_write.proofs as bcw
 use Rattle.sarpukten.proofs as c
 use Rattle.paper.specs.Call.{Call, call, Input, Outcome, Said, Deed}
 use Rattle.paper.specs.Calls.{stores}
@@ -29,67 +38,146 @@ commitIn l = record { verdict = verdictIn l; counts = drop 4 l }
 abbrev pub hands : (d : Call) → ((i : Input d) → Outcome d i → List ℕ) → (List ℕ → Said) → (Input d → List (List ℕ)) → ((i : Input d) → Outcome d i → List (List ℕ)) → Deed
 hands d handed says before after = record { call = d; before = before; after = after; handed = handed; said = λ i o. says (handed i o) }
 
+-- ---- an answer handed over
+
+abbrev pub hand : Deed
+hand = stores (call border.hand.Kinds.ps border.hand.Kinds.r border.hand.Reads.Asked border.hand.Reads.Post) (λ i. now (i .args .1 .0)) (λ i o. now (o .last .1 .0))
+
 -- ---- modes
 
 abbrev pub modeRead : Deed
-modeRead = hands (call c.sarpukten_mode_read.Kinds.ps c.sarpukten_mode_read.Kinds.r c.sarpukten_mode_read.Reads.Post) (λ i o. now (o .last .1 .0)) saidIn (λ i. []) (λ i o. [])
+modeRead = hands (call c.sarpukten_mode_read.Kinds.ps c.sarpukten_mode_read.Kinds.r c.sarpukten_mode_read.Reads.Asked c.sarpukten_mode_read.Reads.Post) (λ i o. now (o .last .1 .0)) saidIn (λ i. []) (λ i o. [])
 
 abbrev pub modeFromNumber : Deed
-modeFromNumber = hands (call c.sarpukten_mode_from_number.Kinds.ps c.sarpukten_mode_from_number.Kinds.r c.sarpukten_mode_from_number.Reads.Post) (λ i o. now (o .last .1 .0)) saidIn (λ i. []) (λ i o. [])
+modeFromNumber = hands (call c.sarpukten_mode_from_number.Kinds.ps c.sarpukten_mode_from_number.Kinds.r c.sarpukten_mode_from_number.Reads.Asked c.sarpukten_mode_from_number.Reads.Post) (λ i o. now (o .last .1 .0)) saidIn (λ i. []) (λ i o. [])
 
 abbrev pub modeAsk : Deed
-modeAsk = stores (call c.sarpukten_mode_ask.Kinds.ps c.sarpukten_mode_ask.Kinds.r c.sarpukten_mode_ask.Reads.Post) (λ i. now (i .args .1 .0)) (λ i o. now (o .last .1 .0))
+modeAsk = stores (call c.sarpukten_mode_ask.Kinds.ps c.sarpukten_mode_ask.Kinds.r c.sarpukten_mode_ask.Reads.Asked c.sarpukten_mode_ask.Reads.Post) (λ i. now (i .args .1 .0)) (λ i o. now (o .last .1 .0))
 
 abbrev pub modeWord : Deed
-modeWord = stores (call c.sarpukten_mode_word.Kinds.ps c.sarpukten_mode_word.Kinds.r c.sarpukten_mode_word.Reads.Post) (λ i. now (i .args .1 .0)) (λ i o. now (o .last .1 .0))
+modeWord = stores (call c.sarpukten_mode_word.Kinds.ps c.sarpukten_mode_word.Kinds.r c.sarpukten_mode_word.Reads.Asked c.sarpukten_mode_word.Reads.Post) (λ i. now (i .args .1 .0)) (λ i o. now (o .last .1 .0))
 
 abbrev pub modeText : Deed
-modeText = stores (call c.sarpukten_mode_text.Kinds.ps c.sarpukten_mode_text.Kinds.r c.sarpukten_mode_text.Reads.Post) (λ i. now (i .args .1 .0)) (λ i o. now (o .last .1 .0))
+modeText = stores (call c.sarpukten_mode_text.Kinds.ps c.sarpukten_mode_text.Kinds.r c.sarpukten_mode_text.Reads.Asked c.sarpukten_mode_text.Reads.Post) (λ i. now (i .args .1 .0)) (λ i o. now (o .last .1 .0))
 
 -- ---- trees
 
 abbrev pub treeStep : Deed
-treeStep = hands (call c.sarpukten_tree_step.Kinds.ps c.sarpukten_tree_step.Kinds.r c.sarpukten_tree_step.Reads.Post) (λ i o. now (o .last .1 .1 .1 .0)) stepIn (λ i. []) (λ i o. [])
+treeStep = hands (call c.sarpukten_tree_step.Kinds.ps c.sarpukten_tree_step.Kinds.r c.sarpukten_tree_step.Reads.Asked c.sarpukten_tree_step.Reads.Post) (λ i o. now (o .last .1 .1 .1 .0)) stepIn (λ i. []) (λ i o. [])
 
 abbrev pub readTree : Deed
-readTree = hands (call c.sarpukten_read_tree.Kinds.ps c.sarpukten_read_tree.Kinds.r c.sarpukten_read_tree.Reads.Post) (λ i o. now (o .last .1 .1 .1 .0)) saidIn (λ i. now (i .args .1 .1 .0) ∷ []) (λ i o. now (o .last .1 .1 .0) ∷ [])
+readTree = hands (call c.sarpukten_read_tree.Kinds.ps c.sarpukten_read_tree.Kinds.r c.sarpukten_read_tree.Reads.Asked c.sarpukten_read_tree.Reads.Post) (λ i o. now (o .last .1 .1 .1 .0)) saidIn (λ i. now (i .args .1 .1 .0) ∷ []) (λ i o. now (o .last .1 .1 .0) ∷ [])
 
 abbrev pub readTreeStrict : Deed
-readTreeStrict = hands (call c.sarpukten_read_tree_strict.Kinds.ps c.sarpukten_read_tree_strict.Kinds.r c.sarpukten_read_tree_strict.Reads.Post) (λ i o. now (o .last .1 .1 .1 .1 .0)) saidIn (λ i. now (i .args .1 .1 .1 .0) ∷ [])
+readTreeStrict = hands (call c.sarpukten_read_tree_strict.Kinds.ps c.sarpukten_read_tree_strict.Kinds.r c.sarpukten_read_tree_strict.Reads.Asked c.sarpukten_read_tree_strict.Reads.Post) (λ i o. now (o .last .1 .1 .1 .1 .0)) saidIn (λ i. now (i .args .1 .1 .1 .0) ∷ [])
     (λ i o. now (o .last .1 .1 .1 .0) ∷ [])
 
 abbrev pub bisectEntry : Deed
-bisectEntry = hands (call c.sarpukten_bisect_entry.Kinds.ps c.sarpukten_bisect_entry.Kinds.r c.sarpukten_bisect_entry.Reads.Post) (λ i o. now (o .last .1 .1 .1 .1 .1 .0)) saidIn (λ i. []) (λ i o. [])
+bisectEntry = hands (call c.sarpukten_bisect_entry.Kinds.ps c.sarpukten_bisect_entry.Kinds.r c.sarpukten_bisect_entry.Reads.Asked c.sarpukten_bisect_entry.Reads.Post) (λ i o. now (o .last .1 .1 .1 .1 .1 .0)) saidIn (λ i. []) (λ i o. [])
+
+abbrev pub bisectAny : Deed
+bisectAny = hands (call c.sarpukten_bisect_any.Kinds.ps c.sarpukten_bisect_any.Kinds.r c.sarpukten_bisect_any.Reads.Asked c.sarpukten_bisect_any.Reads.Post) (λ i o. now (o .last .1 .1 .1 .1 .0)) saidIn (λ i. []) (λ i o. [])
+
+abbrev pub bisectEntries : Deed
+bisectEntries =
+    hands (call c.sarpukten_bisect_entries.Kinds.ps c.sarpukten_bisect_entries.Kinds.r c.sarpukten_bisect_entries.Reads.Asked c.sarpukten_bisect_entries.Reads.Post) (λ i o. now (o .last .1 .1 .1 .1 .1 .1 .0)) saidIn
+    (λ i. now (i .args .1 .1 .1 .1 .1 .0) ∷ []) (λ i o. now (o .last .1 .1 .1 .1 .1 .0) ∷ [])
 
 abbrev pub treeSize : Deed
-treeSize = hands (call c.sarpukten_tree_size.Kinds.ps c.sarpukten_tree_size.Kinds.r c.sarpukten_tree_size.Reads.Post) (λ i o. now (o .last .1 .1 .1 .0)) saidIn (λ i. []) (λ i o. [])
+treeSize = hands (call c.sarpukten_tree_size.Kinds.ps c.sarpukten_tree_size.Kinds.r c.sarpukten_tree_size.Reads.Asked c.sarpukten_tree_size.Reads.Post) (λ i o. now (o .last .1 .1 .1 .0)) saidIn (λ i. []) (λ i o. [])
 
 abbrev pub writeTree : Deed
-writeTree = hands (call c.sarpukten_write_tree.Kinds.ps c.sarpukten_write_tree.Kinds.r c.sarpukten_write_tree.Reads.Post) (λ i o. now (o .last .1 .1 .1 .1 .0)) saidIn (λ i. now (i .args .1 .1 .1 .0) ∷ []) (λ i o. now (o .last .1 .1 .1 .0) ∷ [])
+writeTree = hands (call c.sarpukten_write_tree.Kinds.ps c.sarpukten_write_tree.Kinds.r c.sarpukten_write_tree.Reads.Asked c.sarpukten_write_tree.Reads.Post) (λ i o. now (o .last .1 .1 .1 .1 .0)) saidIn (λ i. now (i .args .1 .1 .1 .0) ∷ []) (λ i o. now (o .last .1 .1 .1 .0) ∷ [])
 
 abbrev pub looseHeader : Deed
-looseHeader = hands (call c.sarpukten_loose_header.Kinds.ps c.sarpukten_loose_header.Kinds.r c.sarpukten_loose_header.Reads.Post) (λ i o. now (o .last .1 .1 .1 .0)) saidIn (λ i. now (i .args .1 .1 .0) ∷ []) (λ i o. now (o .last .1 .1 .0) ∷ [])
+looseHeader = hands (call c.sarpukten_loose_header.Kinds.ps c.sarpukten_loose_header.Kinds.r c.sarpukten_loose_header.Reads.Asked c.sarpukten_loose_header.Reads.Post) (λ i o. now (o .last .1 .1 .1 .0)) saidIn (λ i. now (i .args .1 .1 .0) ∷ []) (λ i o. now (o .last .1 .1 .0) ∷ [])
 
 -- ---- commits
 
 abbrev pub readCommit : Deed
-readCommit = hands (call c.sarpukten_read_commit.Kinds.ps c.sarpukten_read_commit.Kinds.r c.sarpukten_read_commit.Reads.Post) (λ i o. now (o .last .1 .1 .1 .1 .0)) commitIn (λ i. now (i .args .1 .1 .0) ∷ now (i .args .1 .1 .1 .0) ∷ []) (λ i o. now (o .last .1 .1 .0) ∷ now (o .last .1 .1 .1 .0) ∷ [])
+readCommit = hands (call c.sarpukten_read_commit.Kinds.ps c.sarpukten_read_commit.Kinds.r c.sarpukten_read_commit.Reads.Asked c.sarpukten_read_commit.Reads.Post) (λ i o. now (o .last .1 .1 .1 .1 .0)) commitIn (λ i. now (i .args .1 .1 .0) ∷ now (i .args .1 .1 .1 .0) ∷ []) (λ i o. now (o .last .1 .1 .0) ∷ now (o .last .1 .1 .1 .0) ∷ [])
 
 abbrev pub unfoldValue : Deed
-unfoldValue = hands (call c.sarpukten_unfold.Kinds.ps c.sarpukten_unfold.Kinds.r c.sarpukten_unfold.Reads.Post) (λ i o. now (o .last .1 .1 .1 .0)) saidIn (λ i. now (i .args .1 .1 .0) ∷ []) (λ i o. now (o .last .1 .1 .0) ∷ [])
+unfoldValue = hands (call c.sarpukten_unfold.Kinds.ps c.sarpukten_unfold.Kinds.r c.sarpukten_unfold.Reads.Asked c.sarpukten_unfold.Reads.Post) (λ i o. now (o .last .1 .1 .1 .0)) saidIn (λ i. now (i .args .1 .1 .0) ∷ []) (λ i o. now (o .last .1 .1 .0) ∷ [])
 
 abbrev pub commitSize : Deed
-commitSize = hands (call c.sarpukten_commit_size.Kinds.ps c.sarpukten_commit_size.Kinds.r c.sarpukten_commit_size.Reads.Post) (λ i o. now (o .last .1 .1 .1 .1 .1 .0)) saidIn (λ i. []) (λ i o. [])
+commitSize = hands (call c.sarpukten_commit_size.Kinds.ps c.sarpukten_commit_size.Kinds.r c.sarpukten_commit_size.Reads.Asked c.sarpukten_commit_size.Reads.Post) (λ i o. now (o .last .1 .1 .1 .1 .1 .0)) saidIn (λ i. []) (λ i o. [])
 
 abbrev pub writeCommit : Deed
-writeCommit = hands (call c.sarpukten_write_commit.Kinds.ps c.sarpukten_write_commit.Kinds.r c.sarpukten_write_commit.Reads.Post) (λ i o. now (o .last .1 .1 .1 .1 .1 .1 .0)) saidIn (λ i. now (i .args .1 .1 .1 .1 .1 .0) ∷ []) (λ i o. now (o .last .1 .1 .1 .1 .1 .0) ∷ [])
+writeCommit = hands (call c.sarpukten_write_commit.Kinds.ps c.sarpukten_write_commit.Kinds.r c.sarpukten_write_commit.Reads.Asked c.sarpukten_write_commit.Reads.Post) (λ i o. now (o .last .1 .1 .1 .1 .1 .1 .0)) saidIn (λ i. now (i .args .1 .1 .1 .1 .1 .0) ∷ []) (λ i o. now (o .last .1 .1 .1 .1 .1 .0) ∷ [])
+
+-- ---- hex digits and ids
+
+abbrev pub idOfHex : Deed
+idOfHex = hands (call c.sarpukten_id_of_hex.Kinds.ps c.sarpukten_id_of_hex.Kinds.r c.sarpukten_id_of_hex.Reads.Asked c.sarpukten_id_of_hex.Reads.Post) (λ i o. now (o .last .1 .1 .0)) saidIn (λ i. now (i .args .1 .0) ∷ []) (λ i o. now (o .last .1 .0) ∷ [])
+
+abbrev pub hexOfId : Deed
+hexOfId = hands (call c.sarpukten_hex_of_id.Kinds.ps c.sarpukten_hex_of_id.Kinds.r c.sarpukten_hex_of_id.Reads.Asked c.sarpukten_hex_of_id.Reads.Post) (λ i o. now (o .last .1 .1 .0)) saidIn (λ i. now (i .args .1 .0) ∷ []) (λ i o. now (o .last .1 .0) ∷ [])
 
 -- ---- those that only answer
 
 abbrev pub questions : List Call
 questions =
-    call c.sarpukten_mode_value.Kinds.ps c.sarpukten_mode_value.Kinds.r c.sarpukten_mode_value.Reads.Post
-    ∷ call c.sarpukten_mode_kind.Kinds.ps c.sarpukten_mode_kind.Kinds.r c.sarpukten_mode_kind.Reads.Post
-    ∷ call c.sarpukten_name_order.Kinds.ps c.sarpukten_name_order.Kinds.r c.sarpukten_name_order.Reads.Post
-    ∷ call c.sarpukten_most_comparisons.Kinds.ps c.sarpukten_most_comparisons.Kinds.r c.sarpukten_most_comparisons.Reads.Post
+    call c.sarpukten_mode_value.Kinds.ps c.sarpukten_mode_value.Kinds.r c.sarpukten_mode_value.Reads.Asked c.sarpukten_mode_value.Reads.Post
+    ∷ call c.sarpukten_mode_kind.Kinds.ps c.sarpukten_mode_kind.Kinds.r c.sarpukten_mode_kind.Reads.Asked c.sarpukten_mode_kind.Reads.Post
+    ∷ call c.sarpukten_name_order.Kinds.ps c.sarpukten_name_order.Kinds.r c.sarpukten_name_order.Reads.Asked c.sarpukten_name_order.Reads.Post
+    ∷ call c.sarpukten_most_comparisons.Kinds.ps c.sarpukten_most_comparisons.Kinds.r c.sarpukten_most_comparisons.Reads.Asked c.sarpukten_most_comparisons.Reads.Post
+    ∷ []
+
+-- ---- the calls under C names, and the functions behind them, in one order
+
+abbrev pub named : List Call
+named =
+    call c.sarpukten_mode_read.Kinds.ps c.sarpukten_mode_read.Kinds.r c.sarpukten_mode_read.Reads.Asked c.sarpukten_mode_read.Reads.Post
+    ∷ call c.sarpukten_mode_from_number.Kinds.ps c.sarpukten_mode_from_number.Kinds.r c.sarpukten_mode_from_number.Reads.Asked c.sarpukten_mode_from_number.Reads.Post
+    ∷ call c.sarpukten_mode_value.Kinds.ps c.sarpukten_mode_value.Kinds.r c.sarpukten_mode_value.Reads.Asked c.sarpukten_mode_value.Reads.Post
+    ∷ call c.sarpukten_mode_kind.Kinds.ps c.sarpukten_mode_kind.Kinds.r c.sarpukten_mode_kind.Reads.Asked c.sarpukten_mode_kind.Reads.Post
+    ∷ call c.sarpukten_mode_ask.Kinds.ps c.sarpukten_mode_ask.Kinds.r c.sarpukten_mode_ask.Reads.Asked c.sarpukten_mode_ask.Reads.Post
+    ∷ call c.sarpukten_mode_word.Kinds.ps c.sarpukten_mode_word.Kinds.r c.sarpukten_mode_word.Reads.Asked c.sarpukten_mode_word.Reads.Post
+    ∷ call c.sarpukten_mode_text.Kinds.ps c.sarpukten_mode_text.Kinds.r c.sarpukten_mode_text.Reads.Asked c.sarpukten_mode_text.Reads.Post
+    ∷ call c.sarpukten_name_order.Kinds.ps c.sarpukten_name_order.Kinds.r c.sarpukten_name_order.Reads.Asked c.sarpukten_name_order.Reads.Post
+    ∷ call c.sarpukten_tree_step.Kinds.ps c.sarpukten_tree_step.Kinds.r c.sarpukten_tree_step.Reads.Asked c.sarpukten_tree_step.Reads.Post
+    ∷ call c.sarpukten_read_tree.Kinds.ps c.sarpukten_read_tree.Kinds.r c.sarpukten_read_tree.Reads.Asked c.sarpukten_read_tree.Reads.Post
+    ∷ call c.sarpukten_read_tree_strict.Kinds.ps c.sarpukten_read_tree_strict.Kinds.r c.sarpukten_read_tree_strict.Reads.Asked c.sarpukten_read_tree_strict.Reads.Post
+    ∷ call c.sarpukten_bisect_entry.Kinds.ps c.sarpukten_bisect_entry.Kinds.r c.sarpukten_bisect_entry.Reads.Asked c.sarpukten_bisect_entry.Reads.Post
+    ∷ call c.sarpukten_tree_size.Kinds.ps c.sarpukten_tree_size.Kinds.r c.sarpukten_tree_size.Reads.Asked c.sarpukten_tree_size.Reads.Post
+    ∷ call c.sarpukten_write_tree.Kinds.ps c.sarpukten_write_tree.Kinds.r c.sarpukten_write_tree.Reads.Asked c.sarpukten_write_tree.Reads.Post
+    ∷ call c.sarpukten_loose_header.Kinds.ps c.sarpukten_loose_header.Kinds.r c.sarpukten_loose_header.Reads.Asked c.sarpukten_loose_header.Reads.Post
+    ∷ call c.sarpukten_read_commit.Kinds.ps c.sarpukten_read_commit.Kinds.r c.sarpukten_read_commit.Reads.Asked c.sarpukten_read_commit.Reads.Post
+    ∷ call c.sarpukten_unfold.Kinds.ps c.sarpukten_unfold.Kinds.r c.sarpukten_unfold.Reads.Asked c.sarpukten_unfold.Reads.Post
+    ∷ call c.sarpukten_commit_size.Kinds.ps c.sarpukten_commit_size.Kinds.r c.sarpukten_commit_size.Reads.Asked c.sarpukten_commit_size.Reads.Post
+    ∷ call c.sarpukten_write_commit.Kinds.ps c.sarpukten_write_commit.Kinds.r c.sarpukten_write_commit.Reads.Asked c.sarpukten_write_commit.Reads.Post
+    ∷ call c.sarpukten_most_comparisons.Kinds.ps c.sarpukten_most_comparisons.Kinds.r c.sarpukten_most_comparisons.Reads.Asked c.sarpukten_most_comparisons.Reads.Post
+    ∷ call c.sarpukten_bisect_any.Kinds.ps c.sarpukten_bisect_any.Kinds.r c.sarpukten_bisect_any.Reads.Asked c.sarpukten_bisect_any.Reads.Post
+    ∷ call c.sarpukten_bisect_entries.Kinds.ps c.sarpukten_bisect_entries.Kinds.r c.sarpukten_bisect_entries.Reads.Asked c.sarpukten_bisect_entries.Reads.Post
+    ∷ call c.sarpukten_id_of_hex.Kinds.ps c.sarpukten_id_of_hex.Kinds.r c.sarpukten_id_of_hex.Reads.Asked c.sarpukten_id_of_hex.Reads.Post
+    ∷ call c.sarpukten_hex_of_id.Kinds.ps c.sarpukten_hex_of_id.Kinds.r c.sarpukten_hex_of_id.Reads.Asked c.sarpukten_hex_of_id.Reads.Post
+    ∷ []
+
+abbrev pub behind : List Call
+behind =
+    call bm.mode_read.Kinds.ps bm.mode_read.Kinds.r bm.mode_read.Reads.Asked bm.mode_read.Reads.Post
+    ∷ call bm.mode_from_number.Kinds.ps bm.mode_from_number.Kinds.r bm.mode_from_number.Reads.Asked bm.mode_from_number.Reads.Post
+    ∷ call bm.mode_value.Kinds.ps bm.mode_value.Kinds.r bm.mode_value.Reads.Asked bm.mode_value.Reads.Post
+    ∷ call bm.mode_kind.Kinds.ps bm.mode_kind.Kinds.r bm.mode_kind.Reads.Asked bm.mode_kind.Reads.Post
+    ∷ call bm.mode_ask.Kinds.ps bm.mode_ask.Kinds.r bm.mode_ask.Reads.Asked bm.mode_ask.Reads.Post
+    ∷ call bm.mode_word.Kinds.ps bm.mode_word.Kinds.r bm.mode_word.Reads.Asked bm.mode_word.Reads.Post
+    ∷ call bm.mode_text.Kinds.ps bm.mode_text.Kinds.r bm.mode_text.Reads.Asked bm.mode_text.Reads.Post
+    ∷ call bl.name_order.Kinds.ps bl.name_order.Kinds.r bl.name_order.Reads.Asked bl.name_order.Reads.Post
+    ∷ call bt.tree_step.Kinds.ps bt.tree_step.Kinds.r bt.tree_step.Reads.Asked bt.tree_step.Reads.Post
+    ∷ call bt.read_tree.Kinds.ps bt.read_tree.Kinds.r bt.read_tree.Reads.Asked bt.read_tree.Reads.Post
+    ∷ call bt.read_tree_strict.Kinds.ps bt.read_tree_strict.Kinds.r bt.read_tree_strict.Reads.Asked bt.read_tree_strict.Reads.Post
+    ∷ call bl.bisect_entry.Kinds.ps bl.bisect_entry.Kinds.r bl.bisect_entry.Reads.Asked bl.bisect_entry.Reads.Post
+    ∷ call btw.tree_size.Kinds.ps btw.tree_size.Kinds.r btw.tree_size.Reads.Asked btw.tree_size.Reads.Post
+    ∷ call btw.write_tree.Kinds.ps btw.write_tree.Kinds.r btw.write_tree.Reads.Asked btw.write_tree.Reads.Post
+    ∷ call btw.loose_header.Kinds.ps btw.loose_header.Kinds.r btw.loose_header.Reads.Asked btw.loose_header.Reads.Post
+    ∷ call bc.read_commit.Kinds.ps bc.read_commit.Kinds.r bc.read_commit.Reads.Asked bc.read_commit.Reads.Post
+    ∷ call bc.unfold_value.Kinds.ps bc.unfold_value.Kinds.r bc.unfold_value.Reads.Asked bc.unfold_value.Reads.Post
+    ∷ call bcw.commit_size.Kinds.ps bcw.commit_size.Kinds.r bcw.commit_size.Reads.Asked bcw.commit_size.Reads.Post
+    ∷ call bcw.write_commit.Kinds.ps bcw.write_commit.Kinds.r bcw.write_commit.Reads.Asked bcw.write_commit.Reads.Post
+    ∷ call lookup.most_comparisons.Kinds.ps lookup.most_comparisons.Kinds.r lookup.most_comparisons.Reads.Asked lookup.most_comparisons.Reads.Post
+    ∷ call bl.bisect_any.Kinds.ps bl.bisect_any.Kinds.r bl.bisect_any.Reads.Asked bl.bisect_any.Reads.Post
+    ∷ call bl.bisect_entries.Kinds.ps bl.bisect_entries.Kinds.r bl.bisect_entries.Reads.Asked bl.bisect_entries.Reads.Post
+    ∷ call bh.id_of_hex.Kinds.ps bh.id_of_hex.Kinds.r bh.id_of_hex.Reads.Asked bh.id_of_hex.Reads.Post
+    ∷ call bh.hex_of_id.Kinds.ps bh.hex_of_id.Kinds.r bh.hex_of_id.Reads.Asked bh.hex_of_id.Reads.Post
     ∷ []

@@ -3,25 +3,26 @@
 use Prim.Native.Nat.{ℕ}
 use mathlib.Core.Path.{_≡_}
 use mathlib.Core.Bool.{Bool, true, false, _&&_, _||_}
-use mathlib.Core.List.{List, [], _∷_}
+use mathlib.Core.List.{List, [], _∷_, _++_}
 use lib.Dec.{eqb}
 use contract.Lifetimes.{Lfts}
 use denote.Triple.Clauses.{AtExit}
-use borrow.Fn.Kinds.{Out, PK, RK, Dens, resT, endedOf}
+use borrow.Fn.Kinds.{In, Out, PK, RK, Dens, resT, endedOf}
 use Rattle.ground.specs.Basics.{pick}
 use Rattle.ground.specs.Verdict.{isPart}
 use Rattle.ground.specs.declared.Verdict.{Verdict}
 
--- how many lifetimes it names, the kinds of its parameters and of its result, and its contract: what is promised of the arguments, the result, and the
--- arguments at the end
+-- how many lifetimes it names, the kinds of its parameters and of its result, and its contract: what a caller has to show of the arguments, and what is
+-- promised of the arguments, the result, and the arguments at the end
 pub record Call : Type 3 where
   pub lifetimes : ℕ
   pub params : List (PK lifetimes)
   pub result : RK lifetimes
+  pub asked : In lifetimes params
   pub promised : Out lifetimes params result
 
-abbrev pub call : {n : ℕ} (ps : List (PK n)) (r : RK n) → Out n ps r → Call
-call {n} ps r P = record { lifetimes = n; params = ps; result = r; promised = P }
+abbrev pub call : {n : ℕ} (ps : List (PK n)) (r : RK n) → In n ps → Out n ps r → Call
+call {n} ps r A P = record { lifetimes = n; params = ps; result = r; asked = A; promised = P }
 
 -- what a call is handed: the arguments, and the lifetimes of those that are lent
 pub record Input (c : Call) : Type 0 where
@@ -40,15 +41,25 @@ pub record Outcome (c : Call) (i : Input c) : Type 0 where
 abbrev pub Meets : (c : Call) (i : Input c) → Outcome c i → Type 0
 Meets c i o = c .promised (i .κs) (i .args) (o .answer) (o .last)
 
+-- a run: what a call is handed, and an outcome that its contract allows
+pub record Run (c : Call) : Type 0 where
+  pub given : Input c
+  pub came : Outcome c given
+  pub meets : Meets c given came
+
+-- The call takes every input: what a caller has to show holds of all of them.
+abbrev pub TakesAll : Call → Type 0
+TakesAll c = (i : Input c) → c .asked (i .κs) (i .args)
+
 -- No second answer meets the contract.
 abbrev pub OneAnswer : Call → Type 0
 OneAnswer c = (i : Input c) (o p : Outcome c i) → Meets c i o → Meets c i p → o .answer ≡ p .answer
 
 infixr 5 _and_
--- the same of several calls
+-- both of several calls
 pub data EachOnce : List Call → Type 3 where
   none : EachOnce []
-  _and_ : {c : Call} {cs : List Call} → OneAnswer c → EachOnce cs → EachOnce (c ∷ cs)
+  _and_ : {c : Call} {cs : List Call} → TakesAll c × OneAnswer c → EachOnce cs → EachOnce (c ∷ cs)
 
 -- ---- a call that is done or refused
 
@@ -96,10 +107,19 @@ pub record Fits (numbers : List ℕ) (s : Said) : Type 0 where
   pub known : listed numbers (s .verdict) ≡ true
   pub empty : Refusal (s .verdict) → (s .verdict .number ≡ 15 → ⊥) → nothing (s .counts) ≡ true
 
--- The first demand of such a call: no second answer meets the contract, and nothing else can stand in what was lent; it gives these numbers and no other;
--- and a refusal leaves all that was lent as it was.
+-- The first demand of such a call: it takes every input; no second answer meets the contract, and nothing else can stand in what was lent; it gives these
+-- numbers and no other; and a refusal leaves all that was lent as it was.
 pub record Keeps (d : Deed) (numbers : List ℕ) : Type 0 where
+  pub takes : TakesAll (d .call)
   pub once : (i : Input (d .call)) (o p : Outcome (d .call) i) → Meets (d .call) i o → Meets (d .call) i p
       → (o .answer ≡ p .answer) × (d .handed i o ≡ d .handed i p) × (d .after i o ≡ d .after i p)
   pub fits : (i : Input (d .call)) (o : Outcome (d .call) i) → Meets (d .call) i o → Fits numbers (d .said i o)
   pub leaves : (i : Input (d .call)) (o : Outcome (d .call) i) → Meets (d .call) i o → Refusal (d .said i o .verdict) → d .after i o ≡ d .before i
+
+-- The first demand of a call that is handed what another said, and lent nothing to write: it takes every input, no second answer meets the contract, and
+-- what it says has one of these numbers, or one that it was handed.
+pub record HandsOn (d : Deed) (given : Input (d .call) → Said) (numbers : List ℕ) : Type 0 where
+  pub takes : TakesAll (d .call)
+  pub once : OneAnswer (d .call)
+  pub fits : (i : Input (d .call)) (o : Outcome (d .call) i) → Meets (d .call) i o → (handed : List ℕ) → Fits handed (given i)
+      → Fits (numbers ++ handed) (d .said i o)

@@ -1,10 +1,13 @@
--- The first demand, for every public function: no second answer meets its contract. Of those that refuse also: which numbers they give (docs/FORMAT.md,
--- "Numbers"), that every refusal but 15 counts nothing, and that a refusal leaves what was lent. `proofs/Demand1.antt` proves it. Assumes nothing.
+-- The first demand, for every public function: it takes every input, and no second answer meets its contract. Of those that refuse also: which numbers and
+-- places they give (docs/FORMAT.md, "Numbers"), that every refusal but 15 counts nothing, and that a refusal leaves what was lent. `proofs/Demand1.antt`
+-- proves it. Assumes nothing.
+use mathlib.Core.Path.{_≡_}
 use mathlib.Core.List.{[], _∷_}
-use Rattle.paper.specs.Call.{EachOnce, Keeps}
+use Rattle.paper.specs.Call.{EachOnce, Keeps, HandsOn}
 use Rattle.paper.specs.Walked.{KeepsWalked}
 use Rattle.paper.specs.Calls as a
 use Rattle.paper.specs.Border as c
+use Rattle.paper.specs.Places.{Places}
 
 -- the bounds, the scans of bytes, and the lent output
 pub record OfGround : Type 3 where
@@ -28,25 +31,33 @@ pub record OfEntries : Type 3 where
   pub put-entry : Keeps a.putEntry (0 ∷ [])
   pub entry-questions : EachOnce a.entryQuestions
 
--- a whole tree, plainly and strictly
+-- the strict rules, and a whole tree, plainly and strictly
 pub record OfReading : Type 3 where
+  pub rule-bounds : Keeps a.ruleBounds (0 ∷ 1 ∷ 2 ∷ 19 ∷ [])
+  pub rule-questions : EachOnce a.ruleQuestions
   pub place-entry : Keeps a.placeEntry (0 ∷ [])
+  pub finish-reading : Keeps a.finishReading (0 ∷ [])
   pub read-tree : Keeps a.readTree (0 ∷ 1 ∷ 2 ∷ 3 ∷ 4 ∷ [])
   pub read-tree-strict : Keeps a.readTreeStrict (0 ∷ 1 ∷ 2 ∷ 3 ∷ 4 ∷ 5 ∷ 6 ∷ 7 ∷ 17 ∷ 18 ∷ 19 ∷ [])
 
--- lookup, over flat numbers, over an array of records, and over a lent slice of them
+-- lookup, over flat numbers, of one sort or of any, over an array of records, and over a lent slice of them; many in one call; and its steps
 pub record OfLookup : Type 3 where
   pub bisect-entry : Keeps a.bisectEntry (0 ∷ 1 ∷ 2 ∷ 10 ∷ 15 ∷ [])
+  pub bisect-any : Keeps a.bisectAny (0 ∷ 1 ∷ 2 ∷ 10 ∷ 15 ∷ [])
   pub bisect-array : Keeps a.bisectArray (0 ∷ 1 ∷ 2 ∷ 10 ∷ 15 ∷ [])
   pub bisect-records : KeepsWalked a.bisectRecords (0 ∷ 1 ∷ 2 ∷ 10 ∷ 15 ∷ [])
-  pub lookup-steps : EachOnce a.lookupSteps
+  pub bisect-entries : Keeps a.bisectEntries (0 ∷ 1 ∷ 2 ∷ 4 ∷ 10 ∷ [])
+  pub lookup-start : Keeps a.lookupStart (1 ∷ 2 ∷ 15 ∷ [])
+  pub lookup-step : HandsOn a.lookupStep a.stepGiven (0 ∷ 10 ∷ 15 ∷ [])
+  pub lookup-answer : HandsOn a.lookupAnswer a.answerGiven []
+  pub lookup-questions : EachOnce a.lookupQuestions
 
 -- a tree written, its size, and the header of a loose object
 pub record OfWriting : Type 3 where
   pub tree-size : Keeps a.treeSize (0 ∷ 1 ∷ 2 ∷ 10 ∷ [])
   pub write-tree : Keeps a.writeTree (0 ∷ 1 ∷ 2 ∷ 8 ∷ 9 ∷ 10 ∷ [])
   pub loose-header : Keeps a.looseHeader (0 ∷ 8 ∷ 23 ∷ [])
-  pub fit : EachOnce a.fits
+  pub fit : HandsOn a.fit a.fitGiven (8 ∷ [])
 
 -- commits: a header's value, a commit read, and the leaves of both
 pub record OfCommits : Type 3 where
@@ -54,6 +65,12 @@ pub record OfCommits : Type 3 where
   pub read-commit : Keeps a.readCommit (0 ∷ 1 ∷ 2 ∷ 4 ∷ 11 ∷ 12 ∷ [])
   pub put-header : Keeps a.putHeader (0 ∷ [])
   pub commit-questions : EachOnce a.commitQuestions
+
+-- hex digits, and an id from its digits and back
+pub record OfHex : Type 3 where
+  pub hex-questions : EachOnce a.hexQuestions
+  pub id-of-hex : Keeps a.idOfHex (0 ∷ 1 ∷ 2 ∷ 8 ∷ 10 ∷ [])
+  pub hex-of-id : Keeps a.hexOfId (0 ∷ 1 ∷ 2 ∷ 8 ∷ [])
 
 -- a commit written, its size, and the check before both
 pub record OfCommitWriting : Type 3 where
@@ -63,6 +80,7 @@ pub record OfCommitWriting : Type 3 where
 
 -- the calls under C names
 pub record OfBorder : Type 3 where
+  pub hand : Keeps c.hand (0 ∷ [])
   pub mode-read : Keeps c.modeRead (0 ∷ 2 ∷ 3 ∷ [])
   pub mode-from-number : Keeps c.modeFromNumber (0 ∷ 23 ∷ [])
   pub mode-ask : Keeps c.modeAsk (0 ∷ [])
@@ -72,6 +90,8 @@ pub record OfBorder : Type 3 where
   pub read-tree : Keeps c.readTree (0 ∷ 1 ∷ 2 ∷ 3 ∷ 4 ∷ [])
   pub read-tree-strict : Keeps c.readTreeStrict (0 ∷ 1 ∷ 2 ∷ 3 ∷ 4 ∷ 5 ∷ 6 ∷ 7 ∷ 17 ∷ 18 ∷ 19 ∷ [])
   pub bisect-entry : Keeps c.bisectEntry (0 ∷ 1 ∷ 2 ∷ 10 ∷ 15 ∷ [])
+  pub bisect-any : Keeps c.bisectAny (0 ∷ 1 ∷ 2 ∷ 10 ∷ 15 ∷ [])
+  pub bisect-entries : Keeps c.bisectEntries (0 ∷ 1 ∷ 2 ∷ 4 ∷ 10 ∷ [])
   pub tree-size : Keeps c.treeSize (0 ∷ 1 ∷ 2 ∷ 10 ∷ [])
   pub write-tree : Keeps c.writeTree (0 ∷ 1 ∷ 2 ∷ 8 ∷ 9 ∷ 10 ∷ [])
   pub loose-header : Keeps c.looseHeader (0 ∷ 8 ∷ 23 ∷ [])
@@ -79,7 +99,11 @@ pub record OfBorder : Type 3 where
   pub unfold-value : Keeps c.unfoldValue (0 ∷ 2 ∷ 8 ∷ 10 ∷ [])
   pub commit-size : Keeps c.commitSize (0 ∷ 1 ∷ 2 ∷ 10 ∷ [])
   pub write-commit : Keeps c.writeCommit (0 ∷ 1 ∷ 2 ∷ 8 ∷ 10 ∷ 13 ∷ 14 ∷ [])
+  pub id-of-hex : Keeps c.idOfHex (0 ∷ 1 ∷ 2 ∷ 8 ∷ 10 ∷ [])
+  pub hex-of-id : Keeps c.hexOfId (0 ∷ 1 ∷ 2 ∷ 8 ∷ [])
   pub questions : EachOnce c.questions
+  -- the functions behind them have the same contracts, so that all this holds of those too
+  pub same-contracts : c.behind ≡ c.named
 
 pub record FirstDemand : Type 3 where
   pub of-ground : OfGround
@@ -88,6 +112,9 @@ pub record FirstDemand : Type 3 where
   pub of-reading : OfReading
   pub of-lookup : OfLookup
   pub of-writing : OfWriting
+  pub of-hex : OfHex
   pub of-commits : OfCommits
   pub of-commit-writing : OfCommitWriting
   pub of-border : OfBorder
+  -- and where the places point
+  pub places : Places

@@ -23,9 +23,11 @@ use Rattle.entry.specs.Record.{recordsOf, wellFormed, nameOf, idOf}
 use Rattle.entry.specs.Entry.{Entry, entryBytes, asWritten, entryOf, entriesOf}
 use Rattle.entry.specs.Decode.{shortPart, decodeName, decodeMode, decode}
 use Rattle.doubles.specs.Doubles.{namedBefore}
+use Rattle.rules.specs.Rules.{judge, isPlain, permitted, isDotGit, nameNumber, standsBefore, isAfter, afterNumber, gitRules}
+use Rattle.rules.specs.Gate.{isSet, ruleGate}
 use Rattle.reading.specs.Listing.{Listing, follow, plain, listing, recordsIn, flats, tally}
-use Rattle.reading.specs.Rules.{judge, textOf, cut, permitted, isDotGit, nameNumber, standsBefore, isAfter, afterNumber, gitRules}
-use Rattle.reading.specs.Whole.{answerOf, readAnswer, readRecords, isSet, strictGate, strictAnswer, strictRecords}
+use Rattle.reading.specs.Whole.{answerOf, readAnswer, readRecords}
+use Rattle.strict.specs.Strict.{textOf, cut, strictAnswer, strictRecords}
 use Rattle.commit_write.specs.Fold.{foldRest, foldValue}
 use Rattle.commit_write.specs.Written.{headerWritten}
 use Rattle.tree_write.specs.Write.{written, refusal, judged, measured, treeAnswer}
@@ -178,5 +180,5 @@ table =
     ∷ []
 
 pub all-hold : map (λ (r : Row). r .asked) table ≡ map (λ (r : Row). r .answer) table
-unfolding table foldRest foldValue headerWritten octalFrom hasSix textLen settle restAt readMode valueOf sortOf executes kindOf isTree trimmed writeMode rows byNumber next nameOrder orderNumber idLength sizeGate gateOf stored fitted gated recordsOf wellFormed nameOf idOf entryBytes asWritten entryOf shortPart decodeName decodeMode decode follow plain recordsIn flats tally judge textOf cut permitted isDotGit nameNumber standsBefore isAfter namedBefore afterNumber gitRules isSet strictGate answerOf refusal judged measured treeAnswer
+unfolding table foldRest foldValue headerWritten octalFrom hasSix textLen settle restAt readMode valueOf sortOf executes kindOf isTree trimmed writeMode rows byNumber next nameOrder orderNumber idLength sizeGate gateOf stored fitted gated recordsOf wellFormed nameOf idOf entryBytes asWritten entryOf shortPart decodeName decodeMode decode follow plain recordsIn flats tally judge textOf cut isPlain permitted isDotGit nameNumber standsBefore isAfter namedBefore afterNumber gitRules isSet ruleGate answerOf refusal judged measured treeAnswer
 all-hold = refl

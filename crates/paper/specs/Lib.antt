@@ -2,7 +2,15 @@ pub mod Call
 pub mod Walked
 pub mod Calls
 pub mod Border
+pub mod Places
 pub mod Demand1
 pub mod Sentences
+pub mod Demand2
 pub mod Demand3
+pub mod Rewriting
+pub mod Many
 pub mod Examples
+pub mod Numbers
+pub mod Bounds
+pub mod Texts
+pub mod Arrays

@@ -1,23 +1,23 @@
--- Laws of a listing: how it goes on from a place, its count, its records in lent numbers, and its cut by rules. Assumes nothing.
+-- Laws of a listing: how it goes on from a place, its count, its records in lent numbers, and what reading it answers. Assumes nothing.
 use Prim.Native.Nat.{ℕ, zero, suc, _+_, _-_, _*_, _<_, _≤_}
+use native.Mathlib.Decide.{decLe}
 use native.Mathlib.Omega.{arith}
 use mathlib.Core.Path.{_≡_, refl, ap, sym, _∙_}
-use mathlib.Core.Bool.{Bool, true, false, _&&_, _||_}
+use mathlib.Core.Bool.{Bool, true, false}
 use mathlib.Core.List.{List, [], _∷_}
-use mathlib.Core.Logic.{_⊎_, inl, inr, ⊎-elim}
-use lib.Dec.{eqb, leb}
-use lib.ListN.{length, drop, drop-of-length-le, length-drop}
-use lib.Seq.{sets, drop-drop}
-use borrow.Author.Tests.{eq-eqb, ne-eqb, eqb-true, eqb-false, le-leb, lt-leb, lt-ltb, leb-true, leb-false}
+use mathlib.Core.Logic.{⊎-elim}
+use lib.Dec.{leb}
+use lib.ListN.{length, take, drop, drop-of-length-le, length-drop}
+use lib.Seq.{sets, drop-drop, take-all}
+use borrow.Author.Tests.{le-leb, lt-leb, lt-ltb, leb-true}
 use Rattle.ground.specs.Basics.{pick}
-use Rattle.ground.specs.Verdict.{verdict, fine, broken, isPart, counted, refused, mostBytes, mostRecords, idLength, sizeGate, gateOf, stored}
+use Rattle.ground.specs.Verdict.{verdict, fine, broken, isPart, counted, refused, mostRecords, gateOf, stored}
 use Rattle.ground.specs.declared.Verdict.{Verdict}
 use Rattle.ground.specs.declared.Answer.{Answer}
 use Rattle.ground.specs.declared.Gate.{Gate}
 use Rattle.ground.specs.declared.Gate.the-variants.{Open, Shut}
-use Rattle.ground.proofs.Laws.{gate-open, gate-shut, sets-append, sets-front, stored-done, stored-refused}
+use Rattle.ground.proofs.Laws.{gate-shut, sets-append, sets-front, stored-done, stored-refused}
 use Rattle.entry.specs.Record.{width, many, flat, putRecord}
-use Rattle.entry.specs.Entry.{Entry, entryOf}
 use Rattle.entry.specs.Decode.{decode}
 use Rattle.entry.specs.declared.EntryRecord.{EntryRecord}
 use Rattle.entry.specs.declared.Cursor.{Cursor}
@@ -25,8 +25,7 @@ use Rattle.entry.specs.declared.Decoded.{Decoded}
 use Rattle.entry.specs.declared.Decoded.the-variants.{Whole, Broken}
 use Rattle.entry.proofs.Laws.{decode-inside, decode-three}
 use Rattle.reading.specs.Listing.{Listing, done, stop, entry, follow, plain, listing, recordsIn, flats, tally}
-use Rattle.reading.specs.Rules.{Rules, judge, textOf, cut, strictly, gitRules}
-use Rattle.reading.specs.Whole.{inRoom, answerOf, readAnswer, readRecords, isSet, strictGate, strictAnswer, strictRecords}
+use Rattle.reading.specs.Whole.{inRoom, answerOf, finished}
 use Rattle.reading.specs.declared.Counted.{Counted}
 use Rattle.reading.specs.declared.Counted.the-variants.{Total, Stopped}
 
@@ -79,13 +78,6 @@ module _ (h : ℕ) (s : List ℕ) (at n : ℕ) where
 
 -- ---- its count
 
--- a count is not below what was counted already
-pub tally-least : (n : ℕ) (l : Listing) (count : ℕ) → tally n l ≡ Total count → n ≤ count
-unfolding tally
-tally-least n done count t = let y : n ≡ count = cc in omega arith
-tally-least n (stop v) count t = let y : _≡_ {A = ℕ} 0 1 = cc in absurd (omega arith)
-tally-least n (entry at e l) count t = omega (arith, tally-least (n + 1) l count t)
-
 -- it is the number of records
 pub tally-length : (n : ℕ) (l : Listing) (count : ℕ) → tally n l ≡ Total count → count ≡ n + length (recordsIn l)
 unfolding tally recordsIn
@@ -93,26 +85,27 @@ tally-length n done count t = let y : n ≡ count = cc in omega arith
 tally-length n (stop v) count t = let y : _≡_ {A = ℕ} 0 1 = cc in absurd (omega arith)
 tally-length n (entry at e l) count t = omega (arith, tally-length (n + 1) l count t)
 
--- where a count is known and not reached, an entry is there
-module _ (h : ℕ) (s : List ℕ) (at n count : ℕ) (t : tally n (restAt h s at n) ≡ Total count) (l : n < count) where
-  no-stop : {v : Verdict} → restAt h s at n ≡ stop v → ⊥
-  unfolding tally
-  no-stop e = let u = sym t ∙ ap (tally n) e in let y : _≡_ {A = ℕ} 0 1 = cc in omega arith
+-- an entry that can be read where not too many were is the next
+pub whole-here : (h : ℕ) (s : List ℕ) (at n : ℕ) {e : EntryRecord} {next : Cursor} → n < mostRecords → decode h at (drop at s) ≡ Whole e next
+    → restAt h s at n ≡ entry at e (restAt h s (next .at) (n + 1))
+whole-here h s at n {e} {next} f d = let i = decode-inside h s at e next d in rest-whole h s at n (omega arith) f d
 
-  within : (b : Bool) → leb (length s) at ≡ b → at < length s
-  unfolding tally
-  within true e = let u = sym t ∙ ap (tally n) (rest-end h s at n (leb-true _ _ e)) in let y : count ≡ n = cc in absurd (omega arith)
-  within false e = leb-false _ _ e
+-- nothing is left where as many were read as there may be, and where no entry can be read
+full-none : (h at : ℕ) (b : List ℕ) → recordsIn (plain h 0 at b) ≡ []
+unfolding plain recordsIn
+full-none h at [] = refl
+full-none h at (x ∷ xs) = refl
 
-  below : (b : Bool) → leb mostRecords n ≡ b → n < mostRecords
-  below true e = absurd (no-stop (rest-full h s at n (within _ refl) (leb-true _ _ e)))
-  below false e = leb-false _ _ e
+pub none-full : (h : ℕ) (s : List ℕ) (at n : ℕ) → mostRecords ≤ n → recordsIn (restAt h s at n) ≡ []
+none-full h s at n f = let z : mostRecords - n ≡ 0 = omega arith in rw z (full-none h at (drop at s))
 
-  pub unbroken : {v : Verdict} → decode h at (drop at s) ≡ Broken v → ⊥
-  unbroken d = no-stop (rest-broken h s at n (within _ refl) (below _ refl) d)
-
-  pub there : {e : EntryRecord} {next : Cursor} → decode h at (drop at s) ≡ Whole e next → restAt h s at n ≡ entry at e (restAt h s (next .at) (n + 1))
-  there d = rest-whole h s at n (within _ refl) (below _ refl) d
+pub none-left : (h : ℕ) (s : List ℕ) (at n : ℕ) {v : Verdict} → n < mostRecords → decode h at (drop at s) ≡ Broken v → recordsIn (restAt h s at n) ≡ []
+unfolding recordsIn
+none-left h s at n f d =
+    elim (decLe (length s) at) [
+      | yes p ↦ ap recordsIn (rest-end h s at n p)
+      | no p ↦ ap recordsIn (rest-broken h s at n (omega arith) f d)
+    ]
 
 -- ---- its records in lent numbers
 
@@ -121,31 +114,46 @@ unfolding flats
 flats-length [] = omega arith
 flats-length (e ∷ es) = omega (arith, flats-length es)
 
--- one entry stored, and the others still to be
-store-entry : (rec : List ℕ) (n at : ℕ) (e : EntryRecord) (l m : Listing) → l ≡ entry at e m → n < many (length rec)
-    → sets rec (n * width) (flats (recordsIn l)) ≡ sets (putRecord rec n e) ((n + 1) * width) (flats (recordsIn m))
+-- all that is asked for is still to be stored
+pub store-start : (rec : List ℕ) (count : ℕ) (es : List EntryRecord) → sets rec 0 (flats (take count es)) ≡ sets rec (0 * width) (flats (take (count - 0) es))
+store-start rec count es = let z : count - 0 ≡ count = omega arith in rw z
+
+-- one entry stored of so many, and the others still to be
+store-entry : (rec : List ℕ) (n at count : ℕ) (e : EntryRecord) (l m : Listing) → l ≡ entry at e m → n < many (length rec) → n < count
+    → sets rec (n * width) (flats (take (count - n) (recordsIn l))) ≡ sets (putRecord rec n e) ((n + 1) * width) (flats (take (count - (n + 1)) (recordsIn m)))
 unfolding recordsIn flats putRecord
-store-entry rec n at e l m q p =
+store-entry rec n at count e l m q p i =
     let z : (n + 1) * width ≡ n * width + width = omega arith in
-    rw q (sets-append rec (n * width) (flat e) (flats (recordsIn m)) ∙ simp (lt-ltb n (many (length rec)) p) (rw z))
+    let j : count - n ≡ suc (count - (n + 1)) = omega arith in
+    rw (q, j) (sets-append rec (n * width) (flat e) (flats (take (count - (n + 1)) (recordsIn m))) ∙ simp (lt-ltb n (many (length rec)) p) (rw z))
 
 -- one turn of the storing: what was still to be stored is what is still to be stored after it
-pub store-turn : (rec new : List ℕ) (n at : ℕ) (e : EntryRecord) (l m : Listing) {all : List ℕ} → l ≡ entry at e m → n < many (length rec) → new ≡ putRecord rec n e
-    → all ≡ sets rec (n * width) (flats (recordsIn l)) → all ≡ sets new ((n + 1) * width) (flats (recordsIn m))
-store-turn rec new n at e l m q p w a = a ∙ store-entry rec n at e l m q p ∙ ap (λ (r : List ℕ). sets r ((n + 1) * width) (flats (recordsIn m))) (sym w)
+pub store-turn : (rec new : List ℕ) (n at count : ℕ) (e : EntryRecord) (l m : Listing) {all : List ℕ} → l ≡ entry at e m → n < many (length rec) → n < count
+    → new ≡ putRecord rec n e → all ≡ sets rec (n * width) (flats (take (count - n) (recordsIn l)))
+    → all ≡ sets new ((n + 1) * width) (flats (take (count - (n + 1)) (recordsIn m)))
+store-turn rec new n at count e l m q p i w a =
+    a ∙ store-entry rec n at count e l m q p i ∙ ap (λ (r : List ℕ). sets r ((n + 1) * width) (flats (take (count - (n + 1)) (recordsIn m)))) (sym w)
+
+-- with as many stored as were asked for, and where no record is left, nothing more is
+pub store-end : (rec : List ℕ) (i n count : ℕ) (l : Listing) → count ≤ n → sets rec i (flats (take (count - n) (recordsIn l))) ≡ rec
+unfolding flats
+store-end rec i n count l p = let z : count - n ≡ 0 = omega arith in rw z
+
+pub store-none : (rec : List ℕ) (i k : ℕ) (l : Listing) → recordsIn l ≡ [] → sets rec i (flats (take k (recordsIn l))) ≡ rec
+unfolding flats
+store-none rec i k l q = rw q (go k)
+  where
+    go : (k : ℕ) → sets rec i (flats (take k [])) ≡ rec
+    go zero = refl
+    go (suc k) = refl
 
 -- all of them stored from the front on
-pub store-all : (rec : List ℕ) (l : Listing) (count : ℕ) → tally 0 l ≡ Total count → count ≤ many (length rec)
-    → sets rec 0 (flats (recordsIn l)) ≡ stored (counted count .verdict) (flats (recordsIn l)) rec
+store-all : (rec : List ℕ) (l : Listing) (count : ℕ) → tally 0 l ≡ Total count → count ≤ many (length rec)
+    → sets rec 0 (flats (take count (recordsIn l))) ≡ stored fine (flats (recordsIn l)) rec
 store-all rec l count t p =
-    sets-front rec (flats (recordsIn l)) (omega (arith, flats-length (recordsIn l), tally-length 0 l count t)) ∙ sym (stored-done fine (flats (recordsIn l)) rec refl)
-
--- with all that were counted stored, none is left
-pub store-end : (rec : List ℕ) (n i : ℕ) (l : Listing) (count : ℕ) → tally n l ≡ Total count → count ≤ n → sets rec i (flats (recordsIn l)) ≡ rec
-unfolding tally recordsIn flats
-store-end rec n i done count t k = refl
-store-end rec n i (stop v) count t k = refl
-store-end rec n i (entry at e l) count t k = absurd (omega (arith, tally-least (n + 1) l count t))
+    let k = tally-length 0 l count t in
+    rw (take-all count (recordsIn l) (omega arith))
+    (sets-front rec (flats (recordsIn l)) (omega (arith, flats-length (recordsIn l))) ∙ sym (stored-done fine (flats (recordsIn l)) rec refl))
 
 -- ---- what it stops with
 
@@ -162,7 +170,8 @@ tally-stops P n (stop w) v s t = let y : w ≡ v = cc in rw y at s
 tally-stops P n (entry at e l) v s t = tally-stops P (n + 1) l v s t
 
 -- a plain listing stops with 2, or with 3 at an entry's first byte and one of the three parts
-pub plain-stops : (P : Verdict → Type 0) → P (verdict 2 0) → ((at k : ℕ) → isPart k ≡ true → P (broken at k)) → (h left at : ℕ) (b : List ℕ) → Stops P (plain h left at b)
+pub plain-stops : (P : Verdict → Type 0) → P (verdict 2 0) → ((at k : ℕ) → isPart k ≡ true → P (broken at k)) → (h left at : ℕ) (b : List ℕ)
+    → Stops P (plain h left at b)
 unfolding plain follow
 plain-stops P two three h zero at [] = tt
 plain-stops P two three h zero at (x ∷ xs) = two
@@ -173,21 +182,6 @@ plain-stops P two three h (suc left) at (x ∷ xs) = go (plain-stops P two three
     go ih (Whole e next) q = ih (next .at) (drop (next .at - at) (x ∷ xs))
     go ih (Broken v) q = let w = decode-three h at (x ∷ xs) v q in rw (w .1) (three at (w .0) (w .2))
 
--- a listing cut by rules stops so too, or with what they say at an entry's first byte
-pub cut-stops : (P : Verdict → Type 0) (R : Rules) → ((before : List Entry) (text : List ℕ) (e : Entry) (at : ℕ) → (judge R before text e ≡ 0 → ⊥) → P (verdict (judge R before text e) at))
-    → (h : ℕ) (s : List ℕ) (before : List Entry) (l : Listing) → Stops P l → Stops P (cut R h s before l)
-unfolding cut
-cut-stops P R said h s before done p = tt
-cut-stops P R said h s before (stop v) p = p
-cut-stops P R said h s before (entry at e l) p = go (cut-stops P R said h s (entryOf h s e ∷ before) l p) (eqb no 0) refl
-  where
-    no : ℕ
-    no = judge R before (textOf s at e) (entryOf h s e)
-
-    go : Stops P (cut R h s (entryOf h s e ∷ before) l) → (v : Bool) → eqb no 0 ≡ v → Stops P (pick v (entry at e (cut R h s (entryOf h s e ∷ before) l)) (stop (verdict no at)))
-    go ih true q = ih
-    go ih false q = said before (textOf s at e) (entryOf h s e) at (eqb-false no 0 q)
-
 -- so each is a refusal
 abbrev pub Refusal : Verdict → Type 0
 Refusal v = v .number ≡ 0 → ⊥
@@ -195,81 +189,8 @@ Refusal v = v .number ≡ 0 → ⊥
 pub plain-refuses : (h : ℕ) (s : List ℕ) → Stops Refusal (listing h s)
 plain-refuses h s = plain-stops Refusal (λ e. omega arith) (λ at k p e. omega arith) h mostRecords 0 s
 
-pub cut-refuses : (R : Rules) (h : ℕ) (s : List ℕ) → Stops Refusal (strictly R h s)
-cut-refuses R h s = cut-stops Refusal R (λ before text e at z. z) h s [] (listing h s) (plain-refuses h s)
-
 pub gate-refuses : (h bytes records : ℕ) (v : Verdict) → gateOf h bytes records ≡ Shut v → Refusal v
 gate-refuses h bytes records v e = ⊎-elim (λ q. rw q (λ z. omega arith)) (λ q. rw q (λ z. omega arith)) (gate-shut h bytes records v e)
-
--- ---- the gate of a rule set
-
-set-is : (k : ℕ) → isSet k ≡ true → (k ≡ 1) ⊎ (k ≡ 2)
-unfolding isSet
-set-is k e = go (eqb k 1) refl e
-  where
-    go : (v : Bool) → eqb k 1 ≡ v → (v || eqb k 2) ≡ true → (k ≡ 1) ⊎ (k ≡ 2)
-    go true q e = inl (eqb-true k 1 q)
-    go false q e = inr (eqb-true k 2 e)
-
-set-made : (k : ℕ) → (k ≡ 1) ⊎ (k ≡ 2) → isSet k ≡ true
-unfolding isSet
-set-made k (inl e) = rw e
-set-made k (inr e) = rw e
-
--- with one of the two it is the gate of plain reading
-pub strict-known : (k h bytes records : ℕ) → (k ≡ 1) ⊎ (k ≡ 2) → strictGate k h bytes records ≡ gateOf h bytes records
-unfolding strictGate gateOf
-strict-known k h bytes records i = rw (set-made k i)
-
--- with another it is shut, by 1 or by 19
-module _ (k h bytes records : ℕ) (one : k ≡ 1 → ⊥) (two : k ≡ 2 → ⊥) where
-  other : isSet k ≡ false
-  unfolding isSet
-  other = rw (ne-eqb k 1 one, ne-eqb k 2 two)
-
-  pub strict-other : gateOf h 0 0 ≡ Open → strictGate k h bytes records ≡ Shut (verdict 19 0)
-  unfolding strictGate gateOf
-  strict-other e = rw other (go (idLength h) e)
-    where
-      go : (v : Bool) → pick v (sizeGate 0 0) (Shut (verdict 1 0)) ≡ Open → pick v (Shut (verdict 19 0)) (Shut (verdict 1 0)) ≡ Shut (verdict 19 0)
-      go true e = refl
-      go false e = let z : _≡_ {A = ℕ} 0 1 = cc in absurd (omega arith)
-
-  pub strict-id : (v : Verdict) → gateOf h 0 0 ≡ Shut v → strictGate k h bytes records ≡ Shut v
-  unfolding strictGate gateOf sizeGate
-  strict-id v e = rw other (go (idLength h) e)
-    where
-      go : (b : Bool) → pick b Open (Shut (verdict 1 0)) ≡ Shut v → pick b (Shut (verdict 19 0)) (Shut (verdict 1 0)) ≡ Shut v
-      go true e = let z : _≡_ {A = ℕ} 0 1 = cc in absurd (omega arith)
-      go false e = e
-
--- whatever it is shut with
-pub strict-shut : (P : Verdict → Type 0) → P (verdict 1 0) → P (verdict 19 0) → P (verdict 2 0) → (k h bytes records : ℕ) (v : Verdict) → strictGate k h bytes records ≡ Shut v → P v
-unfolding strictGate sizeGate
-strict-shut P one nineteen two k h bytes records v e = go (idLength h) (isSet k) (leb bytes mostBytes && leb records mostRecords) e
-  where
-    go : (a b c : Bool) → pick a (pick b (pick c Open (Shut (verdict 2 0))) (Shut (verdict 19 0))) (Shut (verdict 1 0)) ≡ Shut v → P v
-    go false b c e = let y : verdict 1 0 ≡ v = cc in rw y at one
-    go true false c e = let y : verdict 19 0 ≡ v = cc in rw y at nineteen
-    go true true false e = let y : verdict 2 0 ≡ v = cc in rw y at two
-    go true true true e = let z : _≡_ {A = ℕ} 0 1 = cc in absurd (omega arith)
-
-pub strict-refuses : (k h bytes records : ℕ) (v : Verdict) → strictGate k h bytes records ≡ Shut v → Refusal v
-strict-refuses = strict-shut Refusal (λ e. omega arith) (λ e. omega arith) (λ e. omega arith)
-
--- where it is open the rule set is one of the two
-pub strict-open : (k h bytes records : ℕ) → strictGate k h bytes records ≡ Open → (k ≡ 1) ⊎ (k ≡ 2)
-unfolding strictGate
-strict-open k h bytes records e = go (idLength h) (isSet k) refl e
-  where
-    go : (a b : Bool) → isSet k ≡ b → pick a (pick b (sizeGate bytes records) (Shut (verdict 19 0))) (Shut (verdict 1 0)) ≡ Open → (k ≡ 1) ⊎ (k ≡ 2)
-    go true true q e = set-is k q
-    go true false q e = let z : _≡_ {A = ℕ} 0 1 = cc in absurd (omega arith)
-    go false b q e = let z : _≡_ {A = ℕ} 0 1 = cc in absurd (omega arith)
-
--- and the object is within its bound
-pub strict-bytes : (k h bytes records : ℕ) → strictGate k h bytes records ≡ Open → bytes ≤ mostBytes
-strict-bytes k h bytes records e = gate-open h bytes records (sym (strict-known k h bytes records (strict-open k h bytes records e)) ∙ e) .1
 
 -- ---- the answer
 
@@ -288,7 +209,8 @@ pub answer-done : (l : Listing) (h bytes records room n : ℕ) → Stops Refusal
 unfolding answerOf
 answer-done l h bytes records room n r e = start (gateOf h bytes records) refl e
   where
-    last : (m : ℕ) → tally 0 l ≡ Total m → (v : Bool) → leb m room ≡ v → pick v (counted m) (refused (verdict 4 m)) ≡ counted n → (tally 0 l ≡ Total n) × (n ≤ room)
+    last : (m : ℕ) → tally 0 l ≡ Total m → (v : Bool) → leb m room ≡ v → pick v (counted m) (refused (verdict 4 m)) ≡ counted n
+        → (tally 0 l ≡ Total n) × (n ≤ room)
     last m t true q e =
         let z : m ≡ n = ap (λ (a : Answer). a .count) e in
         (t ∙ ap Total z, omega (arith, leb-true m room q))
@@ -302,36 +224,9 @@ answer-done l h bytes records room n r e = start (gateOf h bytes records) refl e
     start Open q e = let w = go (tally 0 l) refl e in (q, w .0, w .1)
     start (Shut v) q e = absurd (gate-refuses h bytes records v q (ap (λ (a : Answer). a .verdict .number) e))
 
--- by one of the two rule sets the answer and the records are those of the listing that its rules cut
-module _ (k h : ℕ) (s lent : List ℕ) where
-  pub strict-answers : (k ≡ 1) ⊎ (k ≡ 2) → strictAnswer k h s lent ≡ readAnswer h s (strictly (gitRules k) h s) lent
-  strict-answers i = ap (λ (g : Gate). answerOf g (strictly (gitRules k) h s) (many (length lent))) (strict-known k h (length s) (many (length lent)) i)
-
-  pub strict-stores : (k ≡ 1) ⊎ (k ≡ 2) → strictRecords k h s lent ≡ readRecords h s (strictly (gitRules k) h s) lent
-  strict-stores i = ap (λ (a : Answer). stored (a .verdict) (flats (recordsIn (strictly (gitRules k) h s))) lent) (strict-answers i)
-
-  -- and nothing is counted by another
-  pub strict-set : (n : ℕ) → strictAnswer k h s lent ≡ counted n → (k ≡ 1) ⊎ (k ≡ 2)
-  unfolding answerOf
-  strict-set n e = go (strictGate k h (length s) (many (length lent))) refl e
-    where
-      go : (g : Gate) → strictGate k h (length s) (many (length lent)) ≡ g → answerOf g (strictly (gitRules k) h s) (many (length lent)) ≡ counted n → (k ≡ 1) ⊎ (k ≡ 2)
-      go Open q e = strict-open k h (length s) (many (length lent)) q
-      go (Shut v) q e = absurd (strict-refuses k h (length s) (many (length lent)) v q (ap (λ (a : Answer). a .verdict .number) e))
-
 -- a refused reading leaves the lent list
 pub refused-both : {a : Answer} (v : Verdict) (l lent : List ℕ) → a ≡ refused v → Refusal v → (refused v ≡ a) × (lent ≡ stored (a .verdict) l lent)
 refused-both v l lent q z = (sym q, sym (ap (λ (x : Answer). stored (x .verdict) l lent) q ∙ stored-refused v l lent z))
-
--- a reading that was done: the answer, and what was stored
-pub stored-both : {a : Answer} (n : ℕ) (l lent : List ℕ) {after stores : List ℕ} → a ≡ counted n → after ≡ stores → stores ≡ stored (counted n .verdict) l lent
-    → (counted n ≡ a) × (after ≡ stored (a .verdict) l lent)
-stored-both n l lent q p s = (sym q, p ∙ s ∙ sym (ap (λ (x : Answer). stored (x .verdict) l lent) q))
-
--- what the last part of a reading says is what the whole says
-pub read-both : {a b r : Answer} (l k : Listing) (lent : List ℕ) {after : List ℕ} → a ≡ b → r ≡ b → l ≡ k → after ≡ stored (b .verdict) (flats (recordsIn k)) lent
-    → (r ≡ a) × (after ≡ stored (a .verdict) (flats (recordsIn l)) lent)
-read-both l k lent q p e s = (p ∙ sym q, s ∙ cc)
 
 pub room-short : (room n : ℕ) → room < n → inRoom room (Total n) ≡ refused (verdict 4 n)
 room-short room n p = simp (lt-leb n room p)
@@ -339,36 +234,46 @@ room-short room n p = simp (lt-leb n room p)
 pub room-fine : (room n : ℕ) → n ≤ room → inRoom room (Total n) ≡ counted n
 room-fine room n p = simp (le-leb n room p)
 
--- ---- what rules cut
+-- ---- the end of a reading: its answer, and the lent list afterwards
 
-module _ (R : Rules) (h : ℕ) (s : List ℕ) (before : List Entry) (at : ℕ) (e : EntryRecord) (l : Listing) where
-  abbrev pub said : ℕ
-  said = judge R before (textOf s at e) (entryOf h s e)
+module _ (h : ℕ) (s lent : List ℕ) where
+  abbrev room : ℕ
+  room = many (length lent)
 
-  pub cut-bad : (said ≡ 0 → ⊥) → cut R h s before (entry at e l) ≡ stop (verdict said at)
-  unfolding cut
-  cut-bad j = simp (ne-eqb said 0 j)
+  abbrev Ends : Counted → Answer → List ℕ → Type 0
+  Ends k a after = (a ≡ inRoom room k) × (after ≡ finished h s k lent)
 
-  pub cut-fine : said ≡ 0 → cut R h s before (entry at e l) ≡ entry at e (cut R h s (entryOf h s e ∷ before) l)
-  unfolding cut
-  cut-fine j = simp (eq-eqb said 0 j)
+  short-leaves : (n : ℕ) → room < n → finished h s (Total n) lent ≡ lent
+  short-leaves n p = simp (lt-leb n room p)
 
--- whatever keeps the rules to its end is the plain listing: the strict reader accepts nothing that the plain one does not, and gives the same records
-pub cut-plain : (R : Rules) (h : ℕ) (s : List ℕ) (before : List Entry) (m n : ℕ) (l : Listing) → tally m (cut R h s before l) ≡ Total n → cut R h s before l ≡ l
-unfolding cut tally
-cut-plain R h s before m n done t = refl
-cut-plain R h s before m n (stop v) t = refl
-cut-plain R h s before m n (entry at e l) t = go (cut-plain R h s (entryOf h s e ∷ before) (m + 1) n l) (eqb (said R h s before at e l) 0) t
-  where
-    go : (tally (m + 1) (cut R h s (entryOf h s e ∷ before) l) ≡ Total n → cut R h s (entryOf h s e ∷ before) l ≡ l) → (v : Bool)
-        → tally m (pick v (entry at e (cut R h s (entryOf h s e ∷ before) l)) (stop (verdict (said R h s before at e l) at))) ≡ Total n
-        → pick v (entry at e (cut R h s (entryOf h s e ∷ before) l)) (stop (verdict (said R h s before at e l) at)) ≡ entry at e l
-    go ih true t = ap (entry at e) (ih t)
-    go ih false t = let y : _≡_ {A = ℕ} 0 1 = cc in absurd (omega arith)
+  fine-stores : (n : ℕ) → n ≤ room → finished h s (Total n) lent ≡ sets lent 0 (flats (take n (recordsIn (listing h s))))
+  fine-stores n p = simp (le-leb n room p)
 
--- the same of a whole object
-pub strict-plain : (R : Rules) (h : ℕ) (s : List ℕ) (n : ℕ) → tally 0 (strictly R h s) ≡ Total n → strictly R h s ≡ listing h s
-strict-plain R h s n t = cut-plain R h s [] 0 n (listing h s) t
+  pub ends-stopped : {k : Counted} (v : Verdict) → k ≡ Stopped v → Ends k (refused v) lent
+  ends-stopped v q = (rw q, rw q)
 
-pub strict-counts : (R : Rules) (h : ℕ) (s : List ℕ) (n : ℕ) → tally 0 (strictly R h s) ≡ Total n → tally 0 (listing h s) ≡ Total n
-strict-counts R h s n t = sym (ap (tally 0) (strict-plain R h s n t)) ∙ t
+  pub ends-short : {k : Counted} (n : ℕ) → k ≡ Total n → room < n → Ends k (refused (verdict 4 n)) lent
+  ends-short n q p = (rw q (sym (room-short room n p)), rw q (sym (short-leaves n p)))
+
+  pub ends-done : {k : Counted} (n : ℕ) {after : List ℕ} → k ≡ Total n → n ≤ room → after ≡ sets lent 0 (flats (take n (recordsIn (listing h s))))
+      → Ends k (counted n) after
+  ends-done n q p w = (rw q (sym (room-fine room n p)), rw q (w ∙ sym (fine-stores n p)))
+
+  -- of a listing that was counted, and that is the object's where it was read to its end, the records are stored where the verdict is done
+  finished-is : (l : Listing) → Stops Refusal l → ((n : ℕ) → tally 0 l ≡ Total n → l ≡ listing h s) → (k : Counted) → tally 0 l ≡ k
+      → finished h s k lent ≡ stored (inRoom room k .verdict) (flats (recordsIn l)) lent
+  finished-is l z f (Stopped v) t = sym (stored-refused v (flats (recordsIn l)) lent (tally-stops Refusal 0 l v z t))
+  finished-is l z f (Total n) t = go (leb n room) refl
+    where
+      go : (v : Bool) → leb n room ≡ v
+          → pick v (sets lent 0 (flats (take n (recordsIn (listing h s))))) lent
+          ≡ stored (pick v (counted n) (refused (verdict 4 n)) .verdict) (flats (recordsIn l)) lent
+      go true q = rw (← f n t) (store-all lent l n t (leb-true n room q))
+      go false q = sym (stored-refused (verdict 4 n) (flats (recordsIn l)) lent (λ e. omega arith))
+
+  -- and so the whole reading, where the call may begin
+  pub read-both : {g : Gate} {k : Counted} {a : Answer} {after : List ℕ} (l : Listing) → Stops Refusal l → ((n : ℕ) → tally 0 l ≡ Total n → l ≡ listing h s)
+      → g ≡ Open → k ≡ tally 0 l → Ends k a after → (a ≡ answerOf g l room) × (after ≡ stored (answerOf g l room .verdict) (flats (recordsIn l)) lent)
+  read-both {g} {k} l z f q t w =
+      let u : answerOf g l room ≡ inRoom room k = answer-counted l g room q (sym t) in
+      (w .0 ∙ sym u, w .1 ∙ finished-is l z f k (sym t) ∙ ap (λ (x : Answer). stored (x .verdict) (flats (recordsIn l)) lent) (sym u))

@@ -1,4 +1,2 @@
 pub mod Laws
 pub mod Front
-pub mod Judging
-pub mod Strictly

@@ -1,4 +1,2 @@
 pub mod Listing
-pub mod Rules
 pub mod Whole
-pub mod Code

@@ -13,7 +13,8 @@ use Rattle.entry.specs.Record.{many, noRecord, recordsOf, folderOf}
 use Rattle.entry.specs.Entry.{Entry, entryOf, entriesOf}
 use Rattle.entry.specs.declared.EntryRecord.{EntryRecord}
 use Rattle.reading.specs.Listing.{listing, recordsIn}
-use Rattle.reading.specs.Rules.{gitRules}
+use Rattle.rules.specs.Rules.{Rules}
+use Rattle.one_listing.specs.Lawful.{RulesOk}
 use Rattle.one_listing.specs.Demand.{Accepts}
 use Rattle.lookup.specs.Halving.{found, absent}
 use Rattle.lookup.specs.Lookup.{lookupIn, nth, Allowed, Stands}
@@ -40,38 +41,38 @@ module _ (h : ℕ) (s : List ℕ) (rs : List EntryRecord) (name : List ℕ) (fol
       let e = entry-at h s rs i l in
       record { inside = l; named = rw e at (t .named); sort = rw e at (t .sort) }
 
-module _ (k h : ℕ) (s lent : List ℕ) (es : List Entry) (a : Accepts (gitRules k) h s lent es) (name : List ℕ) (short : length name ≤ mostBytes) (free : freeOf 47 name ≡ true) (folder : Bool) where
+module _ (R : Rules) (ok : RulesOk R) (h : ℕ) (s lent : List ℕ) (es : List Entry) (a : Accepts R h s lent es) (name : List ℕ) (short : length name ≤ mostBytes) (free : freeOf 47 name ≡ true) (folder : Bool) where
   abbrev rs : List EntryRecord
   rs = recordsIn (listing h s)
 
   -- the lookup is within the bounds
-  allowed : Allowed h s rs name
+  pub allowed : Allowed h s rs name
   allowed =
-      let w = accepted k h s lent es a in
+      let w = accepted R h s lent es a in
       let g = gate-open h (length s) (many (length lent)) (w .0) in
-      gate-fine h (max (length s) (length name)) (length rs) (g .0) (omega (arith, g .1)) (omega (arith, g .2, w .2, count-is k h s lent es a))
+      gate-fine h (max (length s) (length name)) (length rs) (g .0) (omega (arith, g .1)) (omega (arith, g .2, w .2, count-is R h s lent es a))
 
   same : entriesOf h s rs ≡ es
-  same = entries-are k h s lent es a
+  same = entries-are R h s lent es a
 
-  finds-at : (i : ℕ) → ((c : ℕ) × (lookupIn h s (recordsOf (returned k h s lent (length es))) name folder ≡ found i c)) ↔ Holds es name folder i
+  finds-at : (i : ℕ) → ((c : ℕ) × (lookupIn h s (recordsOf (returned R h s lent (length es))) name folder ≡ found i c)) ↔ Holds es name folder i
   finds-at i =
-      let f = lookup-finds h s rs (accepted-sorted k h s lent es a) name folder allowed free i in
-      rw (returned-is k h s lent es a) (
+      let f = lookup-finds h s rs (accepted-sorted R ok h s lent es a) name folder allowed free i in
+      rw (returned-is R h s lent es a) (
         (λ w. subst (λ (l : List Entry). Holds l name folder i) same (stands-holds h s rs name folder i (f .0 w))),
         (λ t. f .1 (holds-stands h s rs name folder i (subst (λ (l : List Entry). Holds l name folder i) (sym same) t))),
       )
 
-  misses-all : ((c : ℕ) × (lookupIn h s (recordsOf (returned k h s lent (length es))) name folder ≡ absent c)) ↔ ((i : ℕ) → Holds es name folder i → ⊥)
+  misses-all : ((c : ℕ) × (lookupIn h s (recordsOf (returned R h s lent (length es))) name folder ≡ absent c)) ↔ ((i : ℕ) → Holds es name folder i → ⊥)
   misses-all =
-      let f = lookup-misses h s rs (accepted-sorted k h s lent es a) name folder allowed free in
-      rw (returned-is k h s lent es a) (
+      let f = lookup-misses h s rs (accepted-sorted R ok h s lent es a) name folder allowed free in
+      rw (returned-is R h s lent es a) (
         (λ w i t. f .0 w i (holds-stands h s rs name folder i (subst (λ (l : List Entry). Holds l name folder i) (sym same) t))),
         (λ none. f .1 (λ i t. none i (subst (λ (l : List Entry). Holds l name folder i) same (stands-holds h s rs name folder i t)))),
       )
 
-pub finds : Finds
-finds k h s lent es a name short free folder i = finds-at k h s lent es a name short free folder i
+pub finds : (R : Rules) → RulesOk R → Finds R
+finds R ok h s lent es a name short free folder i = finds-at R ok h s lent es a name short free folder i
 
-pub misses : Misses
-misses k h s lent es a name short free folder = misses-all k h s lent es a name short free folder
+pub misses : (R : Rules) → RulesOk R → Misses R
+misses R ok h s lent es a name short free folder = misses-all R ok h s lent es a name short free folder

@@ -1,3 +1,5 @@
 pub mod Returned
 pub mod Finding
 pub mod Writing
+pub mod Any
+pub mod Present

@@ -20,50 +20,52 @@ use Rattle.entry.specs.declared.Decoded.{Decoded}
 use Rattle.entry.specs.declared.Decoded.the-variants.{Whole, Broken}
 use Rattle.entry.proofs.Laws.{decode-inside, decode-parts, well-made}
 use Rattle.reading.specs.Listing.{Listing, listing, follow, plain, recordsIn, flats, tally}
-use Rattle.reading.specs.Rules.{strictly, gitRules}
+use Rattle.rules.specs.Rules.{Rules}
+use Rattle.strict.specs.Strict.{strictly}
 use Rattle.reading.specs.Whole.{readAnswer, readRecords}
 use Rattle.reading.specs.declared.Counted.the-variants.{Total}
-use Rattle.reading.proofs.Laws.{answer-done, cut-refuses, tally-length, strict-plain, flats-length}
-use Rattle.one_listing.specs.Sound.{SoundEntry, EachSound, Ascending, Before}
+use Rattle.reading.proofs.Laws.{answer-done, tally-length, flats-length}
+use Rattle.strict.proofs.Laws.{cut-refuses, strict-plain}
+use Rattle.one_listing.specs.Sound.{Sound, Ascending, Before}
+use Rattle.one_listing.specs.Lawful.{RulesOk}
 use Rattle.one_listing.specs.Demand.{Accepts}
 use Rattle.one_listing.proofs.Theorem.{accepts-sound, records-stored}
-use Rattle.one_listing.proofs.Present.{git-ok, plainly}
 use Rattle.lookup.specs.Lookup.{nth, Sorted}
 use Rattle.tree_round.specs.Demand.{returned}
 
 -- ---- what they are
 
-flats-records : (rs : List EntryRecord) → recordsOf (flats rs) ≡ rs
+pub flats-records : (rs : List EntryRecord) → recordsOf (flats rs) ≡ rs
 unfolding flats recordsOf
 flats-records [] = refl
 flats-records (r ∷ rs) = ap (λ (l : List EntryRecord). r ∷ l) (flats-records rs)
 
-module _ (k h : ℕ) (s lent : List ℕ) (es : List Entry) (a : Accepts (gitRules k) h s lent es) where
+module _ (R : Rules) (h : ℕ) (s lent : List ℕ) (es : List Entry) (a : Accepts R h s lent es) where
   -- the call began, the listing was counted to its end, and there was room
-  pub accepted : (gateOf h (length s) (many (length lent)) ≡ Open) × (tally 0 (strictly (gitRules k) h s) ≡ Total (length es)) × (length es ≤ many (length lent))
-  accepted = answer-done (strictly (gitRules k) h s) h (length s) (many (length lent)) (many (length lent)) (length es) (cut-refuses (gitRules k) h s) (a .answer)
+  pub accepted : (gateOf h (length s) (many (length lent)) ≡ Open) × (tally 0 (strictly R h s) ≡ Total (length es)) × (length es ≤ many (length lent))
+  accepted = answer-done (strictly R h s) h (length s) (many (length lent)) (many (length lent)) (length es) (cut-refuses R h s) (a .answer)
 
-  pub plain-is : strictly (gitRules k) h s ≡ listing h s
-  plain-is = strict-plain (gitRules k) h s (length es) (accepted .1)
+  pub plain-is : strictly R h s ≡ listing h s
+  plain-is = strict-plain R h s (length es) (accepted .1)
 
   pub count-is : length es ≡ length (recordsIn (listing h s))
   count-is =
-      let z : 0 + length (recordsIn (strictly (gitRules k) h s)) ≡ length (recordsIn (strictly (gitRules k) h s)) = omega arith in
-      tally-length 0 (strictly (gitRules k) h s) (length es) (accepted .1) ∙ z ∙ ap (λ (l : Listing). length (recordsIn l)) plain-is
+      let z : 0 + length (recordsIn (strictly R h s)) ≡ length (recordsIn (strictly R h s)) = omega arith in
+      tally-length 0 (strictly R h s) (length es) (accepted .1) ∙ z ∙ ap (λ (l : Listing). length (recordsIn l)) plain-is
 
-  lent-is : readRecords h s (strictly (gitRules k) h s) lent ≡ flats (recordsIn (listing h s)) ++ drop (length (flats (recordsIn (listing h s)))) lent
+  lent-is : readRecords h s (strictly R h s) lent ≡ flats (recordsIn (listing h s)) ++ drop (length (flats (recordsIn (listing h s)))) lent
   lent-is =
-      ap (λ (l : Listing). stored (readAnswer h s (strictly (gitRules k) h s) lent .verdict) (flats (recordsIn l)) lent) plain-is
+      ap (λ (l : Listing). stored (readAnswer h s (strictly R h s) lent .verdict) (flats (recordsIn l)) lent) plain-is
       ∙ stored-done _ (flats (recordsIn (listing h s))) lent (ap (λ (x : Answer). x .verdict .number) (a .answer))
 
-  pub returned-is : recordsOf (returned k h s lent (length es)) ≡ recordsIn (listing h s)
+  pub returned-is : recordsOf (returned R h s lent (length es)) ≡ recordsIn (listing h s)
   returned-is =
       let rs : List EntryRecord = recordsIn (listing h s) in
       ap (λ (l : List ℕ). recordsOf (take (length es * width) l)) lent-is
       ∙ ap recordsOf (take-at (flats rs) (drop (length (flats rs)) lent) (length es * width) (omega (arith, flats-length rs, count-is)))
       ∙ flats-records rs
 
-  pub first-is : take (length es) (recordsOf (readRecords h s (strictly (gitRules k) h s) lent)) ≡ recordsIn (listing h s)
+  pub first-is : take (length es) (recordsOf (readRecords h s (strictly R h s) lent)) ≡ recordsIn (listing h s)
   first-is =
       let rs : List EntryRecord = recordsIn (listing h s) in
       ap (λ (l : List ℕ). take (length es) (recordsOf l)) lent-is ∙ go rs (drop (length (flats rs)) lent) (length es) count-is
@@ -105,10 +107,24 @@ good-at h len (r ∷ rs) g (suc i) l = good-at h len rs (g .1) i (le-of-suc-le-s
 
 -- ---- they are sorted
 
-each-at : (k h : ℕ) (s : List ℕ) (rs : List EntryRecord) → EachSound k h (entriesOf h s rs) → (i : ℕ) → i < length rs → SoundEntry k h (entryOf h s (nth rs i))
-each-at k h s [] g i l = absurd (not-suc-le-zero l)
-each-at k h s (r ∷ rs) g zero l = g .0
-each-at k h s (r ∷ rs) g (suc i) l = each-at k h s rs (g .1) i (le-of-suc-le-suc l)
+-- each name is permitted
+abbrev pub EachNamed : Rules → List Entry → Type 0
+EachNamed R [] = Unit {0}
+EachNamed R (e ∷ es) = (R .nameNo (e .name) ≡ 0) × EachNamed R es
+
+pub sound-named : (R : Rules) (h : ℕ) (before es : List Entry) → Sound R h before es → EachNamed R es
+sound-named R h before [] s = tt
+sound-named R h before (e ∷ es) s = (s .0 .named, sound-named R h (e ∷ before) es (s .1))
+
+sound-ascends : (R : Rules) → RulesOk R → (h : ℕ) (before es : List Entry) → Sound R h before es → Ascending es
+sound-ascends R ok h before [] s = tt
+sound-ascends R ok h before (a ∷ []) s = tt
+sound-ascends R ok h before (a ∷ b ∷ es) s = (ok .after a before b (s .1 .0 .placed), sound-ascends R ok h (a ∷ before) (b ∷ es) (s .1))
+
+each-at : (R : Rules) (h : ℕ) (s : List ℕ) (rs : List EntryRecord) → EachNamed R (entriesOf h s rs) → (i : ℕ) → i < length rs → R .nameNo (entryOf h s (nth rs i) .name) ≡ 0
+each-at R h s [] g i l = absurd (not-suc-le-zero l)
+each-at R h s (r ∷ rs) g zero l = g .0
+each-at R h s (r ∷ rs) g (suc i) l = each-at R h s rs (g .1) i (le-of-suc-le-suc l)
 
 ascends-at : (h : ℕ) (s : List ℕ) (rs : List EntryRecord) → Ascending (entriesOf h s rs) → (i : ℕ) → i + 1 < length rs → Before (entryOf h s (nth rs i)) (entryOf h s (nth rs (i + 1)))
 ascends-at h s [] g i l = absurd (omega arith)
@@ -119,16 +135,16 @@ ascends-at h s (r ∷ q ∷ rs) g (suc i) l =
     subst (λ (k : ℕ). Before (entryOf h s (nth (q ∷ rs) i)) (entryOf h s (nth (r ∷ q ∷ rs) k))) (sym z) (ascends-at h s (q ∷ rs) (g .1) i (omega arith))
 
 -- the records of an accepted object are a sorted listing
-pub accepted-sorted : (k h : ℕ) (s lent : List ℕ) (es : List Entry) → Accepts (gitRules k) h s lent es → Sorted h s (recordsIn (listing h s))
+pub accepted-sorted : (R : Rules) → RulesOk R → (h : ℕ) (s lent : List ℕ) (es : List Entry) → Accepts R h s lent es → Sorted h s (recordsIn (listing h s))
 unfolding entryOf folderOf
-accepted-sorted k h s lent es a =
+accepted-sorted R ok h s lent es a =
     let rs : List EntryRecord = recordsIn (listing h s) in
-    let w = plainly k h es .1 (accepts-sound (gitRules k) (git-ok k) h s lent es a .0) in
-    let e : es ≡ entriesOf h s rs = sym (entries-are k h s lent es a) in
-    let each : EachSound k h (entriesOf h s rs) = subst (λ (l : List Entry). EachSound k h l) e (w .0) in
-    let up : Ascending (entriesOf h s rs) = subst Ascending e (w .1) in
+    let w = accepts-sound R ok h s lent es a .0 in
+    let e : es ≡ entriesOf h s rs = sym (entries-are R h s lent es a) in
+    let each : EachNamed R (entriesOf h s rs) = subst (λ (l : List Entry). EachNamed R l) e (sound-named R h [] es w) in
+    let up : Ascending (entriesOf h s rs) = subst Ascending e (sound-ascends R ok h [] es w) in
     record {
       good = good-at h (length s) rs (plain-good h s mostRecords 0 s refl);
       ascends = λ i l. ascends-at h s rs up i l;
-      slashless = λ i l. each-at k h s rs each i l .slashless;
+      slashless = λ i l. ok .slashless (entryOf h s (nth rs i) .name) (each-at R h s rs each i l);
     }

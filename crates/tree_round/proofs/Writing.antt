@@ -9,54 +9,54 @@ use Rattle.ground.specs.Verdict.{counted, mostRecords}
 use Rattle.ground.specs.declared.Verdict.{Verdict}
 use Rattle.ground.specs.declared.Answer.{Answer}
 use Rattle.ground.proofs.Laws.{gate-open, gate-fine}
-use Rattle.entry.specs.Record.{many, recordsOf, wellFormed}
+use Rattle.entry.specs.Record.{many, recordsOf, wellFormed, nameOf}
 use Rattle.entry.specs.Entry.{Entry, entryOf, entriesOf, asWritten}
 use Rattle.entry.specs.declared.EntryRecord.{EntryRecord}
 use Rattle.entry.proofs.Laws.{well-parts}
 use Rattle.reading.specs.Listing.{Listing, listing, recordsIn, tally}
-use Rattle.reading.specs.Rules.{gitRules}
+use Rattle.rules.specs.Rules.{Rules}
 use Rattle.reading.specs.Whole.{readAnswer, readRecords}
 use Rattle.reading.specs.declared.Counted.the-variants.{Total}
 use Rattle.reading.proofs.Laws.{answer-counted, room-fine}
-use Rattle.one_listing.specs.Sound.{EachSound}
+use Rattle.one_listing.specs.Lawful.{RulesOk}
 use Rattle.one_listing.proofs.Back.{Writable, AllWritable, listed, read-written, names-listed, listed-length}
 use Rattle.one_listing.proofs.Theorem.{accepts-sound, listed-total, stored-records}
-use Rattle.one_listing.proofs.Present.{git-ok, plainly}
 use Rattle.tree_write.specs.Write.{written, refusal, judged, treeAnswer}
 use Rattle.tree_write.proofs.Laws.{refusal-free, refusal-well, free-name, id-length, judged-more, judged-passes, measured-done}
 use Rattle.tree_write.proofs.Done.{began, done-passes, done-fits, writes}
 use Rattle.tree_round.specs.Demand.{returned, PlainToo, Rewrites, SomeModes, ReadsBack}
-use Rattle.tree_round.proofs.Returned.{accepted, plain-is, count-is, returned-is, entries-are, AllGood, plain-good}
+use Rattle.tree_round.proofs.Returned.{accepted, plain-is, count-is, returned-is, entries-are, AllGood, plain-good, EachNamed, sound-named}
 
-pub plain-too : PlainToo
-plain-too k h s lent es a = (
-  ap (λ (l : Listing). readAnswer h s l lent) (sym (plain-is k h s lent es a)) ∙ a .answer,
-  ap (λ (l : Listing). readRecords h s l lent) (sym (plain-is k h s lent es a)),
+pub plain-too : (R : Rules) → PlainToo R
+plain-too R h s lent es a = (
+  ap (λ (l : Listing). readAnswer h s l lent) (sym (plain-is R h s lent es a)) ∙ a .answer,
+  ap (λ (l : Listing). readRecords h s l lent) (sym (plain-is R h s lent es a)),
 )
 
 -- ---- an accepted object rewrites as itself
 
--- sound entries pass: their records are well formed, and their names have no NUL
-sound-judged : (k h : ℕ) (s : List ℕ) (i : ℕ) (rs : List EntryRecord) → AllGood h (length s) rs → EachSound k h (entriesOf h s rs) → judged true h s i rs .number ≡ 0
+-- permitted entries pass: their records are well formed, and their names have no NUL
+named-judged : (R : Rules) → RulesOk R → (h : ℕ) (s : List ℕ) (i : ℕ) (rs : List EntryRecord) → AllGood h (length s) rs → EachNamed R (entriesOf h s rs)
+    → judged true h s i rs .number ≡ 0
 unfolding judged entryOf
-sound-judged k h s i [] g e = refl
-sound-judged k h s i (r ∷ rs) g e =
-    ap (λ (v : Verdict). v .number) (judged-more true h s i r rs (refusal-free h s r (g .0) (e .0 .nulless))) ∙ sound-judged k h s (i + 1) rs (g .1) (e .1)
+named-judged R ok h s i [] g e = refl
+named-judged R ok h s i (r ∷ rs) g e =
+    ap (λ (v : Verdict). v .number) (judged-more true h s i r rs (refusal-free h s r (g .0) (ok .names (nameOf s r) (e .0)))) ∙ named-judged R ok h s (i + 1) rs (g .1) (e .1)
 
-pub rewrites : Rewrites
-rewrites k h s lent es room a fits small =
+pub rewrites : (R : Rules) → RulesOk R → Rewrites R
+rewrites R ok h s lent es room a fits small =
     let rs : List EntryRecord = recordsIn (listing h s) in
-    let w = accepted k h s lent es a in
+    let w = accepted R h s lent es a in
     let g = gate-open h (length s) (many (length lent)) (w .0) in
-    let t = accepts-sound (gitRules k) (git-ok k) h s lent es a in
-    let r : recordsOf (returned k h s lent (length es)) ≡ rs = returned-is k h s lent es a in
-    let e : entriesOf h s rs ≡ es = entries-are k h s lent es a in
+    let t = accepts-sound R ok h s lent es a in
+    let r : recordsOf (returned R h s lent (length es)) ≡ rs = returned-is R h s lent es a in
+    let e : entriesOf h s rs ≡ es = entries-are R h s lent es a in
     let bytes : written h s rs ≡ s = ap asWritten e ∙ sym (t .2) in
-    let each : EachSound k h (entriesOf h s rs) = subst (λ (l : List Entry). EachSound k h l) (sym e) (plainly k h es .1 (t .0) .0) in
-    let j : judged true h s 0 rs .number ≡ 0 = sound-judged k h s 0 rs (plain-good h s mostRecords 0 s refl) each in
-    let b : written h s (recordsOf (returned k h s lent (length es))) ≡ s = ap (written h s) r ∙ bytes in
-    let few : length (recordsOf (returned k h s lent (length es))) ≤ mostRecords = omega (arith, ap length r, count-is k h s lent es a, w .2, g .2) in
-    (writes h s (returned k h s lent (length es)) room (g .0) (g .1) small few (rw r j) (omega (arith, ap length b)) ∙ ap (λ (l : List ℕ). counted (length l)) b, b)
+    let each : EachNamed R (entriesOf h s rs) = subst (λ (l : List Entry). EachNamed R l) (sym e) (sound-named R h [] es (t .0)) in
+    let j : judged true h s 0 rs .number ≡ 0 = named-judged R ok h s 0 rs (plain-good h s mostRecords 0 s refl) each in
+    let b : written h s (recordsOf (returned R h s lent (length es))) ≡ s = ap (written h s) r ∙ bytes in
+    let few : length (recordsOf (returned R h s lent (length es))) ≤ mostRecords = omega (arith, ap length r, count-is R h s lent es a, w .2, g .2) in
+    (writes h s (returned R h s lent (length es)) room (g .0) (g .1) small few (rw r j) (omega (arith, ap length b)) ∙ ap (λ (l : List ℕ). counted (length l)) b, b)
 
 -- ---- what was written reads back
 

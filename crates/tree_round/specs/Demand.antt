@@ -1,4 +1,5 @@
--- What is claimed of an object that was read: bisection in it, its rewriting, and reading back what was written. Assumes nothing.
+-- What is claimed of an object that was read by any rules that keep the laws of `one_listing`: bisection in it, and its rewriting; and of reading back what
+-- was written. Assumes nothing.
 use Prim.Native.Nat.{ℕ, _*_, _≤_, _<_}
 use mathlib.Core.Path.{_≡_}
 use mathlib.Core.Bool.{Bool, true}
@@ -12,17 +13,18 @@ use Rattle.entry.specs.Record.{width, many, recordsOf}
 use Rattle.entry.specs.Entry.{Entry, entriesOf}
 use Rattle.entry.specs.declared.EntryRecord.{EntryRecord}
 use Rattle.reading.specs.Listing.{listing}
-use Rattle.reading.specs.Rules.{strictly, gitRules}
+use Rattle.rules.specs.Rules.{Rules}
+use Rattle.strict.specs.Strict.{strictly}
 use Rattle.reading.specs.Whole.{readAnswer, readRecords}
+use Rattle.one_listing.specs.Again.{againEntry}
 use Rattle.one_listing.specs.Demand.{Accepts}
-use Rattle.one_listing.proofs.Back.{againEntry}
 use Rattle.lookup.specs.Halving.{found, absent}
 use Rattle.lookup.specs.Lookup.{lookupIn}
 use Rattle.tree_write.specs.Write.{written, treeAnswer}
 
--- the records that the strict reader returned by rule set k, as they lie in the lent list
-abbrev pub returned : ℕ → ℕ → List ℕ → List ℕ → ℕ → List ℕ
-returned k h s lent n = take (n * width) (readRecords h s (strictly (gitRules k) h s) lent)
+-- the records that the strict reader returned by some rules, as they lie in the lent list
+abbrev pub returned : Rules → ℕ → List ℕ → List ℕ → ℕ → List ℕ
+returned R h s lent n = take (n * width) (readRecords h s (strictly R h s) lent)
 
 -- the entry at an index of a listing has this name and this sort
 abbrev pub noEntry : Entry
@@ -33,29 +35,29 @@ pub record Holds (es : List Entry) (name : List ℕ) (folder : Bool) (i : ℕ) :
   pub named : getD es i noEntry .name ≡ name
   pub sort : isTree (getD es i noEntry .mode) ≡ folder
 
--- In an accepted object, bisection for a name without a slash, as folder or as anything else, finds an entry exactly when it is there, and gives that one.
-abbrev pub Finds : Type 0
-Finds =
-    (k h : ℕ) (s lent : List ℕ) (es : List Entry) → Accepts (gitRules k) h s lent es → (name : List ℕ) → length name ≤ mostBytes → freeOf 47 name ≡ true → (folder : Bool) (i : ℕ)
-    → ((c : ℕ) × (lookupIn h s (recordsOf (returned k h s lent (length es))) name folder ≡ found i c)) ↔ Holds es name folder i
+-- The search for a name without a slash and for a sort, in an object that was accepted: an index is answered where the entry there has both, and only there.
+abbrev pub Finds : Rules → Type 0
+Finds R =
+    (h : ℕ) (s lent : List ℕ) (es : List Entry) → Accepts R h s lent es → (name : List ℕ) → length name ≤ mostBytes → freeOf 47 name ≡ true → (folder : Bool) (i : ℕ)
+    → ((c : ℕ) × (lookupIn h s (recordsOf (returned R h s lent (length es))) name folder ≡ found i c)) ↔ Holds es name folder i
 
 -- It answers 15 exactly when no entry has the name and the sort.
-abbrev pub Misses : Type 0
-Misses =
-    (k h : ℕ) (s lent : List ℕ) (es : List Entry) → Accepts (gitRules k) h s lent es → (name : List ℕ) → length name ≤ mostBytes → freeOf 47 name ≡ true → (folder : Bool)
-    → ((c : ℕ) × (lookupIn h s (recordsOf (returned k h s lent (length es))) name folder ≡ absent c)) ↔ ((i : ℕ) → Holds es name folder i → ⊥)
+abbrev pub Misses : Rules → Type 0
+Misses R =
+    (h : ℕ) (s lent : List ℕ) (es : List Entry) → Accepts R h s lent es → (name : List ℕ) → length name ≤ mostBytes → freeOf 47 name ≡ true → (folder : Bool)
+    → ((c : ℕ) × (lookupIn h s (recordsOf (returned R h s lent (length es))) name folder ≡ absent c)) ↔ ((i : ℕ) → Holds es name folder i → ⊥)
 
 -- What the strict reader accepts the plain reader accepts, with the same answer and the same records.
-abbrev pub PlainToo : Type 0
-PlainToo =
-    (k h : ℕ) (s lent : List ℕ) (es : List Entry) → Accepts (gitRules k) h s lent es
-    → (readAnswer h s (listing h s) lent ≡ counted (length es)) × (readRecords h s (listing h s) lent ≡ readRecords h s (strictly (gitRules k) h s) lent)
+abbrev pub PlainToo : Rules → Type 0
+PlainToo R =
+    (h : ℕ) (s lent : List ℕ) (es : List Entry) → Accepts R h s lent es
+    → (readAnswer h s (listing h s) lent ≡ counted (length es)) × (readRecords h s (listing h s) lent ≡ readRecords h s (strictly R h s) lent)
 
 -- An accepted object, written from the records that were returned into room for it, is itself, byte for byte.
-abbrev pub Rewrites : Type 0
-Rewrites =
-    (k h : ℕ) (s lent : List ℕ) (es : List Entry) (room : ℕ) → Accepts (gitRules k) h s lent es → length s ≤ room → room ≤ mostBytes
-    → (treeAnswer h s (returned k h s lent (length es)) room ≡ counted (length s)) × (written h s (recordsOf (returned k h s lent (length es))) ≡ s)
+abbrev pub Rewrites : Rules → Type 0
+Rewrites R =
+    (h : ℕ) (s lent : List ℕ) (es : List Entry) (room : ℕ) → Accepts R h s lent es → length s ≤ room → room ≤ mostBytes
+    → (treeAnswer h s (returned R h s lent (length es)) room ≡ counted (length s)) × (written h s (recordsOf (returned R h s lent (length es))) ≡ s)
 
 -- no record has mode 0
 abbrev pub SomeModes : List EntryRecord → Type 0

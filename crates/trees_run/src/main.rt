@@ -19,6 +19,9 @@ use record_slice::bisect_array;
 use scan::same_bytes;
 use std::num::wrapping_add_usize;
 
+// The records that are lent; no object of the input has more entries.
+const RECORDS: usize = 400;
+
 // ---- writing
 
 fn say(s: &[u8]) {
@@ -117,7 +120,7 @@ struct Outcome {
 
 fn read(s: &[u8], h: usize, strict: bool, list: &mut [usize]) -> Answer {
     if strict {
-        return reading::read_tree_strict(s, h, 2, list);
+        return strict::read_tree_strict(s, h, 2, list);
     }
     reading::read_tree(s, h, list)
 }
@@ -964,8 +967,8 @@ fn read_object(name: &[u8], h: usize, buffer: &mut [u8], out: &mut [u8]) {
     if buffer.len() < n {
         return;
     }
-    let mut records = [0usize; 2048];
-    let mut list = [0usize; 2048];
+    let mut records = [0usize; RECORDS * WIDTH];
+    let mut list = [0usize; RECORDS * WIDTH];
     say(name);
     number(n);
     object(&buffer[0..n], h, &mut records, out, &mut list);

@@ -3,7 +3,7 @@ use Rattle.commit_check.proofs.count_headers.Statement.{statement}
 use Rattle.commit_check.proofs.count_headers.Tie as tie
 use Rattle.commit_check.proofs.Laws.{heads-end, heads-bad, heads-more}
 use Rattle.commit_check.specs.Check.{passing, headerFits, headersOf}
-use Rattle.commit_grammar.specs.Named.{recordsFrom}
+use Rattle.grammar.specs.Named.{recordsFrom}
 use Rattle.header.specs.Record.{width}
 use mathlib.Core.Path.{_≡_, refl, sym, _∙_}
 use mathlib.Core.List.{map}

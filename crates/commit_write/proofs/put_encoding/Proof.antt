@@ -3,11 +3,11 @@ use borrow.Author.Needs.{needs}
 use Rattle.commit_write.proofs.put_encoding.Statement.{statement}
 use Rattle.commit_write.proofs.put_encoding.Tie as tie
 use Rattle.commit_write.proofs.Laws.{encoding-range, encoding-given, encoding-absent}
-use Rattle.commit_grammar.specs.Grammar.{encodingBytes}
+use Rattle.grammar.specs.Grammar.{encodingBytes}
 use mathlib.Core.Path.{refl, sym}
 use native.Mathlib.Nat.{add-zero}
 use native.Mathlib.Omega.{arith}
-use Rattle.commit_grammar.proofs.Pieces.{part-length}
+use Rattle.grammar.proofs.Laws.{part-length}
 
 slice-aggregate-put-line : tie.Need-slice-aggregate-put-line
 slice-aggregate-put-line c = search needs

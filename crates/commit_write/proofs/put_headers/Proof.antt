@@ -5,7 +5,7 @@ use Rattle.commit_write.proofs.Laws.{Left, left-all, left-next, left-no
 use Rattle.commit_write.specs.Written.{headerWritten, headersWritten}
 use Rattle.commit_check.specs.Check.{headersOf, headerFits, passing}
 use Rattle.commit_check.proofs.Laws.{headers-step}
-use Rattle.commit_grammar.specs.Named.{headerNamed, recordsFrom}
+use Rattle.grammar.specs.Named.{headerNamed, recordsFrom}
 use Rattle.header.specs.Record.{width}
 use mathlib.Core.Path.{_≡_, refl, _∙_}
 use mathlib.Core.Bool.{true}

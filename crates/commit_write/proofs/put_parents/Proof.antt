@@ -5,8 +5,8 @@ use Rattle.commit_write.proofs.Laws.{Left, left-all, left-next, left-no
 use Rattle.commit_write.specs.Written.{lowerHex}
 use Rattle.commit_check.specs.Check.{idFits, passing}
 use Rattle.commit_check.proofs.Laws.{id-inside, parents-step}
-use Rattle.commit_grammar.specs.Grammar.{line, parentsBytes}
-use Rattle.commit_grammar.specs.Named.{idNamed}
+use Rattle.grammar.specs.Grammar.{line, parentsBytes}
+use Rattle.grammar.specs.Named.{idNamed}
 use Rattle.header.specs.Words.{parentWord}
 use mathlib.Core.Path.{_≡_, refl, _∙_}
 use mathlib.Core.List.{map}

@@ -13,7 +13,7 @@ use Rattle.entry.specs.Record.{many, recordsOf, nameOf}
 use Rattle.entry.proofs.Laws.{records-many, well-parts}
 use Rattle.lookup.specs.Halving.{searchFrom}
 use Rattle.lookup.specs.Lookup.{compareAt, lookupIn}
-use Rattle.lookup.proofs.Laws.{search-end, search-bad, search-good, told-of, lookup-open}
+use Rattle.lookup.proofs.Laws.{search-end, search-bad, search-told, lookup-open}
 
 abbrev Inv-loop : tie.InvT-loop
 Inv-loop object h records name folder low₀ high₀ compared₀ low high compared = (high ≤ many (length records)) × (compared + (high - low) ≤ mostRecords) ×
@@ -79,7 +79,7 @@ loop-again c =
     let told = c .enum-told .given .1 in
     let args = c .before .before .before .before .before .before .before .before .before .before .before .before .before .args in
     let more = c .before .before .before .before .before .before .before .before .loop-test .taken in
-    (loop .inv .0, omega (arith, loop .inv .1), loop .inv .2 ∙ search-good _ _ (recordsOf (args .records .now)) _ _ _ _ _ more _ (record-at .ensures) good Below (told-of (args .object .now) (args .name .now) (args .folder) (record-at .result) folder ordered told))
+    (loop .inv .0, omega (arith, loop .inv .1), loop .inv .2 ∙ search-told _ _ (recordsOf (args .records .now)) _ _ _ _ _ more _ (record-at .ensures) good Below folder ordered told)
 
 enum-told-2 : tie.Need-enum-told-2 Inv-loop μ-loop
 enum-told-2 c = search needs
@@ -95,7 +95,7 @@ returns c =
     let told = c .enum-told2 .given .1 in
     let args = c .before .before .before .before .before .before .before .before .before .before .before .before .before .args in
     let more = c .before .before .before .before .before .before .before .before .loop-test .taken in
-    sym (loop .inv .2 ∙ search-good _ _ (recordsOf (args .records .now)) _ _ _ _ _ more _ (record-at .ensures) good Same (told-of (args .object .now) (args .name .now) (args .folder) (record-at .result) folder ordered told))
+    sym (loop .inv .2 ∙ search-told _ _ (recordsOf (args .records .now)) _ _ _ _ _ more _ (record-at .ensures) good Same folder ordered told)
 
 enum-told-3 : tie.Need-enum-told-3 Inv-loop μ-loop
 enum-told-3 c = search needs
@@ -114,7 +114,7 @@ loop-again-2 c =
     let told = c .enum-told3 .given .1 in
     let args = c .before .before .before .before .before .before .before .before .before .before .before .before .before .args in
     let more = c .before .before .before .before .before .before .before .before .loop-test .taken in
-    (omega (arith, loop .inv .0), omega (arith, loop .inv .1), loop .inv .2 ∙ search-good _ _ (recordsOf (args .records .now)) _ _ _ _ _ more _ (record-at .ensures) good Above (told-of (args .object .now) (args .name .now) (args .folder) (record-at .result) folder ordered told))
+    (omega (arith, loop .inv .0), omega (arith, loop .inv .1), loop .inv .2 ∙ search-told _ _ (recordsOf (args .records .now)) _ _ _ _ _ more _ (record-at .ensures) good Above folder ordered told)
 
 returns-2 : tie.Need-returns-2 Inv-loop μ-loop
 returns-2 c =

@@ -2,10 +2,10 @@
 use borrow.Author.Needs.{needs}
 use Rattle.reading.proofs.count_plain.Statement.{statement}
 use Rattle.reading.proofs.count_plain.Tie as tie
-use Prim.Native.Nat.{ℕ, _≤_, _-_}
+use Prim.Native.Nat.{_≤_, _-_}
 use mathlib.Core.Path.{_≡_, refl, sym, ap, _∙_}
 use native.Mathlib.Omega.{arith}
-use Rattle.ground.specs.Verdict.{mostRecords, broken}
+use Rattle.ground.specs.Verdict.{mostRecords}
 use Rattle.reading.specs.Listing.{listing, tally}
 use Rattle.reading.specs.declared.Counted.the-variants.{Stopped}
 use Rattle.reading.proofs.Laws.{restAt, rest-end, rest-full, rest-broken, rest-whole}
@@ -29,14 +29,19 @@ returns c =
 mode-code-requires : tie.Need-mode-code-requires Inv-loop μ-loop
 mode-code-requires c κs = search needs
 
+verdict-at-requires : tie.Need-verdict-at-requires Inv-loop μ-loop
+verdict-at-requires c κs = search needs
+
 returns-2 : tie.Need-returns-2 Inv-loop μ-loop
 unfolding tally
 returns-2 c =
-    let if1 = c .before .before .if1 in
-    let loop-test = c .before .before .before .loop-test in
-    let loop = c .before .before .before .before .loop in
-    let args = c .before .before .before .before .before .before .args in
-    sym (loop .inv .1 ∙ ap (tally (loop .n)) (rest-broken _ _ _ _ (loop-test .taken) (if1 .left) (code-none (args .s .now) (args .h) (loop .at) _ (c .before .mode-code .ensures) (c .if2 .taken))))
+    let mode-code = c .before .before .mode-code in
+    let if1 = c .before .before .before .if1 in
+    let loop-test = c .before .before .before .before .loop-test in
+    let loop = c .before .before .before .before .before .loop in
+    let args = c .before .before .before .before .before .before .before .args in
+    let d = code-none (args .s .now) (args .h) (loop .at) _ (mode-code .ensures) (c .before .if2 .taken) in
+    ap Stopped (c .verdict-at .ensures) ∙ sym (loop .inv .1 ∙ ap (tally (loop .n)) (rest-broken _ _ _ _ (loop-test .taken) (if1 .left) d))
 
 add-find-nul : tie.Need-add-find-nul Inv-loop μ-loop
 add-find-nul c =
@@ -54,20 +59,21 @@ sub-left c =
     let args = c .before .before .before .before .before .before .before .args in
     name-ends (args .s .now) (args .h) (loop .at) _ (mode-code .ensures) (c .before .if2 .left) _ (c .find-nul .ensures)
 
-short-part-requires : tie.Need-short-part-requires Inv-loop μ-loop
-short-part-requires c κs = search needs
+verdict-at-requires-2 : tie.Need-verdict-at-requires-2 Inv-loop μ-loop
+verdict-at-requires-2 c κs = search needs
 
 returns-3 : tie.Need-returns-3 Inv-loop μ-loop
 unfolding tally
 returns-3 c =
+    let find-nul = c .before .before .find-nul in
     let if2 = c .before .before .before .if2 in
     let mode-code = c .before .before .before .before .mode-code in
     let if1 = c .before .before .before .before .before .if1 in
     let loop-test = c .before .before .before .before .before .before .loop-test in
     let loop = c .before .before .before .before .before .before .before .loop in
     let args = c .before .before .before .before .before .before .before .before .before .args in
-    ap (λ (k : ℕ). Stopped (broken (loop .at) k)) (c .short-part .ensures)
-    ∙ sym (loop .inv .1 ∙ ap (tally (loop .n)) (rest-broken _ _ _ _ (loop-test .taken) (if1 .left) (name-short (args .s .now) (args .h) (loop .at) _ (mode-code .ensures) (if2 .left) _ (c .before .before .find-nul .ensures) (c .before .if3 .taken))))
+    let d = name-short (args .s .now) (args .h) (loop .at) _ (mode-code .ensures) (if2 .left) _ (find-nul .ensures) (c .before .if3 .taken) in
+    ap Stopped (c .verdict-at2 .ensures) ∙ sym (loop .inv .1 ∙ ap (tally (loop .n)) (rest-broken _ _ _ _ (loop-test .taken) (if1 .left) d))
 
 add-at : tie.Need-add-at Inv-loop μ-loop
 add-at c = search needs
@@ -90,7 +96,8 @@ loop-again c =
     let loop-test = c .before .before .before .before .before .loop-test in
     let loop = c .before .before .before .before .before .before .loop in
     let args = c .before .before .before .before .before .before .before .before .args in
-    (omega arith, loop .inv .1 ∙ ap (tally (loop .n)) (rest-whole _ _ _ _ (loop-test .taken) (if1 .left) (name-whole (args .s .now) (args .h) (loop .at) _ (mode-code .ensures) (if2 .left) _ (c .before .find-nul .ensures) (c .if3 .left))))
+    let d = name-whole (args .s .now) (args .h) (loop .at) _ (mode-code .ensures) (if2 .left) _ (c .before .find-nul .ensures) (c .if3 .left) in
+    (omega arith, loop .inv .1 ∙ ap (tally (loop .n)) (rest-whole _ _ _ _ (loop-test .taken) (if1 .left) d))
 
 returns-4 : tie.Need-returns-4 Inv-loop μ-loop
 unfolding tally
@@ -105,11 +112,12 @@ count-plain-spec =
     loop-holds
     returns
     mode-code-requires
+    verdict-at-requires
     returns-2
     add-find-nul
     find-nul-requires
     sub-left
-    short-part-requires
+    verdict-at-requires-2
     returns-3
     add-at
     add-at-2

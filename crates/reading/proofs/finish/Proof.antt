@@ -2,25 +2,47 @@
 use borrow.Author.Needs.{needs}
 use Rattle.reading.proofs.finish.Statement.{statement}
 use Rattle.reading.proofs.finish.Tie as tie
-use native.Mathlib.Omega.{arith}
-use Rattle.ground.specs.Verdict.{verdict}
-use Rattle.reading.proofs.Laws.{room-short, room-fine, refused-both, stored-both, store-all}
+use Rattle.reading.proofs.Laws.{ends-stopped, ends-short, ends-done}
+
+enum-known-got : tie.Need-enum-known-got
+enum-known-got c = search needs
+
+enum-known-got-2 : tie.Need-enum-known-got-2
+enum-known-got-2 c = search needs
 
 returns : tie.Need-returns
-returns c = refused-both (verdict 4 (c .before .before .before .args .count)) _ _ (room-short _ _ (c .if1 .taken)) (λ z. omega arith)
+returns c =
+    let got2 = c .before .before .got2 in
+    let args = c .before .before .before .before .before .before .args in
+    ends-short (args .h) (args .s .now) (args .records .now) _ (got2 .given .1) (c .if1 .taken)
 
 fill-requires : tie.Need-fill-requires
 fill-requires c κs = search needs
 
+returns-2 : tie.Need-returns-2
+returns-2 c =
+    let args = c .before .before .before .before .before .args in
+    ends-stopped (args .h) (args .s .now) (args .records .now) _ (c .before .got .given .1)
+
 same-length : tie.Need-same-length
 same-length c = search needs
 
-returns-2 : tie.Need-returns-2
-returns-2 c =
+returns-3 : tie.Need-returns-3
+returns-3 c =
+    let fill = c .before .before .fill in
     let if1 = c .before .before .before .before .if1 in
-    let args = c .before .before .before .before .before .before .before .args in
-    let pre = c .before .before .before .before .before .before .before .pre in
-    stored-both _ _ _ (room-fine _ _ (if1 .left)) (c .before .before .fill .ensures) (store-all (args .records .now) _ _ (pre) (if1 .left))
+    let got2 = c .before .before .before .before .before .before .got2 in
+    let args = c .before .before .before .before .before .before .before .before .before .before .args in
+    ends-done (args .h) (args .s .now) (args .records .now) _ (got2 .given .1) (if1 .left) (fill .ensures)
 
 pub finish-spec : {M : Type 1} → statement M
-finish-spec = tie.close (tie.spec returns fill-requires same-length returns-2)
+finish-spec =
+    tie.close
+    (tie.spec
+    enum-known-got
+    enum-known-got-2
+    returns
+    fill-requires
+    returns-2
+    same-length
+    returns-3)

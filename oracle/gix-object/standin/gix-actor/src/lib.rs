@@ -1,4 +1,4 @@
-//! Stand-in for gix-actor: it accepts exactly the actor form of docs/01-scope.md and is NOT the crate's own parser.
+//! Stand-in for gix-actor: it accepts exactly the actor form of docs/FORMAT.md and is NOT the crate's own parser.
 use std::io::Write;
 
 /// An actor value, kept as it stood.
@@ -17,7 +17,7 @@ impl<'a> SignatureRef<'a> {
     }
 }
 
-/// `name <address> digits +hhmm`, as docs/01-scope.md has it.
+/// `name <address> digits +hhmm`, as docs/FORMAT.md has it.
 fn form(value: &[u8]) -> Option<()> {
     let plain = |b: &u8| !matches!(b, b'<' | b'>' | 0 | b'\n');
     let check = |ok: bool| ok.then_some(());

@@ -1,0 +1,83 @@
+/* The measured calls of bench/instructions: trees of so many entries with names of so many bytes. Each call stands between two calls of
+ * getppid, where the emulator's plugin prints its count; a line on standard output says how many counts belong to it and what they are. */
+#include "sarpukten.h"
+
+#include <stdio.h>
+#include <stdlib.h>
+#include <string.h>
+#include <unistd.h>
+#include <sys/syscall.h>
+
+static void mark(void) { syscall(SYS_getppid); }
+
+/* Of eight entries one is a folder and one can be run; a quarter of a name is the same for all, four letters count up. */
+static size_t make(uint8_t *to, size_t n, size_t len)
+{
+    size_t at = 0, i, k;
+
+    for (i = 0; i < n; i++) {
+        const char *mode = i % 8 == 3 ? "40000 " : i % 8 == 6 ? "100755 " : "100644 ";
+        size_t m = strlen(mode);
+        memcpy(to + at, mode, m);
+        at += m;
+        memset(to + at, 'n', len);
+        for (k = 0; k < 4; k++)
+            to[at + len / 4 + k] = (uint8_t)('a' + i / (k == 0 ? 17576 : k == 1 ? 676 : k == 2 ? 26 : 1) % 26);
+        to[at + len] = 0;
+        at += len + 1;
+        memset(to + at, (int)(i % 251 + 1), 20);
+        at += 20;
+    }
+    return at;
+}
+
+int main(int argc, char **argv)
+{
+    static const size_t lens[] = {6, 12, 24, 60, 200};
+    size_t most = argc > 1 ? strtoul(argv[1], 0, 10) : 2000, sizes[] = {10, 300, 2000, 100000}, s, l, i;
+
+    for (s = 0; s < 4; s++)
+        for (l = 0; l < 5; l++) {
+            size_t n = sizes[s], len = lens[l], answer[SARPUKTEN_COMMIT_ANSWER], bytes;
+            if (n > most)
+                continue;
+            uint8_t *object = malloc(n * (len + 29)), *out = malloc(n * (len + 29));
+            size_t *records = malloc(n * SARPUKTEN_ENTRY * sizeof *records);
+            if (!object || !out || !records)
+                return 1;
+            bytes = make(object, n, len);
+            for (i = 0; i < 2; i++) { /* the first round only warms up */
+                mark();
+                sarpukten_read_tree(object, bytes, SARPUKTEN_SHA1, records, n * SARPUKTEN_ENTRY, answer);
+                mark();
+            }
+            if (answer[SARPUKTEN_ANSWER_NUMBER] || answer[SARPUKTEN_ANSWER_COUNT] != n)
+                return 2;
+            printf("4 plain %zu %zu %zu\n", n, len, n);
+            for (i = 0; i < 2; i++) {
+                mark();
+                sarpukten_read_tree_strict(object, bytes, SARPUKTEN_SHA1, SARPUKTEN_RULES_PRESENT, records, n * SARPUKTEN_ENTRY, answer);
+                mark();
+            }
+            if (answer[SARPUKTEN_ANSWER_NUMBER] || answer[SARPUKTEN_ANSWER_COUNT] != n)
+                return 3;
+            printf("4 strict %zu %zu %zu\n", n, len, n);
+            mark();
+            for (i = 0; i < n; i++) {
+                const size_t *r = records + i * SARPUKTEN_ENTRY;
+                sarpukten_bisect_entry(object, bytes, SARPUKTEN_SHA1, records, n * SARPUKTEN_ENTRY, object + r[1], r[2] - r[1], r[0] == 040000, answer);
+            }
+            mark();
+            printf("2 bisect %zu %zu %zu\n", n, len, n);
+            for (i = 0; i < 2; i++) {
+                mark();
+                sarpukten_write_tree(object, bytes, SARPUKTEN_SHA1, records, n * SARPUKTEN_ENTRY, out, bytes, answer);
+                mark();
+            }
+            if (answer[SARPUKTEN_ANSWER_NUMBER] || memcmp(out, object, bytes))
+                return 4;
+            printf("4 write %zu %zu %zu\n", n, len, n);
+            free(object), free(out), free(records);
+        }
+    return 0;
+}

@@ -1,0 +1,3 @@
+pub mod Hex
+pub mod Demand
+pub mod Examples

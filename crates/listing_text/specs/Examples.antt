@@ -1,0 +1,47 @@
+-- Texts, computed: refusals, and the object of two entries from docs/FORMAT.md, whole and cut. Assumes nothing.
+use Prim.Native.Nat.{ℕ}
+use mathlib.Core.Path.{_≡_, refl}
+use mathlib.Core.List.{List, [], _∷_, _++_}
+use lib.ListN.{length, take, replicate}
+use Rattle.ground.specs.Basics.{ascii}
+use Rattle.ground.specs.Verdict.{verdict, broken}
+use Rattle.mode.specs.Mode.{valueOf, sortOf, executes, kindOf}
+use Rattle.mode.specs.Read.{octalFrom, hasSix, textLen, settle, restAt, readMode}
+use Rattle.mode.specs.Write.{trimmed, writeMode}
+use Rattle.mode.specs.Table.{rows, rowAt, writtenOf, wordOf}
+use Rattle.entry.specs.Record.{nameOf, idOf}
+use Rattle.entry.specs.Decode.{shortPart, decodeName, decodeMode, decode}
+use Rattle.reading.specs.Listing.{follow, plain, recordsIn, tally}
+use Rattle.loose_header.specs.Header.{digits, decimal}
+use Rattle.listing_text.specs.Text.{lf, hexDigit, hexOf, modeWords, line, lines, head, refusal, partWords, toldOf, verdictOf, text, listed}
+
+pub refusals : (refusal (verdict 2 0) ≡ ascii "refused 2 at 0" ++ lf) × (refusal (broken 29 3) ≡ ascii "refused 3 at 29" ++ lf)
+unfolding digits decimal refusal
+refusals = (refl, refl)
+
+pub parts : (partWords 0 ≡ []) × (partWords 1 ≡ ascii "the entry's mode cannot be read") × (partWords 3 ≡ ascii "the entry's id is cut")
+unfolding partWords
+parts = (refl, refl, refl)
+
+pub texts : (head 2978 ≡ ascii "entries 2978" ++ lf) × (hexOf (0x0a ∷ 0xf9 ∷ []) ≡ ascii "0af9")
+unfolding digits decimal hexDigit hexOf head
+texts = (refl, refl)
+
+abbrev object : List ℕ
+object = ascii "100644 a" ++ 0 ∷ (replicate 20 0x11 ++ (ascii "40000 b" ++ 0 ∷ replicate 20 0x2a))
+
+pub whole : text object
+    ≡ ascii "entries 2" ++ lf
+    ++ ascii "100644 blob 1111111111111111111111111111111111111111 a" ++ lf
+    ++ ascii "40000 tree 2a2a2a2a2a2a2a2a2a2a2a2a2a2a2a2a2a2a2a2a b" ++ lf
+unfolding valueOf sortOf executes kindOf octalFrom hasSix textLen settle restAt readMode trimmed writeMode rows rowAt writtenOf wordOf nameOf idOf shortPart decodeName decodeMode decode follow plain recordsIn tally digits decimal hexDigit hexOf modeWords line lines head toldOf text
+whole = refl
+
+pub cut : (text (take 56 object) ≡ ascii "refused 3 at 29" ++ lf) × (listed (take 56 object) .verdict ≡ broken 29 3)
+unfolding octalFrom hasSix textLen settle restAt readMode shortPart decodeName decodeMode decode follow plain recordsIn tally digits decimal refusal toldOf verdictOf text listed
+cut = (refl, refl)
+
+-- one byte more than is listed
+pub long : text (replicate 65537 0x20) ≡ ascii "refused 2 at 0" ++ lf
+unfolding digits decimal refusal text
+long = refl

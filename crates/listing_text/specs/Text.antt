@@ -1,0 +1,79 @@
+-- What `listing` says of a tree object whose ids have 20 bytes (docs/FORMAT.md, "Examples"). Assumes nothing.
+use Prim.Native.Nat.{ℕ, _+_, _/_, _%_}
+use mathlib.Core.List.{List, [], _∷_, _++_}
+use lib.Dec.{leb, ltb}
+use lib.ListN.{length, getD}
+use Rattle.ground.specs.Basics.{pick, ascii}
+use Rattle.ground.specs.Verdict.{verdict, fine}
+use Rattle.ground.specs.declared.Verdict.{Verdict}
+use Rattle.mode.specs.Write.{writeMode}
+use Rattle.mode.specs.Table.{shown, wordOf}
+use Rattle.entry.specs.Record.{nameOf, idOf}
+use Rattle.entry.specs.declared.EntryRecord.{EntryRecord}
+use Rattle.reading.specs.Listing.{listing, recordsIn, tally}
+use Rattle.reading.specs.declared.Counted.{Counted}
+use Rattle.reading.specs.declared.Counted.the-variants.{Total, Stopped}
+use Rattle.loose_header.specs.Header.{decimal}
+use Rattle.listing_text.specs.declared.Listed.{Listed}
+
+abbrev pub space : List ℕ
+space = ascii " "
+
+abbrev pub lf : List ℕ
+lf = 10 ∷ []
+
+-- the hex digit of a number's last four bits, in lower case
+unfoldable pub hexDigit : ℕ → ℕ
+hexDigit x = pick (ltb (x % 16) 10) (48 + x % 16) (87 + x % 16)
+
+-- bytes in hex, two digits each
+unfoldable pub hexOf : List ℕ → List ℕ
+hexOf [] = []
+hexOf (b ∷ bs) = (hexDigit (b / 16) ∷ hexDigit b ∷ []) ++ hexOf bs
+
+-- a mode, which has 16 bits: its text and the word of its kind
+unfoldable pub modeWords : ℕ → List ℕ
+modeWords m = writeMode (m % 65536) ++ space ++ shown (wordOf (m % 65536)) ++ space
+
+-- an entry's line: mode text, word, id in hex, name
+unfoldable pub line : List ℕ → EntryRecord → List ℕ
+line s e = modeWords (e .mode) ++ hexOf (idOf 20 s e) ++ space ++ nameOf s e ++ lf
+
+-- the lines of entries, one after the other
+unfoldable pub lines : List ℕ → List EntryRecord → List ℕ
+lines s [] = []
+lines s (e ∷ es) = line s e ++ lines s es
+
+-- the line before them
+unfoldable pub head : ℕ → List ℕ
+head n = ascii "entries " ++ decimal n ++ lf
+
+-- the line of a refusal
+unfoldable pub refusal : Verdict → List ℕ
+refusal v = ascii "refused " ++ decimal (v .number) ++ ascii " at " ++ decimal (v .place) ++ lf
+
+-- what is said besides of the part of an entry that cannot be read; nothing where there is none
+unfoldable pub partWords : ℕ → List ℕ
+partWords part =
+    getD ([] ∷ ascii "the entry's mode cannot be read" ∷ ascii "the entry's name has no end" ∷ ascii "the entry's id is cut" ∷ []) part []
+
+-- the longest object that is listed
+abbrev pub longest : ℕ
+longest = 65536
+
+-- the text, and the verdict, of an object that was read
+unfoldable pub toldOf : List ℕ → List EntryRecord → Counted → List ℕ
+toldOf s es (Total n) = head n ++ lines s es
+toldOf s es (Stopped v) = refusal v
+
+unfoldable pub verdictOf : Counted → Verdict
+verdictOf (Total n) = fine
+verdictOf (Stopped v) = v
+
+-- the whole text: a longer object is refused 2
+unfoldable pub text : List ℕ → List ℕ
+text s = pick (leb (length s) longest) (toldOf s (recordsIn (listing 20 s)) (tally 0 (listing 20 s))) (refusal (verdict 2 0))
+
+-- its verdict, and how long the text is
+unfoldable pub listed : List ℕ → Listed
+listed s = record { verdict = pick (leb (length s) longest) (verdictOf (tally 0 (listing 20 s))) (verdict 2 0); len = length (text s) }

@@ -1,0 +1,249 @@
+// The text of a listing, made from an object that is read plainly with ids of 20 bytes (docs/FORMAT.md, "Examples").
+ghost use mathlib.Core.Path.{_≡_};
+ghost use Prim.Native.Nat.{_+_, _-_, _*_, _<_, _≤_};
+ghost use lib.ListN.{length, take, drop};
+ghost use lib.Seq.{sets};
+ghost use Rattle.entry.specs.Record.{width, recordsOf};
+ghost use Rattle.loose_header.specs.Header.{decimal};
+ghost use Rattle.listing_text.specs.Text.{hexDigit, hexOf, modeWords, line, lines, head, refusal, partWords, longest, text, listed};
+ghost use Rattle.listing_text.specs.Code.{Added, room};
+use entry::EntryRecord;
+use entry::WIDTH;
+use entry::entry_at;
+use ground::BOUND;
+use ground::DONE;
+use ground::FINE;
+use ground::Verdict;
+use mode::EntryMode;
+use output::put;
+use reading::read_tree;
+
+// The longest object that is listed, and the records that the most entries need: an entry has at least 22 bytes.
+pub const LONGEST: usize = 65536;
+
+pub const ROOM: usize = 2978;
+
+// The verdict on an object, and how long its text is.
+pub struct Listed {
+    pub verdict: Verdict,
+    pub len: usize,
+}
+
+// Stores a piece at a place, as far as there is room, and gives the place past it.
+fn add(out: &mut [u8], at: usize, piece: &[u8]) -> usize
+    requires { ⌜ (at ≤ 1099511627776) × (length (now piece) ≤ 65536) ⌝ }
+    ensures { λ r. ⌜ Added (now (out .entry)) at (now (piece .entry)) (now (out .exit)) r ⌝ }
+{
+    put(out, at, piece);
+    at + piece.len()
+}
+
+// The decimal digits of a number: those of the text from a place on.
+struct Decimal {
+    text: [u8; 20],
+    at: usize,
+}
+
+fn decimal_of(n: u64) -> Decimal
+    ensures { λ r. ⌜ (r .at ≤ 20) × (length (r .text) ≡ 20) × (drop (r .at) (r .text) ≡ decimal n) ⌝ }
+{
+    let mut text = [0u8; 20];
+    let mut at: usize = 20;
+    let mut rest = n;
+    while 10 <= rest {
+        at -= 1;
+        text[at] = b'0' + (rest % 10) as u8;
+        rest /= 10;
+    }
+    at -= 1;
+    text[at] = b'0' + rest as u8;
+    Decimal { text, at }
+}
+
+fn add_number(out: &mut [u8], at: usize, n: usize) -> usize
+    requires { ⌜ at ≤ 1099511627776 ⌝ }
+    ensures { λ r. ⌜ Added (now (out .entry)) at (decimal n) (now (out .exit)) r × (r ≤ at + 20) ⌝ }
+{
+    let d = decimal_of(n as u64);
+    let from = d.at;
+    let digits = d.text;
+    add(out, at, &digits[from..20])
+}
+
+// The hex digit of a number's last four bits.
+fn hex_digit(x: u8) -> u8
+    ensures { λ r. ⌜ r ≡ hexDigit x ⌝ }
+{
+    let d = x % 16;
+    if d < 10 {
+        return b'0' + d;
+    }
+    87 + d
+}
+
+fn add_hex(out: &mut [u8], at: usize, bytes: &[u8]) -> usize
+    requires { ⌜ (at ≤ 549755813888) × (length (now bytes) ≤ 65536) ⌝ }
+    ensures { λ r. ⌜ Added (now (out .entry)) at (hexOf (now (bytes .entry))) (now (out .exit)) r × (r ≤ at + 131072) ⌝ }
+{
+    let mut p = at;
+    let mut i: usize = 0;
+    while i < bytes.len() {
+        let b = bytes[i];
+        p = add(out, p, &[hex_digit(b / 16), hex_digit(b)]);
+        i += 1;
+    }
+    p
+}
+
+// The bytes from a place on, at most so many.
+fn piece(s: &[u8], from: usize, n: usize) -> &[u8]
+    ensures { λ r. ⌜ (now r ≡ take n (drop from (now (s .entry)))) × (length (now r) ≤ n) × (length (now r) ≤ length (now (s .entry))) ⌝ }
+{
+    if s.len() <= from {
+        return &s[..0];
+    }
+    if s.len() - from < n {
+        return &s[from..];
+    }
+    let to = from + n;
+    &s[from..to]
+}
+
+// How much more one number is than another.
+fn above(a: usize, b: usize) -> usize
+    ensures { λ r. ⌜ r ≡ a - b ⌝ }
+{
+    if a < b {
+        return 0;
+    }
+    a - b
+}
+
+// A mode's text and the word of its kind, each with a space after it.
+fn add_mode(out: &mut [u8], at: usize, mode: usize) -> usize
+    requires { ⌜ at ≤ 549755813888 ⌝ }
+    ensures { λ r. ⌜ Added (now (out .entry)) at (modeWords mode) (now (out .exit)) r × (r ≤ at + 14) ⌝ }
+{
+    let m = EntryMode {
+        internal: (mode % 65536) as u16,
+    };
+    let t = m.as_bytes();
+    let digits = t.bytes;
+    let n = t.len;
+    let w = m.as_str();
+    let letters = w.bytes;
+    let k = w.len;
+    let p = add(out, at, piece(&digits, 0, n));
+    let q = add(out, p, b" ");
+    let u = add(out, q, piece(&letters, 0, k));
+    add(out, u, b" ")
+}
+
+fn add_line(out: &mut [u8], at: usize, s: &[u8], e: EntryRecord) -> usize
+    requires { ⌜ (at ≤ 274877906944) × (length (now s) ≤ longest) ⌝ }
+    ensures { λ r. ⌜ Added (now (out .entry)) at (line (now (s .entry)) e) (now (out .exit)) r × (r ≤ at + 65600) ⌝ }
+{
+    let start = e.name_start;
+    let n = above(e.name_end, start);
+    let p = add_mode(out, at, e.mode);
+    let q = add_hex(out, p, piece(s, e.id_start, 20));
+    let u = add(out, q, b" ");
+    let w = add(out, u, piece(s, start, n));
+    add(out, w, b"\n")
+}
+
+// The lines of all records.
+fn add_lines(out: &mut [u8], at: usize, s: &[u8], records: &[usize]) -> usize
+    requires { ⌜ (at ≤ 64) × (length (now s) ≤ longest) × (length (now records) ≤ room * width) ⌝ }
+    ensures { λ r. ⌜ Added (now (out .entry)) at (lines (now (s .entry)) (recordsOf (now (records .entry)))) (now (out .exit)) r ⌝ }
+{
+    let n = records.len() / WIDTH;
+    let mut p = at;
+    let mut i: usize = 0;
+    while i < n {
+        p = add_line(out, p, s, entry_at(records, i));
+        i += 1;
+    }
+    p
+}
+
+fn add_head(out: &mut [u8], n: usize) -> usize
+    ensures { λ r. ⌜ Added (now (out .entry)) 0 (head n) (now (out .exit)) r × (r ≤ 0 + 64) ⌝ }
+{
+    let p = add(out, 0, b"entries ");
+    let q = add_number(out, p, n);
+    add(out, q, b"\n")
+}
+
+fn add_refusal(out: &mut [u8], v: Verdict) -> usize
+    ensures { λ r. ⌜ Added (now (out .entry)) 0 (refusal v) (now (out .exit)) r ⌝ }
+{
+    let p = add(out, 0, b"refused ");
+    let q = add_number(out, p, v.number);
+    let u = add(out, q, b" at ");
+    let w = add_number(out, u, v.place);
+    add(out, w, b"\n")
+}
+
+// What a part that cannot be read is called, to the front of a lent output, as far as there is room; gives how long it is.
+pub fn put_part(out: &mut [u8], part: usize) -> usize
+    ensures count { λ r. ⌜ r ≡ length (partWords part) ⌝ }
+    ensures out { λ _. ⌜ now (out .exit) ≡ sets (now (out .entry)) 0 (partWords part) ⌝ }
+{
+    if part == 1 {
+        return add(out, 0, b"the entry's mode cannot be read");
+    }
+    if part == 2 {
+        return add(out, 0, b"the entry's name has no end");
+    }
+    if part == 3 {
+        return add(out, 0, b"the entry's id is cut");
+    }
+    0
+}
+
+// An object that is not too long, with room for its records.
+fn list_into(object: &[u8], records: &mut [usize], out: &mut [u8]) -> Listed
+    requires { ⌜ (length (now object) ≤ longest) × (length (now records) ≡ room * width) ⌝ }
+    ensures listed { λ r. ⌜ r ≡ listed (now (object .entry)) ⌝ }
+    ensures out { λ _. ⌜ now (out .exit) ≡ sets (now (out .entry)) 0 (text (now (object .entry))) ⌝ }
+{
+    let a = read_tree(object, 20, records);
+    let verdict = a.verdict;
+    let number = verdict.number;
+    if number != DONE {
+        let len = add_refusal(out, verdict);
+        return Listed { verdict, len };
+    }
+    let n = a.count;
+    let all = n * WIDTH;
+    let at = add_head(out, n);
+    let len = add_lines(out, at, object, &records[..all]);
+    Listed { verdict, len }
+}
+
+// An object that is not too long.
+fn list_short(object: &[u8], out: &mut [u8]) -> Listed
+    requires { ⌜ length (now object) ≤ longest ⌝ }
+    ensures listed { λ r. ⌜ r ≡ listed (now (object .entry)) ⌝ }
+    ensures out { λ _. ⌜ now (out .exit) ≡ sets (now (out .entry)) 0 (text (now (object .entry))) ⌝ }
+{
+    let mut records = [0usize; ROOM * WIDTH];
+    list_into(object, &mut records, out)
+}
+
+// The text of an object's listing to the front of a lent output, as far as there is room.
+pub fn put_listing(object: &[u8], out: &mut [u8]) -> Listed
+    ensures listed { λ r. ⌜ r ≡ listed (now (object .entry)) ⌝ }
+    ensures out { λ _. ⌜ now (out .exit) ≡ sets (now (out .entry)) 0 (text (now (object .entry))) ⌝ }
+{
+    if object.len() <= LONGEST {
+        return list_short(object, out);
+    }
+    let verdict = Verdict {
+        number: BOUND,
+        ..FINE
+    };
+    let len = add_refusal(out, verdict);
+    Listed { verdict, len }
+}

@@ -1,0 +1,12 @@
+-- `record_slice::answer` meets its contract. Assumes nothing.
+use Rattle.record_slice.proofs.answer.Statement.{statement}
+use Rattle.record_slice.proofs.answer.Tie as tie
+use mathlib.Core.Path.{refl}
+use Rattle.record_slice.specs.Probe.{answerOf}
+
+returns : tie.Need-returns
+unfolding answerOf
+returns c = refl
+
+pub answer-spec : {M : Type 1} → statement M
+answer-spec = tie.close (tie.spec returns)

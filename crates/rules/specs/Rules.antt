@@ -1,0 +1,100 @@
+-- The rules of strict reading: what they say of an entry after the ones before it, and the rules of the two rule sets (docs/FORMAT.md, "Strict reading").
+-- Assumes nothing.
+use Prim.Native.Nat.{ℕ, zero, suc, _+_}
+use mathlib.Core.Bool.{Bool, true, false, not, _&&_, _||_}
+use mathlib.Core.List.{List, [], _∷_, map}
+use lib.Dec.{eqb, leb}
+use Rattle.ground.specs.Basics.{pick, ascii}
+use Rattle.ground.specs.Scan.{sameBytes, freeOf}
+use Rattle.mode.specs.Mode.{isTree}
+use Rattle.mode.specs.Table.{rows, shown}
+use Rattle.mode.specs.Write.{short}
+use Rattle.mode.specs.declared.EntryKind.the-variants.{Blob}
+use Rattle.mode.specs.declared.Written.{Written}
+use Rattle.order.specs.Order.{nameOrder}
+use Rattle.order.specs.declared.Order.{Order}
+use Rattle.order.specs.declared.Order.the-variants.{Below, Same, Above}
+use Rattle.entry.specs.Entry.{Entry}
+use Rattle.doubles.specs.Doubles.{namedBefore}
+
+-- What is permitted: the rows of the mode table, and what is said of a name, and of an entry after the ones before it, the nearest first.
+-- A 0 says that it is permitted; any other number is the refusal.
+pub record Rules : Type 0 where
+  pub modes : List Written
+  pub nameNo : List ℕ → ℕ
+  pub afterNo : List Entry → Entry → ℕ
+
+-- the first number that is not 0
+abbrev pub orElse : ℕ → ℕ → ℕ
+orElse zero j = j
+orElse (suc i) j = suc i
+
+-- a mode text of one of the rows
+abbrev pub isText : List Written → List ℕ → Bool
+isText [] t = false
+isText (r ∷ rs) t = sameBytes t (shown (r .text)) || isText rs t
+
+-- what the rules say of an entry with its mode text, after the entries before: 5, then its name, then its place
+unfoldable pub judge : Rules → List Entry → List ℕ → Entry → ℕ
+judge R before text e = orElse (pick (isText (R .modes) text) 0 5) (orElse (R .nameNo (e .name)) (R .afterNo before e))
+
+-- ---- a name
+
+-- not empty, free of slash, and none of `.`, `..` and `.git`
+unfoldable pub isPlain : List ℕ → Bool
+isPlain n =
+    not (sameBytes n []) && (freeOf 47 n && (not (sameBytes n (ascii ".")) && (not (sameBytes n (ascii "..")) && not (sameBytes n (ascii ".git")))))
+
+-- such a name, free of NUL
+unfoldable pub permitted : List ℕ → Bool
+permitted n = freeOf 0 n && isPlain n
+
+-- an ASCII letter in lower case, and any other byte as it is
+abbrev pub lower : ℕ → ℕ
+lower b = pick (leb 65 b && leb b 90) (b + 32) b
+
+-- `.git`, each letter in either case
+unfoldable pub isDotGit : List ℕ → Bool
+isDotGit n = sameBytes (map lower n) (ascii ".git")
+
+-- 6 for a name that is not permitted; 18 for `.git` with letters in upper case
+unfoldable pub nameNumber : List ℕ → ℕ
+nameNumber n = orElse (pick (permitted n) 0 6) (pick (isDotGit n) 18 0)
+
+-- the same but for NUL, which no name of an entry that was read has
+unfoldable pub bareNumber : List ℕ → ℕ
+bareNumber n = orElse (pick (isPlain n) 0 6) (pick (isDotGit n) 18 0)
+
+-- ---- a place among the entries
+
+abbrev pub isBelow : Order → Bool
+isBelow Below = true
+isBelow Same = false
+isBelow Above = false
+
+-- one entry stands strictly before another in Git's order
+unfoldable pub standsBefore : Entry → Entry → Bool
+standsBefore a b = isBelow (nameOrder (a .name) (isTree (a .mode)) (b .name) (isTree (b .mode)))
+
+-- an entry stands strictly after the nearest before it
+unfoldable pub isAfter : List Entry → Entry → Bool
+isAfter [] e = true
+isAfter (p ∷ ps) e = standsBefore p e
+
+-- 7 for an entry that does not stand after the one before; 17 for one whose name an entry before has
+unfoldable pub afterNumber : List Entry → Entry → ℕ
+afterNumber before e = orElse (pick (isAfter before e) 0 7) (pick (namedBefore before (e .name)) 17 0)
+
+-- ---- the rule sets 1 and 2
+
+-- the mode that early Git gave a group-writable file; it is no kind's own, and its kind is a file's
+unfoldable pub groupRow : Written
+groupRow = record { mode = 0o100664; kind = Blob; text = short (ascii "100664"); word = short (ascii "blob") }
+
+-- the modes of a rule set: the five written ones, and in set 1 that of early Git
+abbrev pub modesOf : ℕ → List Written
+modesOf k = pick (eqb k 1) (groupRow ∷ rows) rows
+
+-- the rules of a rule set: its modes, and what is said of a name and of an entry's place
+unfoldable pub gitRules : ℕ → Rules
+gitRules k = record { modes = modesOf k; nameNo = nameNumber; afterNo = afterNumber }

@@ -1,0 +1,201 @@
+-- Laws of the strict reader's leaves: a mode text told by its code, an entry by itself, and its place among the entries read before. Assumes nothing.
+use Prim.Native.Nat.{ℕ, zero, suc, _+_, _-_, _%_, _<_, _≤_}
+use native.Mathlib.Omega.{arith}
+use mathlib.Core.Path.{_≡_, refl, sym, ap, subst, _∙_}
+use mathlib.Core.Bool.{Bool, true, false, _||_}
+use mathlib.Core.List.{List, [], _∷_, map}
+use lib.Dec.{ltb, leb}
+use lib.ListN.{length, getD, take, drop, length-append}
+use lib.Seq.{take-take, take-append-seam}
+use borrow.Author.Tests.{ltb-true}
+use Rattle.ground.specs.Basics.{pick, part}
+use Rattle.ground.specs.Scan.{sameBytes, freeOf}
+use Rattle.ground.proofs.Laws.{same-refl, same-true}
+use Rattle.ground.proofs.Table.{rows-agree}
+use Rattle.front.specs.Code.{coded, codeAt, spaced, codeIn, quickAt}
+use Rattle.front.proofs.Laws.{quick-is-code}
+use Rattle.mode.specs.Table.{rows, noRow, shown}
+use Rattle.mode.specs.declared.Written.{Written}
+use Rattle.order.specs.declared.Order.{Order}
+use Rattle.order.specs.declared.Order.the-variants.{Below, Same, Above}
+use Rattle.entry.specs.Record.{nameOf, folderOf}
+use Rattle.entry.specs.Entry.{Entry, entryOf}
+use Rattle.entry.specs.declared.EntryRecord.{EntryRecord}
+use Rattle.doubles.specs.Doubles.{namedBefore}
+use Rattle.doubles.specs.Stack.{placeOf, marksOf}
+use Rattle.doubles.specs.declared.Placed.{Placed}
+use Rattle.doubles.specs.declared.Placed.the-variants.{Fine, NotAfter, Double}
+use Rattle.doubles.proofs.Theorem.{Ascends, nameBytes}
+use Rattle.doubles.proofs.Stacking.{marks-length}
+use Rattle.doubles.proofs.Placing.{Tracks, tracks-first, Told, told}
+use Rattle.rules.specs.Rules.{isText, judge, orElse, modesOf, nameNumber, bareNumber, isBelow, standsBefore, isAfter, afterNumber, gitRules}
+use Rattle.rules.proofs.Laws.{texts-five, number-free}
+use Rattle.strict.specs.Strict.{textOf}
+use Rattle.strict.specs.Code.{LastWithin, lastOf, entryNo, afterAt, marksAfter, Roomy}
+use Rattle.strict.specs.declared.Last.{Last}
+use Rattle.strict.specs.declared.Last.the-variants.{Nothing, After}
+
+-- ---- a mode text
+
+-- a row's text takes fewer than sixteen bytes with the space
+row-short : (i : ℕ) → i < length rows → length (spaced (getD rows i noRow)) < 16
+unfolding rows
+row-short i h = ltb-true _ _ (rows-agree rows noRow (λ (r : Written). ltb (length (spaced r)) 16) (λ (r : Written). true) refl i h)
+
+-- where such rows give some bytes a code, the bytes begin with the text of one of them, and the code says how long it is
+in-text : (rs : List Written) (b : List ℕ) → ((i : ℕ) → i < length rs → length (spaced (getD rs i noRow)) < 16) → (codeIn rs b ≡ 0 → ⊥)
+    → isText rs (take (codeIn rs b % 16 - 1) b) ≡ true
+unfolding codeIn
+in-text [] b f n = absurd (n refl)
+in-text (r ∷ rs) b f n = go (in-text rs b (λ i h. f (suc i) (omega arith))) _ refl n
+  where
+    later : (v : Bool) (t : List ℕ) → isText rs t ≡ true → (v || isText rs t) ≡ true
+    later true t e = refl
+    later false t e = e
+
+    go : ((codeIn rs b ≡ 0 → ⊥) → isText rs (take (codeIn rs b % 16 - 1) b) ≡ true)
+        → (v : Bool) → sameBytes (take (length (spaced r)) b) (spaced r) ≡ v → (pick v (coded (r .mode) (length (spaced r))) (codeIn rs b) ≡ 0 → ⊥)
+        → isText (r ∷ rs) (take (pick v (coded (r .mode) (length (spaced r))) (codeIn rs b) % 16 - 1) b) ≡ true
+    go ih false p n = later (sameBytes (take (codeIn rs b % 16 - 1) b) (shown (r .text))) _ (ih n)
+    go ih true p n =
+        let n : ℕ = length (shown (r .text)) in
+        let l : length (spaced r) ≡ n + 1 = length-append (shown (r .text)) (32 ∷ []) in
+        let k : coded (r .mode) (length (spaced r)) % 16 - 1 ≡ n = omega (arith, f 0 (omega arith)) in
+        let q = same-true (take (length (spaced r)) b) (spaced r) p in
+        let t : take n b ≡ shown (r .text) = sym (take-take n (length (spaced r)) b (omega arith)) ∙ rw q (take-append-seam (shown (r .text)) (32 ∷ [])) in
+        rw (k, t, same-refl (shown (r .text)))
+
+-- an entry whose mode has a code in the table, and whose name begins where its mode's code says, has a written mode text
+text-quick : (s : List ℕ) (at : ℕ) (e : EntryRecord) → (quickAt s at ≡ 0 → ⊥) → e .«name_start» ≡ at + codeAt s at % 16
+    → isText rows (textOf s at e) ≡ true
+unfolding quickAt textOf
+text-quick s at e n q = go (leb (at + 7) (length s)) n (quick-is-code s at n)
+  where
+    go : (v : Bool) → (pick v (codeIn rows (drop at s)) 0 ≡ 0 → ⊥) → codeAt s at ≡ pick v (codeIn rows (drop at s)) 0
+        → isText rows (part at (e .«name_start» - 1) s) ≡ true
+    go true n c =
+        let k : e .«name_start» - 1 - at ≡ codeIn rows (drop at s) % 16 - 1 = omega arith in
+        rw k (in-text rows (drop at s) row-short n)
+    go false n c = absurd (n refl)
+
+-- an entry whose mode has a code in the table has a text of each rule set
+pub mode-quick : (k : ℕ) (s : List ℕ) (at : ℕ) (e : EntryRecord) → (quickAt s at ≡ 0 → ⊥) → e .«name_start» ≡ at + codeAt s at % 16
+    → isText (modesOf k) (textOf s at e) ≡ true
+mode-quick k s at e n q = texts-five k (textOf s at e) (text-quick s at e n q)
+
+-- ---- an entry after the one before
+
+-- the entry before lies inside
+pub last-within : (len : ℕ) {last : Last} {p : EntryRecord} → last ≡ After p → LastWithin len last → (p .«name_start» ≤ p .«name_end») × (p .«name_end» ≤ len)
+last-within len q w = rw q at w
+
+-- what is answered, and the marks afterwards
+abbrev pub Stood : List ℕ → List ℕ → ℕ → Last → EntryRecord → Placed → List ℕ → Type 0
+Stood s a n last e r b = (r ≡ afterAt s a n last e) × (b ≡ marksAfter s a n last e)
+
+module _ (s a : List ℕ) (n : ℕ) (e : EntryRecord) where
+  pub stood-first : {last : Last} → last ≡ Nothing → Stood s a n last e (Fine 0) a
+  unfolding afterAt marksAfter
+  stood-first q = (rw q, rw q)
+
+  -- by what the leaves answer that place the two
+  pub stood-by : {last : Last} (p : EntryRecord) {x y : Bool} {r : Placed} {b : List ℕ} → last ≡ After p → x ≡ folderOf p → y ≡ folderOf e
+      → (r ≡ placeOf a n (nameOf s p) x (nameOf s e) y) × (b ≡ marksOf a n (nameOf s p) x (nameOf s e) y) → Stood s a n last e r b
+  unfolding afterAt marksAfter
+  stood-by p q f g o = (rw (q, ← f, ← g) (o .0), rw (q, ← f, ← g) (o .1))
+
+pub after-length : (s a : List ℕ) (n : ℕ) (last : Last) (e : EntryRecord) → length (marksAfter s a n last e) ≡ length a
+unfolding marksAfter
+after-length s a n Nothing e = refl
+after-length s a n (After p) e = marks-length a n (nameOf s p) (folderOf p) (nameOf s e) (folderOf e)
+
+pub after-same : (s a : List ℕ) (n : ℕ) (last : Last) (e : EntryRecord) {b : List ℕ} {k : ℕ} → b ≡ marksAfter s a n last e → length a ≡ k → length b ≡ k
+after-same s a n last e q p = ap length q ∙ after-length s a n last e ∙ p
+
+-- ---- an entry by itself
+
+module _ (k : ℕ) (s : List ℕ) (at : ℕ) (e : EntryRecord) where
+  pub entry-text : isText (modesOf k) (textOf s at e) ≡ false → entryNo k s at e ≡ 5
+  unfolding entryNo
+  entry-text t = rw t
+
+  pub entry-named : {number : ℕ} → isText (modesOf k) (textOf s at e) ≡ true → freeOf 0 (nameOf s e) ≡ true → number ≡ bareNumber (nameOf s e)
+      → number ≡ entryNo k s at e
+  unfolding entryNo
+  entry-named t f q = rw t (q ∙ number-free (nameOf s e) f)
+
+  or-first : (i j l : ℕ) → (orElse i j ≡ 0 → ⊥) → orElse i (orElse j l) ≡ orElse i j
+  or-first zero zero l n = absurd (n refl)
+  or-first zero (suc j) l n = refl
+  or-first (suc i) j l n = refl
+
+  or-last : (i j l : ℕ) → orElse i j ≡ 0 → orElse i (orElse j l) ≡ l
+  or-last zero zero l n = refl
+  or-last zero (suc j) l n = absurd (omega arith)
+  or-last (suc i) j l n = absurd (omega arith)
+
+  -- the rules say that first, and then what they say of its place
+  pub judged-itself : (h : ℕ) (before : List Entry) → (entryNo k s at e ≡ 0 → ⊥) → judge (gitRules k) before (textOf s at e) (entryOf h s e) ≡ entryNo k s at e
+  unfolding judge gitRules entryNo entryOf
+  judged-itself h before n = or-first (pick (isText (modesOf k) (textOf s at e)) 0 5) (nameNumber (nameOf s e)) _ n
+
+  pub judged-place : (h : ℕ) (before : List Entry) → entryNo k s at e ≡ 0
+      → judge (gitRules k) before (textOf s at e) (entryOf h s e) ≡ afterNumber before (entryOf h s e)
+  unfolding judge gitRules entryNo entryOf
+  judged-place h before n = or-last (pick (isText (modesOf k) (textOf s at e)) 0 5) (nameNumber (nameOf s e)) _ n
+
+-- ---- its place among the entries that were read before, the nearest first
+
+below-not : (o : Order) → (o ≡ Below → ⊥) → isBelow o ≡ false
+below-not Below n = absurd (n refl)
+below-not Same n = refl
+below-not Above n = refl
+
+module _ (h : ℕ) (s a : List ℕ) (n : ℕ) (seen : List EntryRecord) (t : Tracks a n (map (entryOf h s) seen)) (up : Ascends (map (entryOf h s) seen))
+    (few : nameBytes (map (entryOf h s) seen) ≤ length s) (room : Roomy (length s) (length a)) (e : EntryRecord) where
+  abbrev before : List Entry
+  before = map (entryOf h s) seen
+
+  -- what was found out of the nearest of them and this one
+  abbrev At : EntryRecord → List EntryRecord → Type 0
+  At p ps = Told a n (entryOf h s p) (map (entryOf h s) ps) (entryOf h s e)
+
+  tells : (p : EntryRecord) (ps : List EntryRecord) → seen ≡ p ∷ ps → At p ps
+  tells p ps q =
+      let v = rw q at t in
+      let u = rw q at up in
+      let w = rw q at few in
+      told a n (entryOf h s p) (map (entryOf h s) ps) v u (entryOf h s e) (length s) w (room .1) (omega (arith, room .0))
+
+  -- an entry that does not stand after is refused 7
+  pub place-not-after : afterAt s a n (lastOf seen) e ≡ NotAfter → afterNumber before (entryOf h s e) ≡ 7
+  unfolding afterAt afterNumber isAfter standsBefore entryOf folderOf
+  place-not-after q = go seen tells q
+    where
+      go : (seen : List EntryRecord) → ((p : EntryRecord) (ps : List EntryRecord) → seen ≡ p ∷ ps → At p ps) → afterAt s a n (lastOf seen) e ≡ NotAfter
+          → afterNumber (map (entryOf h s) seen) (entryOf h s e) ≡ 7
+      go [] w q = let y : _≡_ {A = ℕ} 0 1 = cc in absurd (omega arith)
+      go (p ∷ ps) w q = rw (below-not _ (w p ps refl .not-after q))
+
+  -- one that does, and whose name was there before, 17
+  pub place-double : afterAt s a n (lastOf seen) e ≡ Double → afterNumber before (entryOf h s e) ≡ 17
+  unfolding afterAt afterNumber isAfter standsBefore entryOf folderOf
+  place-double q = go seen tells q
+    where
+      go : (seen : List EntryRecord) → ((p : EntryRecord) (ps : List EntryRecord) → seen ≡ p ∷ ps → At p ps) → afterAt s a n (lastOf seen) e ≡ Double
+          → afterNumber (map (entryOf h s) seen) (entryOf h s e) ≡ 17
+      go [] w q = let y : _≡_ {A = ℕ} 0 1 = cc in absurd (omega arith)
+      go (p ∷ ps) w q = let d = w p ps refl .double q in rw (d .0, d .1)
+
+  -- one that stands fine is one that the rules permit there, and the marks go on with it
+  pub place-fine : (j : ℕ) → afterAt s a n (lastOf seen) e ≡ Fine j
+      → (afterNumber before (entryOf h s e) ≡ 0) × Tracks (marksAfter s a n (lastOf seen) e) j (entryOf h s e ∷ before) × Ascends (entryOf h s e ∷ before)
+  unfolding afterAt marksAfter afterNumber isAfter standsBefore namedBefore entryOf folderOf
+  place-fine j q = go seen up tells q
+    where
+      go : (seen : List EntryRecord) → Ascends (map (entryOf h s) seen) → ((p : EntryRecord) (ps : List EntryRecord) → seen ≡ p ∷ ps → At p ps)
+          → afterAt s a n (lastOf seen) e ≡ Fine j
+          → (afterNumber (map (entryOf h s) seen) (entryOf h s e) ≡ 0) × Tracks (marksAfter s a n (lastOf seen) e) j (entryOf h s e ∷ map (entryOf h s) seen)
+          × Ascends (entryOf h s e ∷ map (entryOf h s) seen)
+      go [] up w q = let y : 0 ≡ j = cc in (refl, subst (λ (i : ℕ). Tracks a i (entryOf h s e ∷ [])) y (tracks-first a (entryOf h s e)), (tt, tt))
+      go (p ∷ ps) up w q = let d = w p ps refl .fine j q in (rw (d .0, d .1), d .2, (d .0, up))

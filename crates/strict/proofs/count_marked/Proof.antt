@@ -1,0 +1,194 @@
+-- `strict::count_marked` meets its contract. Assumes nothing.
+use borrow.Author.Needs.{needs}
+use Rattle.strict.proofs.count_marked.Statement.{statement}
+use Rattle.strict.proofs.count_marked.Tie as tie
+use Prim.Native.Nat.{_-_}
+use mathlib.Core.Path.{_≡_, refl, sym, _∙_}
+use lib.ListN.{length}
+use Rattle.ground.specs.Verdict.{mostRecords}
+use Rattle.strict.proofs.Judging.{after-same}
+use Rattle.strict.proofs.Strictly.{Reading, reading-start, reading-end, reading-full, reading-broken, reading-refused, reading-low, reading-double}
+use Rattle.strict.proofs.Strictly.{reading-kept, decoded-within, decoded-free, decoded-code}
+
+abbrev Inv-loop : tie.InvT-loop
+Inv-loop rules s h marks₀ c₀ n₀ held₀ last₀ marks c n held last = Reading rules h s (c .at) n held last marks × (length marks ≡ length marks₀)
+
+abbrev μ-loop : tie.MeasureT-loop
+μ-loop rules s h marks₀ c₀ n₀ held₀ last₀ marks c n held last = mostRecords - n
+
+loop-holds : tie.Need-loop-holds Inv-loop μ-loop
+loop-holds c =
+    let pre = c .before .before .pre in
+    (reading-start _ _ _ _ pre, refl)
+
+same-length : tie.Need-same-length Inv-loop μ-loop
+same-length c =
+    let loop = c .before .before .before .loop in
+    loop .inv .1
+
+returns : tie.Need-returns Inv-loop μ-loop
+returns c =
+    let loop = c .before .before .before .loop in
+    reading-full _ _ _ _ _ _ _ _ (loop .inv .0) (c .before .if1 .taken) (c .if2 .taken)
+
+decode-requires : tie.Need-decode-requires Inv-loop μ-loop
+decode-requires c κs = search needs
+
+enum-known-e : tie.Need-enum-known-e Inv-loop μ-loop
+enum-known-e c = search needs
+
+entry-number-requires : tie.Need-entry-number-requires Inv-loop μ-loop
+entry-number-requires c κs =
+    let decode = c .before .before .before .decode in
+    let d = sym (decode .ensures) ∙ c .before .e .given .1 in
+    (decoded-within _ _ _ _ _ d, (decoded-free _ _ _ _ _ d, decoded-code _ _ _ _ _ d))
+
+same-length-2 : tie.Need-same-length-2 Inv-loop μ-loop
+same-length-2 c =
+    let loop = c .before .before .before .before .before .before .before .before .before .loop in
+    loop .inv .1
+
+returns-2 : tie.Need-returns-2 Inv-loop μ-loop
+returns-2 c =
+    let e = c .before .before .before .e in
+    let decode = c .before .before .before .before .before .decode in
+    let if2 = c .before .before .before .before .before .before .if2 in
+    let if1 = c .before .before .before .before .before .before .before .if1 in
+    let loop = c .before .before .before .before .before .before .before .before .before .loop in
+    reading-refused _ _ _ _ _ _ _ _ (loop .inv .0) (if1 .taken) (if2 .left) _ _ _ (sym (decode .ensures) ∙ e .given .1)
+    (c .before .entry-number .ensures) (c .if3 .taken)
+
+after-entry-requires : tie.Need-after-entry-requires Inv-loop μ-loop
+after-entry-requires c κs =
+    let e = c .before .before .before .before .e in
+    let decode = c .before .before .before .before .before .before .decode in
+    let loop = c .before .before .before .before .before .before .before .before .before .before .loop in
+    let w = decoded-within _ _ _ _ _ (sym (decode .ensures) ∙ e .given .1) in
+    (loop .inv .0 .inside, (w .1, w .2))
+
+-- /work/side/h/a/target/rlib/ground.rlib/interface/lang/src/lib.rt:27:28
+enum-told : tie.Need-enum-told Inv-loop μ-loop
+enum-told c = search needs
+
+same-length-3 : tie.Need-same-length-3 Inv-loop μ-loop
+same-length-3 c =
+    let after-entry = c .before .before .before .before .after-entry in
+    let loop = c .before .before .before .before .before .before .before .before .before .before .before .before .before .before .before .loop in
+    after-same _ _ _ _ _ (after-entry .ensures .1) (loop .inv .1)
+
+returns-3 : tie.Need-returns-3 Inv-loop μ-loop
+returns-3 c =
+    let after-entry = c .before .before .before .before .after-entry in
+    let if3 = c .before .before .before .before .before .before .if3 in
+    let entry-number = c .before .before .before .before .before .before .before .entry-number in
+    let e = c .before .before .before .before .before .before .before .before .before .e in
+    let decode = c .before .before .before .before .before .before .before .before .before .before .before .decode in
+    let if2 = c .before .before .before .before .before .before .before .before .before .before .before .before .if2 in
+    let if1 = c .before .before .before .before .before .before .before .before .before .before .before .before .before .if1 in
+    let loop = c .before .before .before .before .before .before .before .before .before .before .before .before .before .before .before .loop in
+    reading-low _ _ _ _ _ _ _ _ (loop .inv .0) (if1 .taken) (if2 .left) _ _ _ (sym (decode .ensures) ∙ e .given .1)
+    (entry-number .ensures) (if3 .left) _ (after-entry .ensures .0) (c .enum-told .given .1)
+
+-- /work/side/h/a/target/rlib/ground.rlib/interface/lang/src/lib.rt:27:28
+enum-told-2 : tie.Need-enum-told-2 Inv-loop μ-loop
+enum-told-2 c = search needs
+
+same-length-4 : tie.Need-same-length-4 Inv-loop μ-loop
+same-length-4 c =
+    let after-entry = c .before .before .before .before .after-entry in
+    let loop = c .before .before .before .before .before .before .before .before .before .before .before .before .before .before .before .loop in
+    after-same _ _ _ _ _ (after-entry .ensures .1) (loop .inv .1)
+
+returns-4 : tie.Need-returns-4 Inv-loop μ-loop
+returns-4 c =
+    let after-entry = c .before .before .before .before .after-entry in
+    let if3 = c .before .before .before .before .before .before .if3 in
+    let entry-number = c .before .before .before .before .before .before .before .entry-number in
+    let e = c .before .before .before .before .before .before .before .before .before .e in
+    let decode = c .before .before .before .before .before .before .before .before .before .before .before .decode in
+    let if2 = c .before .before .before .before .before .before .before .before .before .before .before .before .if2 in
+    let if1 = c .before .before .before .before .before .before .before .before .before .before .before .before .before .if1 in
+    let loop = c .before .before .before .before .before .before .before .before .before .before .before .before .before .before .before .loop in
+    reading-double _ _ _ _ _ _ _ _ (loop .inv .0) (if1 .taken) (if2 .left) _ _ _ (sym (decode .ensures) ∙ e .given .1)
+    (entry-number .ensures) (if3 .left) _ (after-entry .ensures .0) (c .enum-told2 .given .1)
+
+enum-known-k : tie.Need-enum-known-k Inv-loop μ-loop
+enum-known-k c = search needs
+
+add-n : tie.Need-add-n Inv-loop μ-loop
+add-n c = search needs
+
+loop-less : tie.Need-loop-less Inv-loop μ-loop
+loop-less c = search needs
+
+loop-again : tie.Need-loop-again Inv-loop μ-loop
+loop-again c =
+    let after-entry = c .before .before .before .before .before .after-entry in
+    let if3 = c .before .before .before .before .before .before .before .if3 in
+    let entry-number = c .before .before .before .before .before .before .before .before .entry-number in
+    let e = c .before .before .before .before .before .before .before .before .before .before .e in
+    let decode = c .before .before .before .before .before .before .before .before .before .before .before .before .decode in
+    let if2 = c .before .before .before .before .before .before .before .before .before .before .before .before .before .if2 in
+    let if1 = c .before .before .before .before .before .before .before .before .before .before .before .before .before .before .if1 in
+    let loop = c .before .before .before .before .before .before .before .before .before .before .before .before .before .before .before .before .loop in (
+      reading-kept _ _ _ _ _ _ _ _ (loop .inv .0) (if1 .taken) (if2 .left) _ _ _ (sym (decode .ensures) ∙ e .given .1)
+          (entry-number .ensures) (if3 .left) _ (after-entry .ensures .0) _ (c .before .k .given .1) _ (after-entry .ensures .1),
+      after-same _ _ _ _ _ (after-entry .ensures .1) (loop .inv .1),
+    )
+
+enum-known-v : tie.Need-enum-known-v Inv-loop μ-loop
+enum-known-v c = search needs
+
+same-length-5 : tie.Need-same-length-5 Inv-loop μ-loop
+same-length-5 c =
+    let loop = c .before .before .before .before .before .before .before .loop in
+    loop .inv .1
+
+returns-5 : tie.Need-returns-5 Inv-loop μ-loop
+returns-5 c =
+    let decode = c .before .before .before .decode in
+    let if2 = c .before .before .before .before .if2 in
+    let if1 = c .before .before .before .before .before .if1 in
+    let loop = c .before .before .before .before .before .before .before .loop in
+    reading-broken _ _ _ _ _ _ _ _ (loop .inv .0) (if1 .taken) (if2 .left) (sym (decode .ensures) ∙ c .before .v .given .1)
+
+same-length-6 : tie.Need-same-length-6 Inv-loop μ-loop
+same-length-6 c =
+    let loop = c .before .before .loop in
+    loop .inv .1
+
+returns-6 : tie.Need-returns-6 Inv-loop μ-loop
+returns-6 c =
+    let loop = c .before .before .loop in
+    reading-end _ _ _ _ _ _ _ _ (loop .inv .0) (c .if1 .left)
+
+pub count-marked-spec : {M : Type 1} → statement M
+count-marked-spec =
+    tie.close
+    (tie.spec
+    Inv-loop
+    μ-loop
+    loop-holds
+    same-length
+    returns
+    decode-requires
+    enum-known-e
+    entry-number-requires
+    same-length-2
+    returns-2
+    after-entry-requires
+    enum-told
+    same-length-3
+    returns-3
+    enum-told-2
+    same-length-4
+    returns-4
+    enum-known-k
+    add-n
+    loop-less
+    loop-again
+    enum-known-v
+    same-length-5
+    returns-5
+    same-length-6
+    returns-6)

@@ -1,0 +1,48 @@
+-- `strict::is_written` meets its contract. Assumes nothing.
+use borrow.Author.Needs.{needs}
+use Rattle.strict.proofs.is_written.Statement.{statement}
+use Rattle.strict.proofs.is_written.Tie as tie
+use mathlib.Core.Path.{sym, _∙_}
+use Rattle.strict.specs.Strict.{textOf}
+use Rattle.strict.proofs.Judging.{mode-quick}
+
+quick-code-requires : tie.Need-quick-code-requires
+quick-code-requires c κs = search needs
+
+returns : tie.Need-returns
+returns c =
+    let args = c .before .before .before .args in
+    let pre = c .before .before .before .pre in
+    sym (mode-quick (args .rules) (args .s .now) (args .at) (args .e) (λ z. c .if1 .taken (c .before .quick-code .ensures ∙ z)) (pre .1))
+
+sub-space : tie.Need-sub-space
+sub-space c = search needs
+
+sub-mode-permitted : tie.Need-sub-mode-permitted
+sub-mode-permitted c = search needs
+
+part-mode-permitted-start : tie.Need-part-mode-permitted-start
+part-mode-permitted-start c = search needs
+
+part-mode-permitted-end : tie.Need-part-mode-permitted-end
+part-mode-permitted-end c = search needs
+
+mode-permitted-requires : tie.Need-mode-permitted-requires
+mode-permitted-requires c κs = search needs
+
+returns-2 : tie.Need-returns-2
+unfolding textOf
+returns-2 c = c .mode-permitted .ensures
+
+pub is-written-spec : {M : Type 1} → statement M
+is-written-spec =
+    tie.close
+    (tie.spec
+    quick-code-requires
+    returns
+    sub-space
+    sub-mode-permitted
+    part-mode-permitted-start
+    part-mode-permitted-end
+    mode-permitted-requires
+    returns-2)
