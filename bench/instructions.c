@@ -31,6 +31,62 @@ static size_t make(uint8_t *to, size_t n, size_t len)
     return at;
 }
 
+/* Forty names of the listing, every sort right: in forty calls, and in one. */
+static int forty(const uint8_t *object, size_t bytes, const size_t *records, size_t n, size_t len)
+{
+    size_t sought[40 * SARPUKTEN_SOUGHT], answers[40 * SARPUKTEN_FOUND], answer[SARPUKTEN_LOOKUP_ANSWER], i;
+
+    for (i = 0; i < 40; i++) {
+        const size_t *r = records + i * (n / 40) * SARPUKTEN_ENTRY;
+        sought[i * SARPUKTEN_SOUGHT + SARPUKTEN_SOUGHT_START] = r[SARPUKTEN_ENTRY_NAME_START];
+        sought[i * SARPUKTEN_SOUGHT + SARPUKTEN_SOUGHT_END] = r[SARPUKTEN_ENTRY_NAME_END];
+        sought[i * SARPUKTEN_SOUGHT + SARPUKTEN_SOUGHT_FOLDER] = r[SARPUKTEN_ENTRY_MODE] == 040000;
+    }
+    mark();
+    for (i = 0; i < 40; i++) {
+        const size_t *q = sought + i * SARPUKTEN_SOUGHT;
+        sarpukten_bisect_entry(object, bytes, SARPUKTEN_SHA1, records, n * SARPUKTEN_ENTRY, object + q[0], q[1] - q[0], q[2] == 1, answer);
+    }
+    mark();
+    printf("2 forty-calls %zu %zu 40\n", n, len);
+    mark();
+    sarpukten_bisect_entries(
+        object, bytes, SARPUKTEN_SHA1, records, n * SARPUKTEN_ENTRY, object, bytes, sought, 40 * SARPUKTEN_SOUGHT, answers,
+        40 * SARPUKTEN_FOUND, answer);
+    mark();
+    printf("2 forty-in-one %zu %zu 40\n", n, len);
+    for (i = 0; i < 40; i++)
+        if (answers[i * SARPUKTEN_FOUND + SARPUKTEN_FOUND_NUMBER] || answers[i * SARPUKTEN_FOUND + SARPUKTEN_FOUND_INDEX] != i * (n / 40))
+            return 0;
+    return answer[SARPUKTEN_ANSWER_NUMBER] == 0;
+}
+
+/* A commit with so many parents and a message of so many bytes. */
+static int commit(size_t parents, size_t message)
+{
+    static const char digits[] = "0123456789abcdef0123456789abcdef01234567", who[] = " A U Thor <author@example.com> 1112911993 -0700\n";
+    size_t n = 0, i, lent[8], headers[5], answer[SARPUKTEN_COMMIT_ANSWER];
+    char *text = malloc(message + 1000);
+
+    if (!text)
+        return 0;
+    n += (size_t)sprintf(text + n, "tree %s\n", digits);
+    for (i = 0; i < parents; i++)
+        n += (size_t)sprintf(text + n, "parent %s\n", digits);
+    n += (size_t)sprintf(text + n, "author%scommitter%s\n", who, who);
+    for (i = 0; i < message; i++)
+        text[n + i] = i % 8 == 7 ? ' ' : 'm';
+    n += message;
+    for (i = 0; i < 2; i++) {
+        mark();
+        sarpukten_read_commit((const uint8_t *)text, n, SARPUKTEN_SHA1, lent, 8, headers, 5, answer);
+        mark();
+    }
+    printf("4 commit %zu %zu 1\n", parents, message);
+    free(text);
+    return answer[SARPUKTEN_ANSWER_NUMBER] == 0 && answer[SARPUKTEN_ANSWER_PARENTS] == parents;
+}
+
 int main(int argc, char **argv)
 {
     static const size_t lens[] = {6, 12, 24, 60, 200};
@@ -77,7 +133,12 @@ int main(int argc, char **argv)
             if (answer[SARPUKTEN_ANSWER_NUMBER] || memcmp(out, object, bytes))
                 return 4;
             printf("4 write %zu %zu %zu\n", n, len, n);
+            if (n >= 300 && !forty(object, bytes, records, n, len))
+                return 5;
             free(object), free(out), free(records);
         }
+    for (i = 0; i < 4; i++)
+        if (!commit(i, 100) || !commit(i, 10000))
+            return 6;
     return 0;
 }

@@ -1,6 +1,7 @@
 #!/usr/bin/env python3
 """instructions.py NAMES COUNTS: the tables of bench/instructions. A line of NAMES says how many of COUNTS belong to it, two to a call, and
-what was measured in the last of them: the call, the entries of the tree, the bytes of a name, and by how much to divide."""
+what was measured in the last of them: the call, the entries of the tree (of a commit its parents), the bytes of a name (of its message), and
+by how much to divide."""
 import collections, sys
 
 names = [line.split() for line in open(sys.argv[1])]
@@ -13,6 +14,6 @@ for many, call, entries, length, by in names:
 assert at == len(counts), (at, len(counts))
 for call, rows in tables.items():
     lengths = sorted(next(iter(rows.values())))
-    print(f"\n{call}\n\n| entries | " + " | ".join(f"{n} bytes" for n in lengths) + " |\n|" + "---|" * (len(lengths) + 1))
+    print(f"\n{call}\n\n| {'parents' if call == 'commit' else 'entries'} | " + " | ".join(f"{n} bytes" for n in lengths) + " |\n|" + "---|" * (len(lengths) + 1))
     for entries, row in sorted(rows.items()):
         print(f"| {entries} | " + " | ".join(f"{row[n]:.0f}" for n in lengths) + " |")
