@@ -14,7 +14,8 @@ from lists import FIRST, HERE, SHAPES, fields
 Case = collections.namedtuple("Case", "file call goes_in comes_out numbers question expected")
 CALLS = {("trees", 1): "mode text", ("trees", 2): "mode asked", ("trees", 3): "mode from a number", ("trees", 4): "name order",
          ("trees", 5): "tree reading", ("trees", 6): "lookup", ("trees", 7): "tree writing", ("trees", 8): "loose header",
-         ("commits", 1): "commit reading", ("commits", 2): "unfold", ("commits", 3): "commit writing"}
+         ("commits", 1): "commit reading", ("commits", 2): "unfold", ("commits", 3): "commit writing",
+         ("trees", 12): "lookup, any sort", ("trees", 13): "many lookups", ("trees", 14): "id from digits", ("trees", 15): "digits of an id"}
 
 
 def hexed(b):
@@ -68,18 +69,29 @@ def tree_reading(h, object, room, rules=2):
     return Case("trees", 5, [h, object, room, rules], [*plain, records, *strict], (plain[0], strict[0]), question, expected)
 
 
+def in_domain(h, object, records, names):
+    """Whether a lookup is in the document's domain: well-formed records in strict order, and no slash in any name."""
+    if h not in (20, 32) or not all(paper.entry_well_formed(r, object, h) for r in records):
+        return False
+    keys = [(object[r[1]:r[2]], paper.is_tree(r[0])) for r in records]
+    ascending = all(paper.order(*x, *y) == -1 for x, y in zip(keys, keys[1:]))
+    return ascending and not any(b"/" in n for n in names + [k[0] for k in keys])
+
+
+def found_or_not(numbers, number, index):
+    """What the Rust says of a name that is at this index, or is not there."""
+    return spaced("ok", *for_rust(numbers)[index]) if number == 0 else "no"
+
+
 def lookup(h, object, numbers, name, is_tree):
     """Bisection. The Rust speaks within the document's domain only, and does not count."""
     out = paper.lookup(h, object, numbers, name, is_tree)
     question = expected = None
     records = paper.by(paper.WIDTH, numbers)
     assert out[3] <= len(records).bit_length()            # "at most as many as n has binary digits"
-    if h in (20, 32) and all(paper.entry_well_formed(r, object, h) for r in records):
-        keys = [(object[r[1]:r[2]], paper.is_tree(r[0])) for r in records]
-        ascending = all(paper.order(*x, *y) == -1 for x, y in zip(keys, keys[1:]))
-        if ascending and not any(b"/" in n for n in [name] + [k[0] for k in keys]):       # the document's domain
-            question = spaced("find", h, hexed(object), len(records), *sum(for_rust(numbers), ()), hexed(name), int(is_tree))
-            expected = spaced("ok", *for_rust(numbers)[out[2]]) if out[0] == 0 else "no"
+    if in_domain(h, object, records, [name]):
+        question = spaced("find", h, hexed(object), len(records), *sum(for_rust(numbers), ()), hexed(name), int(is_tree))
+        expected = found_or_not(numbers, out[0], out[2])
     return Case("trees", 6, [h, object, numbers, name, is_tree], list(out), out[:1], question, expected)
 
 
@@ -158,6 +170,44 @@ def commit_writing(h, bytes, parents, numbers, ranges, room):
     return Case("commits", 3, [h, bytes, parents, numbers, *ranges, room], [*size, *write, written], (size[0], write[0]), question, expected)
 
 
+def lookup_any(h, object, numbers, name):
+    """A name of whatever sort. The Rust is asked for both sorts, within the domain."""
+    out = paper.lookup_any(h, object, numbers, name)
+    question = expected = None
+    records = paper.by(paper.WIDTH, numbers)
+    assert out[3] <= 2 * len(records).bit_length()
+    if in_domain(h, object, records, [name]):
+        question = spaced("find-any", h, hexed(object), len(records), *sum(for_rust(numbers), ()), hexed(name))
+        expected = found_or_not(numbers, out[0], out[2])
+    return Case("trees", 12, [h, object, numbers, name], list(out), out[:1], question, expected)
+
+
+def lookups(h, object, numbers, names, sought, room):
+    """Many names. The Rust speaks of each within the domain; it has no room, and does not count."""
+    out, answers = paper.lookups(h, object, numbers, names, sought, room)
+    question = expected = None
+    records, wanted = paper.by(paper.WIDTH, numbers), paper.by(paper.EACH, sought)
+    (n, _place, _count), all_answers = paper.lookups(h, object, numbers, names, sought, len(sought))
+    each = [names[start:end] for start, end, _mark in wanted]
+    if n == 0 and wanted and in_domain(h, object, records, each):
+        pairs = [x for name, q in zip(each, wanted) for x in (hexed(name), q[2])]
+        question = spaced("find-many", h, hexed(object), len(records), *sum(for_rust(numbers), ()), len(each), *pairs)
+        expected = spaced(*[found_or_not(numbers, a[0], a[1]) for a in paper.by(paper.EACH, all_answers)])
+    return Case("trees", 13, [h, object, numbers, names, sought, room], [*out, answers], out[:1], question, expected)
+
+
+def id_of_hex(digits, room):
+    """The paper speaks alone: the Rust's own reader of hex is not here."""
+    out, written = paper.id_of_hex(digits, room)
+    return Case("trees", 14, [digits, room], [*out, written], out[:1], None, None)
+
+
+def hex_of_id(id, room):
+    """The paper speaks alone, as above."""
+    out, written = paper.hex_of_id(id, room)
+    return Case("trees", 15, [id, room], [*out, written], out[:1], None, None)
+
+
 def again(file, call, i):
     """The case with these fields going in."""
     if (file, call) == ("commits", 2):
@@ -166,6 +216,8 @@ def again(file, call, i):
         return commit_writing(*i[:4], tuple(i[4:14]), i[14])
     if file == "commits":
         return commit_reading(*i)
+    if call >= 12:
+        return [lookup_any, lookups, id_of_hex, hex_of_id][call - 12](*i)
     return [mode_text, mode_asked, mode_from_number, name_order, tree_reading, lookup, tree_writing, loose_header][call - 1](*i)
 
 

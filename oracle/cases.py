@@ -16,8 +16,8 @@ import sys
 
 import git_objects
 import paper
-from calls import (CALLS, again, commit_reading, commit_writing, compare, encoded, lookup, loose_header, mode_asked, mode_from_number,
-                   mode_text, name_order, tree_reading, tree_writing, unfold)
+from calls import (CALLS, again, commit_reading, commit_writing, compare, encoded, hex_of_id, id_of_hex, lookup, lookup_any, lookups, loose_header,
+                   mode_asked, mode_from_number, mode_text, name_order, tree_reading, tree_writing, unfold)
 from lists import FIRST, LIST, REPORT, SHAPES, fields, read_list, wrong_on_purpose
 
 HUGE = [2**64 - 1, 2**64 - 20, 2**63, 2**32, 65536]
@@ -196,6 +196,55 @@ def random_loose_header():
     size = rnd.choice([0, 2**64 - 1, 2**63, 10**rnd.randrange(20), 10**rnd.randrange(20) - 1, rnd.randrange(2**rnd.randint(1, 64))])
     kind = rnd.choice([1, 2, 3, 4] * 6 + [0, 5, 6, 255, 256, 257, 2**32 + 1, 2**64 - 1])
     return loose_header(kind, size, around(len(paper.loose_header(kind, size, 28)[1])))
+
+
+# ---------------------------------------------------------------- making cases: names and ids
+
+def some_sought(object, records):
+    """A name and whether it is sought as a folder's: mostly one of the records'."""
+    name, is_tree = rnd.choice(NAMES + [b"m", b"q", b"", b"a/b"]), chance(30)
+    if records and chance(75):
+        r = rnd.choice(records)
+        name, is_tree = object[r[1]:r[2]], paper.is_tree(r[0]) != chance(15)
+        if chance(15):
+            name = rnd.choice([name + b"0", name[:-1], name + b".", name + b"/"])
+    return name, is_tree
+
+
+def random_lookup_any():
+    h = some_h()
+    object, numbers = some_records(h if h in (20, 32) else 20, 20)
+    name, _is_tree = some_sought(object, paper.by(paper.WIDTH, numbers))
+    return lookup_any(h, object, spoiled(numbers, len(object)) if chance(20) else numbers, name)
+
+
+def random_lookups():
+    h = some_h()
+    object, numbers = some_records(h if h in (20, 32) else 20, 12)
+    records = paper.by(paper.WIDTH, numbers)
+    names, sought = rnd.choice([b"", object]), []
+    for _ in range(rnd.choice([0, 1, 2, 3, 4, 5, 6, 7, 8, 63, 64, 65, 66])):
+        name, is_tree = some_sought(object, records)
+        at = names.find(name)
+        if at < 0 or chance(5):
+            at, names = len(names), names + name
+        sought += [at, at + len(name), int(is_tree)]
+    if chance(15):
+        numbers = spoiled(numbers, len(object))
+    if chance(15):
+        sought = spoiled(sought, len(names))
+    return lookups(h, object, numbers, names, sought, around(len(sought) // paper.EACH, paper.EACH))
+
+
+def random_id_of_hex():
+    h = rnd.choice([20, 20, 32])
+    return id_of_hex(some_id(h, 30), around(h))
+
+
+def random_hex_of_id():
+    h = rnd.choice([20, 20, 32])
+    id = some(range(256), h, h)
+    return hex_of_id(damaged(id) if chance(10) else id, around(2 * h))
 
 
 # ---------------------------------------------------------------- making cases: commits
@@ -454,6 +503,107 @@ def exhaustive(long):
     for h in BAD_H + [20, 32]:
         yield commit_reading(h, whole, 0, 10)
         yield commit_writing(h, b"1" * 64, [], [], (0, 0, 1, 0, 1, 0, 0, 0, 0, 0), 200)
+    yield from itertools.chain(any_sort(long), many_names(), ids_and_digits(long))
+
+
+def listed(*entries):
+    """Bytes with the names of some (mode, name) behind an id, and the records of them, which all have that id."""
+    bytes_, numbers = b"\x11" * 20, []
+    for mode, name in entries:
+        numbers += [mode, len(bytes_), len(bytes_) + len(name), 0, 0]
+        bytes_ += name
+    return bytes_, numbers
+
+
+def with_fault(bytes_, numbers, i):
+    """The records with record i not well formed, in each way that there is."""
+    mode, start, end, id, first = numbers[5 * i:5 * i + 5]
+    for record in ([65536, start, end, id, first], [mode, end + 1, end, id, first], [mode, start, len(bytes_) + 1, id, first],
+                   [mode, start, end, len(bytes_) - 19, first], [mode, start, end, 2**64 - 20, first], [mode, start, end, id, start + 1]):
+        yield numbers[:5 * i] + record + numbers[5 * i + 5:]
+
+
+def any_sort(long):
+    """Names of whatever sort."""
+    for h in BAD_H + [20, 32]:
+        for object, numbers in itertools.product((b"", O, b"8"), ([], [33188, 7, 8, 9], [33188, 7, 8, 9, 0])):
+            yield lookup_any(h, object, numbers, b"a")
+    # One name as a file and as a folder, and what stands between: every choice of these.
+    both = [(33188, b"a"), (33188, b"a-"), (16384, b"a-"), (33188, b"a."), (16384, b"a"), (33188, b"a0"), (16384, b"a0"), (57344, b"b")]
+    for chosen in range(256):
+        listing = listed(*[entry for i, entry in enumerate(both) if chosen >> i & 1])
+        for name in (b"a", b"a-", b"a0", b"b", b"", b"a/x") if long or chosen % 16 == 0 else (b"a", b"a-", b"a0"):
+            yield lookup_any(20, *listing, name)
+    # A record that is not well formed, in every place: met by the first search, by the second alone, and by none.
+    names = [b"a-", b"a-b", b"a.", b"a.b", b"a0", b"a1"]
+    for some_of in [names[:n] for n in range(1, 7)] + [names[n:] for n in range(1, 6)]:
+        bytes_, numbers = listed(*[(33188, name) for name in some_of])
+        for i in range(len(some_of)):
+            for spoilt in with_fault(bytes_, numbers, i):
+                for name in (b"a", b"a."):
+                    yield lookup_any(20, bytes_, spoilt, name)
+    # Listings of every length, folders and files by turns: every index, and every gap.
+    for n in range(0, 40 if long else 21):
+        listing = listed(*[((33188, 16384)[i % 2], bytes([98 + 2 * i])) for i in range(n)])
+        for letter in range(97, 98 + 2 * n) if long or n in (0, 1, 2, 3, 4, 7, 8, 15, 16, 20) else (97, 97 + n, 98 + 2 * n):
+            yield lookup_any(20, *listing, bytes([letter]))
+
+
+def many_names():
+    """Many names: the order of the refusals, rooms, and a 10 in every place by every fault."""
+    letters = b"abcdefgh"
+    object, numbers = listed((33188, b"b"), (16384, b"d"), (33188, b"f"))
+    few = [], [0], [0, 1], [0, 1, 0], [0, 9, 0], [1, 0, 0], [0, 1, 2], [1, 2, 0, 3, 4], [1, 2, 0, 3, 4, 1]
+    for h in BAD_H + [20, 32]:
+        for room, sought in itertools.product((0, 2, 3, 5, 6, 7), few):
+            yield lookups(h, object, numbers, letters, sought, room)
+    for n in (0, 1, 2, 3, 62, 63, 64, 65, 66, 127, 128, 129, 192, 193, 341):
+        every = [x for i in range(n) for x in (i % 8, i % 8 + 1, i // 8 % 2)]
+        for room in {0, 3 * n - 3, 3 * n - 1, 3 * n, 3 * n + 1, 3 * n + 2, 3 * n + 3, 1024} & set(range(1025)):
+            yield lookups(20, object, numbers, letters, every, room)
+        for rest in ([0], [9], [1, 0]):
+            if len(every + rest) <= 1024:
+                yield lookups(20, object, numbers, letters, every + rest, 3 * n)
+        yield lookups(32, object + b"\x11" * 12, numbers, letters, every[::-1], 3 * n)
+        yield lookups(20, object, [], letters, every, 3 * n)
+    spoilt = list(with_fault(object, numbers, 0))
+    for n in (1, 2, 3, 63, 64, 65, 66, 130):
+        good = [5, 6, 0] * n                # `f`, which does not meet the first record
+        for i in sorted({0, 1, n // 2, 62, 63, 64, 65, n - 2, n - 1} & set(range(n))):
+            for bad in ([6, 5, 0], [5, 9, 1], [9, 9, 0], [2**64 - 1, 2**64 - 1, 0], [0, 2**64 - 1, 1], [5, 6, 2], [5, 6, 2**64 - 1], [8, 8, 2]):
+                yield lookups(20, object, numbers, letters, good[:3 * i] + bad + good[3 * i + 3:], 3 * n)
+            meets = good[:3 * i] + [1, 2, 0] + good[3 * i + 3:]
+            for numbers_ in spoilt if n < 4 or i in (63, 64) else spoilt[i % 6:i % 6 + 1]:
+                yield lookups(20, object, numbers_, letters, meets, 3 * n)
+            yield lookups(20, object, spoilt[0], letters, meets[:-3] + [6, 5, 0], 3 * n)       # two such names, or one
+            yield lookups(20, object, spoilt[0], letters, [5, 6, 2] + meets[3:], 3 * n)
+            yield lookups(20, object, spoilt[0], letters, meets, 3 * n - 1)
+
+
+def ids_and_digits(long):
+    """Ids and their digits: lengths, rooms, every digit, and every byte at each end."""
+    sizes = (0, 19, 20, 21, 31, 32, 33, 39, 40, 41, 63, 64, 65)
+    for n in range(81):
+        for room in sizes if long or n in sizes else (0, 64):
+            yield id_of_hex(b"aA1" * (n // 3) + b"9Ff"[:n % 3], room)
+            yield hex_of_id(bytes(range(n)), room)
+            yield hex_of_id(bytes(range(256 - n, 256)), room)
+    for n in (38, 39, 40, 41, 42, 62, 63, 64, 65, 66):
+        for room in (0, 19, 20, 31, 32):
+            for digits in (b"g" + b"1" * (n - 1), b"1" * (n - 1) + b"g"):
+                yield id_of_hex(digits, room)
+    for n, letter in itertools.product((40, 64), range(256)):
+        yield id_of_hex(bytes([letter]) + b"1" * (n - 1), n // 2)
+        yield id_of_hex(b"1" * (n - 1) + bytes([letter]), n // 2)
+    for n in (40, 64):
+        for at, letter in itertools.product(range(n), b"g/" if not long else b"g/:@G`\0\xff"):
+            yield id_of_hex(b"1" * at + bytes([letter]) + b"1" * (n - at - 1), n // 2)
+    for first in paper.HEX:                 # every pair of digits
+        yield id_of_hex(bytes(x for second in paper.HEX for x in (first, second)) + b"0" * 20, 32)
+    for first in range(0, 256, 20):         # every byte
+        yield hex_of_id(bytes((first + i) % 256 for i in range(20)), 40)
+    for first in range(0, 256, 32):
+        yield hex_of_id(bytes(range(first, first + 32)), 64)
 
 
 def from_git():
@@ -464,13 +614,20 @@ def from_git():
                 numbers = paper.tree_read(h, object, 500, True)[1]
                 yield tree_reading(h, object, len(numbers))
                 yield tree_writing(h, object, numbers, len(object))
-                for r in paper.by(paper.WIDTH, numbers):
+                records = paper.by(paper.WIDTH, numbers)
+                for r in records:
                     yield lookup(h, object, numbers, object[r[1]:r[2]], paper.is_tree(r[0]))
                     yield lookup(h, object, numbers, object[r[1]:r[2]] + b"-", paper.is_tree(r[0]))
+                    yield lookup_any(h, object, numbers, object[r[1]:r[2]])
+                    yield hex_of_id(object[r[3]:r[3] + h], 2 * h)
+                every = [x for r in records for x in (r[1], r[2], int(paper.is_tree(r[0])))]
+                yield lookups(h, object, numbers, object, every, len(every))
             else:
                 _out, ranges, parents, numbers = paper.commit_read(h, object, 10, 50)
                 yield commit_reading(h, object, len(parents), len(numbers))
                 yield commit_writing(h, object, parents, numbers, ranges, len(object))
+                for id in [ranges[0]] + parents:
+                    yield id_of_hex(object[id:id + 2 * h], h)
                 for record in paper.by(5, numbers):
                     yield unfold(object, record, len(object))
 
@@ -480,7 +637,8 @@ def from_git():
 # Random cases of each call in the list.
 RANDOM = [(random_mode_text, 2200), (random_mode_asked, 1400), (random_mode_from_number, 900), (random_name_order, 1500),
           (random_tree_reading, 3000), (random_lookup, 2400), (random_tree_writing, 2600), (random_loose_header, 700),
-          (random_commit_reading, 2700), (random_unfold, 2200), (random_commit_writing, 2200)]
+          (random_commit_reading, 2700), (random_unfold, 2200), (random_commit_writing, 2200),
+          (random_lookup_any, 700), (random_lookups, 600), (random_id_of_hex, 500), (random_hex_of_id, 400)]
 
 
 class Tally:

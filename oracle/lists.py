@@ -8,7 +8,7 @@ HERE = os.path.dirname(os.path.abspath(__file__))
 LIST = os.path.join(HERE, "..", "crates", "replay", "stdin")
 REPORT = os.path.join(HERE, "..", "crates", "replay", "stdout")
 
-# What is added to the number of a call in the list: those of commits come after those of trees.
+# What is added to the number of a call in the list: those of commits come after the first eight of trees, and 12 to 15 are of trees again.
 FIRST = {"trees": 0, "commits": 8}
 
 
@@ -25,7 +25,8 @@ def number(n):
 # The fields of each call, in and out: n a number, b bytes, l a list of numbers, r a room in bytes, m one in numbers.
 SHAPES = {("trees", 1): ("b", "nnn"), ("trees", 2): ("n", "nnnbb"), ("trees", 3): ("n", "nn"), ("trees", 4): ("bnbn", "n"),
           ("trees", 5): ("nbmn", "nnnnlnnnn"), ("trees", 6): ("nblbn", "nnnn"), ("trees", 7): ("nblr", "nnnnnnb"), ("trees", 8): ("nnr", "nnnb"),
-          ("commits", 1): ("nbmm", "nnn" + "n" * 10 + "ll"), ("commits", 2): ("bnnnnnr", "nnnb"), ("commits", 3): ("nbll" + "n" * 10 + "r", "nnnnnnb")}
+          ("commits", 1): ("nbmm", "nnn" + "n" * 10 + "ll"), ("commits", 2): ("bnnnnnr", "nnnb"), ("commits", 3): ("nbll" + "n" * 10 + "r", "nnnnnnb"),
+          ("trees", 12): ("nblb", "nnnn"), ("trees", 13): ("nblblm", "nnnl"), ("trees", 14): ("br", "nnnb"), ("trees", 15): ("br", "nnnb")}
 
 # The list ends with cases that are wrong on purpose: for each field that comes out of a call, one in which it is another.
 WRONG = sum(len(comes_out) for _goes_in, comes_out in SHAPES.values())
@@ -104,7 +105,7 @@ def read_all():
 
     cases = []
     while at < len(content):
-        file = "trees" if content[at] <= FIRST["commits"] else "commits"
+        file = "commits" if ("commits", content[at] - FIRST["commits"]) in SHAPES else "trees"
         call = content[at] - FIRST[file]
         at += 1
         cases.append((file, (call, *[[one_field(x) for x in shape] for shape in SHAPES[file, call]])))

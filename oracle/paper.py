@@ -13,6 +13,7 @@ DONE, BAD_H, OVER, UNREADABLE, FEW_RECORDS, BAD_MODE_TEXT, BAD_NAME, NOT_AFTER =
 SHORT_OUTPUT, NUL_IN_NAME, BAD_RECORD, FIELD, ACTOR, EMPTY_ENCODING, LF_ENCODING, NOT_THERE = range(8, 16)
 SAME_NAME, DOT_GIT, NO_RULE_SET, NOT_ACCEPTABLE = 17, 18, 19, 23
 WIDTH = 5                      # the numbers of an entry's record
+EACH = 3                       # those of a sought name, and of a stored answer
 NO_MODE, NO_NUL, CUT_ID = 1, 2, 3      # the parts of UNREADABLE
 
 SPACE, LF, NUL, SLASH = 32, 10, 0, 47
@@ -231,6 +232,37 @@ def lookup(h, object, numbers, name, tree):
     return NOT_THERE, 0, 0, compared
 
 
+def lookup_any(h, object, numbers, name):
+    """Lookup, "A name of whatever sort": (number, place, index, compared)."""
+    first = lookup(h, object, numbers, name, False)
+    if first[0] != NOT_THERE:
+        return first
+    second = lookup(h, object, numbers, name, True)
+    if second[0] == BAD_RECORD:             # "a 10 counts nothing"
+        return second
+    return *second[:3], first[3] + second[3]
+
+
+def lookups(h, object, numbers, names, sought, room):
+    """Lookup, "Many lookups"; `room` is in numbers. (number, place, count), answers (flat)."""
+    wanted, lent = by(EACH, sought), room // EACH
+    if bad_h(h):
+        return (BAD_H, 0, 0), []
+    if over([len(object), len(names)], [len(by(WIDTH, numbers)), len(wanted), lent]):
+        return (OVER, 0, 0), []
+    if len(wanted) > lent:                  # "asked before any name"
+        return (FEW_RECORDS, len(wanted), 0), []
+    answers = []
+    for index, (start, end, mark) in enumerate(wanted):
+        if mark not in (0, 1) or not forward(start, end, names):
+            return (BAD_RECORD, index, 0), []
+        answer = lookup(h, object, numbers, names[start:end], mark == 1)
+        if answer[0] == BAD_RECORD:
+            return (BAD_RECORD, index, 0), []
+        answers += [answer[0], answer[2], answer[3]]
+    return (DONE, 0, len(wanted)), answers
+
+
 # ---------------------------------------------------------------- Tree writing
 
 def entry_written(record, bytes, h):
@@ -281,6 +313,28 @@ def loose_header(kind, size, room):
     if kind not in words:
         return (NOT_ACCEPTABLE, 0, 0), b""
     return output(words[kind] + b" %d\0" % size, room)
+
+
+# ---------------------------------------------------------------- Hex
+
+def id_of_hex(digits, room):
+    """Hex, "takes 2H digits of either case"; its order is 1, 2, 10, 8: (number, place, count), bytes written."""
+    if len(digits) not in (40, 64):
+        return (BAD_H, 0, 0), b""
+    if over([room]):
+        return (OVER, 0, 0), b""
+    if not all_in(digits, HEX):
+        return (BAD_RECORD, 0, 0), b""
+    return output(bytes(int(digits[i:i + 2], 16) for i in range(0, len(digits), 2)), room)
+
+
+def hex_of_id(id, room):
+    """Hex, "in lower case"; its order is 1, 2, 8: (number, place, count), bytes written."""
+    if bad_h(len(id)):
+        return (BAD_H, 0, 0), b""
+    if over([room]):
+        return (OVER, 0, 0), b""
+    return output(b"".join(b"%02x" % x for x in id), room)
 
 
 # ---------------------------------------------------------------- Headers
@@ -508,6 +562,9 @@ def examples():
     answer, written = tree_write(20, b"abc" + b" " * 20, [0, 0, 3, 3, 0], 26)
     assert answer == (0, 0, 26) and tree_read(20, written, 5, False)[0] == (3, 0, 1, 0)                        # P14
     assert mode_from_number(0o300644) == (0, 33188) and mode_from_number(0o200000) == (23, 0)
+    assert lookup_any(20, o, records, b"b") == (0, 0, 1, 2 + 1) and lookup_any(20, o, records, b"c") == (15, 0, 0, 1 + 1)
+    assert lookups(20, o, records, b"ab", [0, 1, 0, 1, 2, 1, 1, 2, 0], 9) == ((0, 0, 3), [0, 0, 2, 0, 1, 1, 15, 0, 2])
+    assert id_of_hex(b"0aF9" * 10, 20) == ((0, 0, 20), b"\x0a\xf9" * 10) and hex_of_id(b"\x0a\xf9" * 10, 40) == ((0, 0, 40), b"0af9" * 10)
 
 
 examples()

@@ -3,6 +3,7 @@
 // compared. A line for each call says how many cases there are and how many agree.
 mod cases;
 mod commits;
+mod names;
 mod trees;
 
 use cases::Mark;
@@ -12,6 +13,7 @@ use libc::SEEK_SET;
 use libc::STDERR_FILENO;
 use libc::STDIN_FILENO;
 use libc::STDOUT_FILENO;
+use names::name_case;
 use trees::tree_case;
 ghost use Prim.Native.Nat.{_<_};
 
@@ -21,10 +23,10 @@ const WINDOW: usize = 40960;
 const MOST_CASES: usize = 1048576;
 
 // The counts: a place for each call and place 0 for all; how many of them agree stands so much further on.
-const AGREE: usize = 16;
+const AGREE: usize = 24;
 
 // How many differences are said one by one: more than the cases that are wrong on purpose.
-const SAID: usize = 64;
+const SAID: usize = 96;
 
 fn say(s: &[u8]) {
     io::write_all(STDOUT_FILENO, s);
@@ -50,21 +52,21 @@ fn differing(counts: &[usize]) -> usize {
     std::num::wrapping_sub_usize(count_at(counts, 0), count_at(counts, AGREE))
 }
 
-// The calls 1 to 8 are those of trees, 9 to 11 those of commits; what is no call is counted at 15.
+// The calls 1 to 8 are those of trees, 9 to 11 those of commits, 12 to 15 those of names and ids; what is no call is counted at 16.
 fn place(call: usize) -> usize
-    ensures { λ r. ⌜ r < 16 ⌝ }
+    ensures { λ r. ⌜ r < 24 ⌝ }
 {
     if call == 0 {
-        return 15;
+        return 16;
     }
-    if call <= 11 {
+    if call <= 15 {
         return call;
     }
-    15
+    16
 }
 
 fn count_case(good: bool, at: usize, counts: &mut [usize])
-    requires { ⌜ at < 16 ⌝ }
+    requires { ⌜ at < 24 ⌝ }
 {
     bump(counts, 0);
     bump(counts, at);
@@ -87,7 +89,10 @@ fn one_case(call: usize, s: &[u8]) -> Mark {
     if call <= 8 {
         return tree_case(call, s);
     }
-    commit_case(call - 8, s)
+    if call <= 11 {
+        return commit_case(call - 8, s);
+    }
+    name_case(call - 11, s)
 }
 
 // The case at a place of the list: how many bytes it has; 0 where the list ends, or has a call that there is not.
@@ -124,7 +129,7 @@ fn replay(counts: &mut [usize]) {
 }
 
 fn line(name: &[u8], counts: &[usize], at: usize)
-    requires { ⌜ at < 16 ⌝ }
+    requires { ⌜ at < 24 ⌝ }
 {
     say(name);
     say(b" ");
@@ -151,9 +156,17 @@ fn report_commits(counts: &[usize]) {
     line(b"commit writing", counts, 11);
 }
 
+fn report_names(counts: &[usize]) {
+    line(b"lookup, any sort", counts, 12);
+    line(b"many lookups", counts, 13);
+    line(b"id from digits", counts, 14);
+    line(b"digits of an id", counts, 15);
+}
+
 fn report(counts: &[usize]) {
     report_trees(counts);
     report_commits(counts);
+    report_names(counts);
     say(b"cases ");
     say_number(count_at(counts, 0));
     say(b", differ ");
@@ -162,7 +175,7 @@ fn report(counts: &[usize]) {
 }
 
 fn main() {
-    let mut counts = [0usize; 32];
+    let mut counts = [0usize; 48];
     if libc::lseek(STDIN_FILENO, 0, SEEK_SET) < 0 {
         io::write_all(STDERR_FILENO, b"replay: standard input is no file\n");
         return;

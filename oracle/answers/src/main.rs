@@ -91,10 +91,21 @@ fn answer(case: &mut Case) -> String {
             let (hash, bytes) = (case.hash(), case.bytes());
             let tree = TreeRef { entries: case.entries(&bytes, hash) };
             let (name, is_tree) = (case.bytes(), case.flag());
-            match tree.bisect_entry(name.as_bstr(), is_tree) {
-                Some(found) => format!("ok{}", entry_text(&bytes, &found)),
-                None => "no".into(),
-            }
+            found(&bytes, tree.bisect_entry(name.as_bstr(), is_tree))
+        }
+        "find-any" => {
+            let (hash, bytes) = (case.hash(), case.bytes());
+            let tree = TreeRef { entries: case.entries(&bytes, hash) };
+            let name = case.bytes();
+            let [file, folder] = [false, true].map(|is_tree| tree.bisect_entry(name.as_bstr(), is_tree));
+            found(&bytes, file.or(folder))
+        }
+        "find-many" => {
+            let (hash, bytes) = (case.hash(), case.bytes());
+            let tree = TreeRef { entries: case.entries(&bytes, hash) };
+            let sought: Vec<_> = (0..case.number()).map(|_| (case.bytes(), case.flag())).collect();
+            let answers = sought.iter().map(|(name, is_tree)| found(&bytes, tree.bisect_entry(name.as_bstr(), *is_tree)));
+            answers.collect::<Vec<_>>().join(" ")
         }
         "write" => {
             let (hash, bytes) = (case.hash(), case.bytes());
@@ -168,6 +179,14 @@ fn tree_read(hash: gix_hash::Kind, bytes: &[u8]) -> String {
 fn entry_text(bytes: &[u8], entry: &EntryRef) -> String {
     let name = place(bytes, entry.filename);
     format!(" {} {name} {} {}", editor::bits(entry.mode), name + entry.filename.len(), place(bytes, entry.oid.as_bytes()))
+}
+
+/// The entry that was sought.
+fn found(bytes: &[u8], entry: Option<EntryRef>) -> String {
+    match entry {
+        Some(entry) => format!("ok{}", entry_text(bytes, &entry)),
+        None => "no".into(),
+    }
 }
 
 /// Where a part of `whole` starts.
