@@ -66,7 +66,6 @@ after-entry-requires c κs =
     let w = decoded-within _ _ _ _ _ (sym (decode .ensures) ∙ e .given .1) in
     (loop .inv .0 .inside, (w .1, w .2))
 
--- /work/side/h/a/target/rlib/ground.rlib/interface/lang/src/lib.rt:27:28
 enum-told : tie.Need-enum-told Inv-loop μ-loop
 enum-told c = search needs
 
@@ -89,7 +88,6 @@ returns-3 c =
     reading-low _ _ _ _ _ _ _ _ (loop .inv .0) (if1 .taken) (if2 .left) _ _ _ (sym (decode .ensures) ∙ e .given .1)
     (entry-number .ensures) (if3 .left) _ (after-entry .ensures .0) (c .enum-told .given .1)
 
--- /work/side/h/a/target/rlib/ground.rlib/interface/lang/src/lib.rt:27:28
 enum-told-2 : tie.Need-enum-told-2 Inv-loop μ-loop
 enum-told-2 c = search needs
 
