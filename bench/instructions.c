@@ -1,5 +1,7 @@
 /* The measured calls of bench/instructions: trees of so many entries with names of so many bytes. Each call stands between two calls of
  * getppid, where the emulator's plugin prints its count; a line on standard output says how many counts belong to it and what they are. */
+/* answers are compared elsewhere: only the calls are counted here */
+#define SARPUKTEN_CHECKED
 #include "sarpukten.h"
 
 #include <stdio.h>
@@ -34,29 +36,29 @@ static size_t make(uint8_t *to, size_t n, size_t len)
 /* Forty names of the listing, every sort right: in forty calls, and in one. */
 static int forty(const uint8_t *object, size_t bytes, const size_t *records, size_t n, size_t len)
 {
-    size_t sought[40 * SARPUKTEN_SOUGHT], answers[40 * SARPUKTEN_FOUND], answer[SARPUKTEN_LOOKUP_ANSWER], i;
+    size_t sought[40 * SARPUKTEN_WIDTH_SOUGHT], answers[40 * SARPUKTEN_WIDTH_FOUND], answer[SARPUKTEN_LENGTH_LOOKUP], i;
 
     for (i = 0; i < 40; i++) {
-        const size_t *r = records + i * (n / 40) * SARPUKTEN_ENTRY;
-        sought[i * SARPUKTEN_SOUGHT + SARPUKTEN_SOUGHT_START] = r[SARPUKTEN_ENTRY_NAME_START];
-        sought[i * SARPUKTEN_SOUGHT + SARPUKTEN_SOUGHT_END] = r[SARPUKTEN_ENTRY_NAME_END];
-        sought[i * SARPUKTEN_SOUGHT + SARPUKTEN_SOUGHT_FOLDER] = r[SARPUKTEN_ENTRY_MODE] == 040000;
+        const size_t *r = records + i * (n / 40) * SARPUKTEN_WIDTH_ENTRY;
+        sought[i * SARPUKTEN_WIDTH_SOUGHT + SARPUKTEN_SOUGHT_START] = r[SARPUKTEN_ENTRY_NAME_START];
+        sought[i * SARPUKTEN_WIDTH_SOUGHT + SARPUKTEN_SOUGHT_END] = r[SARPUKTEN_ENTRY_NAME_END];
+        sought[i * SARPUKTEN_WIDTH_SOUGHT + SARPUKTEN_SOUGHT_FOLDER] = r[SARPUKTEN_ENTRY_MODE] == 040000;
     }
     mark();
     for (i = 0; i < 40; i++) {
-        const size_t *q = sought + i * SARPUKTEN_SOUGHT;
-        sarpukten_bisect_entry(object, bytes, SARPUKTEN_SHA1, records, n * SARPUKTEN_ENTRY, object + q[0], q[1] - q[0], q[2] == 1, answer);
+        const size_t *q = sought + i * SARPUKTEN_WIDTH_SOUGHT;
+        sarpukten_bisect_entry(object, bytes, SARPUKTEN_SHA1, records, n * SARPUKTEN_WIDTH_ENTRY, object + q[0], q[1] - q[0], q[2] == 1, answer);
     }
     mark();
     printf("2 forty-calls %zu %zu 40\n", n, len);
     mark();
     sarpukten_bisect_entries(
-        object, bytes, SARPUKTEN_SHA1, records, n * SARPUKTEN_ENTRY, object, bytes, sought, 40 * SARPUKTEN_SOUGHT, answers,
-        40 * SARPUKTEN_FOUND, answer);
+        object, bytes, SARPUKTEN_SHA1, records, n * SARPUKTEN_WIDTH_ENTRY, object, bytes, sought, 40 * SARPUKTEN_WIDTH_SOUGHT, answers,
+        40 * SARPUKTEN_WIDTH_FOUND, answer);
     mark();
     printf("2 forty-in-one %zu %zu 40\n", n, len);
     for (i = 0; i < 40; i++)
-        if (answers[i * SARPUKTEN_FOUND + SARPUKTEN_FOUND_NUMBER] || answers[i * SARPUKTEN_FOUND + SARPUKTEN_FOUND_INDEX] != i * (n / 40))
+        if (answers[i * SARPUKTEN_WIDTH_FOUND + SARPUKTEN_FOUND_NUMBER] || answers[i * SARPUKTEN_WIDTH_FOUND + SARPUKTEN_FOUND_INDEX] != i * (n / 40))
             return 0;
     return answer[SARPUKTEN_ANSWER_NUMBER] == 0;
 }
@@ -65,7 +67,7 @@ static int forty(const uint8_t *object, size_t bytes, const size_t *records, siz
 static int commit(size_t parents, size_t message)
 {
     static const char digits[] = "0123456789abcdef0123456789abcdef01234567", who[] = " A U Thor <author@example.com> 1112911993 -0700\n";
-    size_t n = 0, i, lent[8], headers[5], answer[SARPUKTEN_COMMIT_ANSWER];
+    size_t n = 0, i, lent[8], headers[5], answer[SARPUKTEN_LENGTH_COMMIT];
     char *text = malloc(message + 1000);
 
     if (!text)
@@ -94,17 +96,17 @@ int main(int argc, char **argv)
 
     for (s = 0; s < 4; s++)
         for (l = 0; l < 5; l++) {
-            size_t n = sizes[s], len = lens[l], answer[SARPUKTEN_COMMIT_ANSWER], bytes;
+            size_t n = sizes[s], len = lens[l], answer[SARPUKTEN_LENGTH_COMMIT], bytes;
             if (n > most)
                 continue;
             uint8_t *object = malloc(n * (len + 29)), *out = malloc(n * (len + 29));
-            size_t *records = malloc(n * SARPUKTEN_ENTRY * sizeof *records);
+            size_t *records = malloc(n * SARPUKTEN_WIDTH_ENTRY * sizeof *records);
             if (!object || !out || !records)
                 return 1;
             bytes = make(object, n, len);
             for (i = 0; i < 2; i++) { /* the first round only warms up */
                 mark();
-                sarpukten_read_tree(object, bytes, SARPUKTEN_SHA1, records, n * SARPUKTEN_ENTRY, answer);
+                sarpukten_read_tree(object, bytes, SARPUKTEN_SHA1, records, n * SARPUKTEN_WIDTH_ENTRY, answer);
                 mark();
             }
             if (answer[SARPUKTEN_ANSWER_NUMBER] || answer[SARPUKTEN_ANSWER_COUNT] != n)
@@ -112,7 +114,7 @@ int main(int argc, char **argv)
             printf("4 plain %zu %zu %zu\n", n, len, n);
             for (i = 0; i < 2; i++) {
                 mark();
-                sarpukten_read_tree_strict(object, bytes, SARPUKTEN_SHA1, SARPUKTEN_RULES_PRESENT, records, n * SARPUKTEN_ENTRY, answer);
+                sarpukten_read_tree_strict(object, bytes, SARPUKTEN_SHA1, SARPUKTEN_RULES_PRESENT, records, n * SARPUKTEN_WIDTH_ENTRY, answer);
                 mark();
             }
             if (answer[SARPUKTEN_ANSWER_NUMBER] || answer[SARPUKTEN_ANSWER_COUNT] != n)
@@ -120,14 +122,14 @@ int main(int argc, char **argv)
             printf("4 strict %zu %zu %zu\n", n, len, n);
             mark();
             for (i = 0; i < n; i++) {
-                const size_t *r = records + i * SARPUKTEN_ENTRY;
-                sarpukten_bisect_entry(object, bytes, SARPUKTEN_SHA1, records, n * SARPUKTEN_ENTRY, object + r[1], r[2] - r[1], r[0] == 040000, answer);
+                const size_t *r = records + i * SARPUKTEN_WIDTH_ENTRY;
+                sarpukten_bisect_entry(object, bytes, SARPUKTEN_SHA1, records, n * SARPUKTEN_WIDTH_ENTRY, object + r[1], r[2] - r[1], r[0] == 040000, answer);
             }
             mark();
             printf("2 bisect %zu %zu %zu\n", n, len, n);
             for (i = 0; i < 2; i++) {
                 mark();
-                sarpukten_write_tree(object, bytes, SARPUKTEN_SHA1, records, n * SARPUKTEN_ENTRY, out, bytes, answer);
+                sarpukten_write_tree(object, bytes, SARPUKTEN_SHA1, records, n * SARPUKTEN_WIDTH_ENTRY, out, bytes, answer);
                 mark();
             }
             if (answer[SARPUKTEN_ANSWER_NUMBER] || memcmp(out, object, bytes))

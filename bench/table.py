@@ -33,8 +33,9 @@ COMMITS = {"commit": ("Commit reading, a commit", ["rust", "libgit2", "sarpukten
 
 OPERATIONS = {
     "plain": ("Plain reading, an entry", ["rust", "iterator", "libgit2", "sarpukten"]),
-    "strict": ("Strict reading, an entry (the Rust and libgit2 read plainly)", ["sarpukten"]),
+    "strict": ("Strict reading, an entry (the rules in Rust over the crate's iterator)", ["rust", "sarpukten"]),
     "find": ("Bisection, a search", ["rust", "libgit2", "sarpukten"]),
+    "forty": ("Forty searches in one listing, a search (Sarpukten's single calls, and its one call)", ["rust", "calls", "sarpukten"]),
     "load": ("The loader's path (read strictly, then find one), an entry", ["rust", "libgit2", "sarpukten"]),
     "write": ("Tree writing, an entry", ["rust", "sarpukten"]),
 }
@@ -42,7 +43,7 @@ OPERATIONS = {
 
 def cell(cost, operation, whose, row, tree):
     mine = per(cost, operation, whose, row, tree)
-    rust = per(cost, "plain" if operation == "strict" else operation, "rust", row, tree)
+    rust = per(cost, operation, "rust", row, tree)
     if mine is None:
         return "-"
     ratio = f" ({mine / rust:.2f})" if rust and whose != "rust" else ""

@@ -21,7 +21,7 @@ static void hold(int fact, int line)
 #define HOLD(fact) hold((fact), __LINE__)
 
 /* An array with a guard on both sides: `numbers + 1` is lent. */
-static size_t numbers[SARPUKTEN_COMMIT_ANSWER + 2];
+static size_t numbers[SARPUKTEN_LENGTH_COMMIT + 2];
 static size_t *const answer = numbers + 1;
 
 /* Whether the call answered with these numbers, so many, and nothing beside them. The array is then as new. */
@@ -32,20 +32,20 @@ static int answers(size_t number, size_t many, const size_t *want)
 
     for (i = 0; i < many; i++)
         same = same && answer[i] == want[i];
-    for (i = 0; i < SARPUKTEN_COMMIT_ANSWER + 2; i++)
+    for (i = 0; i < SARPUKTEN_LENGTH_COMMIT + 2; i++)
         numbers[i] = GUARD;
     return same;
 }
 
 static int four(size_t number, size_t a, size_t b, size_t part, size_t c)
 {
-    size_t want[SARPUKTEN_COUNT_ANSWER];
+    size_t want[SARPUKTEN_LENGTH_COUNT];
 
     want[SARPUKTEN_ANSWER_NUMBER] = a;
     want[SARPUKTEN_ANSWER_PLACE] = b;
     want[SARPUKTEN_ANSWER_PART] = part;
     want[SARPUKTEN_ANSWER_COUNT] = c;
-    return answers(number, SARPUKTEN_COUNT_ANSWER, want);
+    return answers(number, SARPUKTEN_LENGTH_COUNT, want);
 }
 
 /* The same with part 0, as with every number but 3. */
@@ -73,17 +73,17 @@ static uint8_t *big;
 
 static void modes(void)
 {
-    static const size_t link[SARPUKTEN_QUESTIONS] = {0, 1, 0, 0, 1, 1, 0};
-    uint8_t six[SARPUKTEN_WORD + 2];
+    static const size_t link[SARPUKTEN_WIDTH_QUESTIONS] = {0, 1, 0, 0, 1, 1, 0};
+    uint8_t six[SARPUKTEN_ROOM_WORD + 2];
 
     HOLD(three(sarpukten_mode_read(BYTES("100644 "), 7, answer), SARPUKTEN_DONE, 0, 0100644));
-    HOLD(four(sarpukten_mode_read(BYTES(""), 0, answer), SARPUKTEN_BROKEN_ENTRY, 0, SARPUKTEN_NO_MODE, 0));
+    HOLD(four(sarpukten_mode_read(BYTES(""), 0, answer), SARPUKTEN_REFUSED_BROKEN_ENTRY, 0, SARPUKTEN_BROKEN_NO_MODE, 0));
     HOLD(three(sarpukten_mode_from_number(0300644, answer), SARPUKTEN_DONE, 0, 0100644));
-    HOLD(three(sarpukten_mode_from_number(0200000, answer), SARPUKTEN_NO_MODE_OR_KIND, 0, 0));
+    HOLD(three(sarpukten_mode_from_number(0200000, answer), SARPUKTEN_REFUSED_NO_MODE_OR_KIND, 0, 0));
     HOLD(sarpukten_mode_value(0140000) == 040000);
     HOLD(sarpukten_mode_kind(0100664) == 0100644);
     sarpukten_mode_ask(0120000, answer);
-    HOLD(answers(0, SARPUKTEN_QUESTIONS, link));
+    HOLD(answers(0, SARPUKTEN_WIDTH_QUESTIONS, link));
     memset(six, GUARD, sizeof six);
     HOLD(sarpukten_mode_word(040000, six + 1) == 4 && memcmp(six, "\011tree\0\0\011", 8) == 0);
     HOLD(sarpukten_mode_text(040000, six + 1) == 5 && memcmp(six, "\01140000\0\011", 8) == 0);
@@ -100,7 +100,7 @@ static void names(void)
 static size_t strict(uint16_t rules, const char *first, const char *second)
 {
     uint8_t object[80];
-    size_t records[2 * SARPUKTEN_ENTRY], len = strlen(first) + 21;
+    size_t records[2 * SARPUKTEN_WIDTH_ENTRY], len = strlen(first) + 21;
 
     memset(object, 0x11, sizeof object);
     memcpy(object, first, len - 20);
@@ -108,53 +108,53 @@ static size_t strict(uint16_t rules, const char *first, const char *second)
         memcpy(object + len, second, strlen(second) + 1);
         len += strlen(second) + 21;
     }
-    return sarpukten_read_tree_strict(object, len, SARPUKTEN_SHA1, rules, records, 2 * SARPUKTEN_ENTRY, answer);
+    return sarpukten_read_tree_strict(object, len, SARPUKTEN_SHA1, rules, records, 2 * SARPUKTEN_WIDTH_ENTRY, answer);
 }
 
 /* Reads O's first entry whole, and behind it these bytes. */
 static size_t behind(const char *bytes, size_t len)
 {
     uint8_t object[29 + 40];
-    size_t records[2 * SARPUKTEN_ENTRY];
+    size_t records[2 * SARPUKTEN_WIDTH_ENTRY];
 
     memcpy(object, "100644 a", 9);
     memset(object + 9, 0x11, 20);
     memcpy(object + 29, bytes, len);
-    return sarpukten_read_tree(object, 29 + len, SARPUKTEN_SHA1, records, 2 * SARPUKTEN_ENTRY, answer);
+    return sarpukten_read_tree(object, 29 + len, SARPUKTEN_SHA1, records, 2 * SARPUKTEN_WIDTH_ENTRY, answer);
 }
 
 static void parts(void)
 {
-    HOLD(four(behind("9", 1), SARPUKTEN_BROKEN_ENTRY, 29, SARPUKTEN_NO_MODE, 0));
-    HOLD(four(behind("12345678", 8), SARPUKTEN_BROKEN_ENTRY, 29, SARPUKTEN_NO_MODE, 0));
-    HOLD(four(behind("100644", 7), SARPUKTEN_BROKEN_ENTRY, 29, SARPUKTEN_NO_MODE, 0));
-    HOLD(four(behind("1234567", 7), SARPUKTEN_BROKEN_ENTRY, 29, SARPUKTEN_NO_NUL, 0));
-    HOLD(four(behind("100644 ab", 9), SARPUKTEN_BROKEN_ENTRY, 29, SARPUKTEN_NO_NUL, 0));
-    HOLD(four(behind("100644 b\0nineteen bytes here", 28), SARPUKTEN_BROKEN_ENTRY, 29, SARPUKTEN_CUT_ID, 0));
+    HOLD(four(behind("9", 1), SARPUKTEN_REFUSED_BROKEN_ENTRY, 29, SARPUKTEN_BROKEN_NO_MODE, 0));
+    HOLD(four(behind("12345678", 8), SARPUKTEN_REFUSED_BROKEN_ENTRY, 29, SARPUKTEN_BROKEN_NO_MODE, 0));
+    HOLD(four(behind("100644", 7), SARPUKTEN_REFUSED_BROKEN_ENTRY, 29, SARPUKTEN_BROKEN_NO_MODE, 0));
+    HOLD(four(behind("1234567", 7), SARPUKTEN_REFUSED_BROKEN_ENTRY, 29, SARPUKTEN_BROKEN_NO_NUL, 0));
+    HOLD(four(behind("100644 ab", 9), SARPUKTEN_REFUSED_BROKEN_ENTRY, 29, SARPUKTEN_BROKEN_NO_NUL, 0));
+    HOLD(four(behind("100644 b\0nineteen bytes here", 28), SARPUKTEN_REFUSED_BROKEN_ENTRY, 29, SARPUKTEN_BROKEN_CUT_ID, 0));
     HOLD(three(behind("100644 b\0twenty bytes of an id", 29), SARPUKTEN_DONE, 0, 2));
 }
 
 static void rules(void)
 {
-    HOLD(three(strict(SARPUKTEN_RULES_PRESENT, "40000 .Git", NULL), SARPUKTEN_DOT_GIT, 0, 0));
-    HOLD(three(strict(SARPUKTEN_RULES_PRESENT, "100644 a", "40000 .giT"), SARPUKTEN_DOT_GIT, 29, 0));
+    HOLD(three(strict(SARPUKTEN_RULES_PRESENT, "40000 .Git", NULL), SARPUKTEN_REFUSED_DOT_GIT, 0, 0));
+    HOLD(three(strict(SARPUKTEN_RULES_PRESENT, "100644 a", "40000 .giT"), SARPUKTEN_REFUSED_DOT_GIT, 29, 0));
     HOLD(three(strict(SARPUKTEN_RULES_PRESENT, "40000 .GITx", "100644 a"), SARPUKTEN_DONE, 0, 2));
-    HOLD(three(strict(SARPUKTEN_RULES_PRESENT, "100644 a", "100664 b"), SARPUKTEN_MODE_TEXT, 29, 0));
+    HOLD(three(strict(SARPUKTEN_RULES_PRESENT, "100644 a", "100664 b"), SARPUKTEN_REFUSED_MODE_TEXT, 29, 0));
     HOLD(three(strict(SARPUKTEN_RULES_EARLY, "100644 a", "100664 b"), SARPUKTEN_DONE, 0, 2));
-    HOLD(three(strict(SARPUKTEN_RULES_PRESENT, "100644 a", "40000 a"), SARPUKTEN_SAME_NAME, 29, 0));
-    HOLD(three(strict(SARPUKTEN_RULES_EARLY, "100664 a", "40000 a"), SARPUKTEN_SAME_NAME, 29, 0));
-    HOLD(three(strict(SARPUKTEN_RULES_PRESENT, "40000 .git", NULL), SARPUKTEN_NAME, 0, 0));
-    HOLD(three(strict(SARPUKTEN_RULES_PRESENT, "100644 b", "100644 a"), SARPUKTEN_ORDER, 29, 0));
-    HOLD(three(strict(0, "100644 a", NULL), SARPUKTEN_RULE_SET, 0, 0));
-    HOLD(three(strict(3, "100644 a", NULL), SARPUKTEN_RULE_SET, 0, 0));
-    HOLD(three(strict(UINT16_MAX, "100644 a", NULL), SARPUKTEN_RULE_SET, 0, 0));
+    HOLD(three(strict(SARPUKTEN_RULES_PRESENT, "100644 a", "40000 a"), SARPUKTEN_REFUSED_SAME_NAME, 29, 0));
+    HOLD(three(strict(SARPUKTEN_RULES_EARLY, "100664 a", "40000 a"), SARPUKTEN_REFUSED_SAME_NAME, 29, 0));
+    HOLD(three(strict(SARPUKTEN_RULES_PRESENT, "40000 .git", NULL), SARPUKTEN_REFUSED_NAME, 0, 0));
+    HOLD(three(strict(SARPUKTEN_RULES_PRESENT, "100644 b", "100644 a"), SARPUKTEN_REFUSED_ORDER, 29, 0));
+    HOLD(three(strict(0, "100644 a", NULL), SARPUKTEN_REFUSED_RULE_SET, 0, 0));
+    HOLD(three(strict(3, "100644 a", NULL), SARPUKTEN_REFUSED_RULE_SET, 0, 0));
+    HOLD(three(strict(UINT16_MAX, "100644 a", NULL), SARPUKTEN_REFUSED_RULE_SET, 0, 0));
 }
 
 static void trees(void)
 {
-    static const size_t step[SARPUKTEN_STEP_ANSWER] = {0, 0, 0, 1, 57, 040000, 35, 36, 37, 29}, end[SARPUKTEN_STEP_ANSWER] = {0, 0, 0, 0, 57};
-    static const size_t cut[SARPUKTEN_STEP_ANSWER] = {SARPUKTEN_BROKEN_ENTRY, 29, SARPUKTEN_CUT_ID, 0, 56};
-    static const size_t found[SARPUKTEN_LOOKUP_ANSWER] = {0, 0, 0, 1, 1}, absent[SARPUKTEN_LOOKUP_ANSWER] = {SARPUKTEN_NOT_THERE, 0, 0, 0, 2};
+    static const size_t step[SARPUKTEN_LENGTH_STEP] = {0, 0, 0, 1, 57, 040000, 35, 36, 37, 29}, end[SARPUKTEN_LENGTH_STEP] = {0, 0, 0, 0, 57};
+    static const size_t cut[SARPUKTEN_LENGTH_STEP] = {SARPUKTEN_REFUSED_BROKEN_ENTRY, 29, SARPUKTEN_BROKEN_CUT_ID, 0, 56};
+    static const size_t found[SARPUKTEN_LENGTH_LOOKUP] = {0, 0, 0, 1, 1}, absent[SARPUKTEN_LENGTH_LOOKUP] = {SARPUKTEN_REFUSED_NOT_THERE, 0, 0, 0, 2};
     static const size_t both[11] = {0100644, 7, 8, 9, 0, 040000, 35, 36, 37, 29, GUARD};
     const struct sarpukten_entry e = sarpukten_entry_of_step(step);
     uint8_t object[57], out[60];
@@ -167,34 +167,34 @@ static void trees(void)
     for (i = 0; i < 11; i++)
         records[i] = GUARD;
 
-    HOLD(answers(sarpukten_tree_step(object, 57, SARPUKTEN_SHA1, 29, answer), SARPUKTEN_STEP_ANSWER, step));
+    HOLD(answers(sarpukten_tree_step(object, 57, SARPUKTEN_SHA1, 29, answer), SARPUKTEN_LENGTH_STEP, step));
     HOLD(step[SARPUKTEN_ANSWER_FOUND] == 1 && step[SARPUKTEN_ANSWER_NEXT] == 57);
     HOLD(e.mode == 040000 && e.name_start == 35 && e.name_end == 36 && e.id_start == 37 && e.text_start == 29);
-    HOLD(answers(sarpukten_tree_step(object, 57, SARPUKTEN_SHA1, 57, answer), SARPUKTEN_STEP_ANSWER, end));
-    HOLD(answers(sarpukten_tree_step(object, 56, SARPUKTEN_SHA1, 29, answer), SARPUKTEN_STEP_ANSWER, cut));
-    HOLD(three(sarpukten_read_tree(object, 57, SARPUKTEN_SHA1, records, 9, answer), SARPUKTEN_FEW_RECORDS, 2, 0));
+    HOLD(answers(sarpukten_tree_step(object, 57, SARPUKTEN_SHA1, 57, answer), SARPUKTEN_LENGTH_STEP, end));
+    HOLD(answers(sarpukten_tree_step(object, 56, SARPUKTEN_SHA1, 29, answer), SARPUKTEN_LENGTH_STEP, cut));
+    HOLD(three(sarpukten_read_tree(object, 57, SARPUKTEN_SHA1, records, 9, answer), SARPUKTEN_REFUSED_FEW_RECORDS, 2, 0));
     HOLD(records[0] == GUARD);
     HOLD(three(sarpukten_read_tree(object, 57, SARPUKTEN_SHA1, records, 11, answer), SARPUKTEN_DONE, 0, 2));
     HOLD(memcmp(records, both, sizeof both) == 0);
-    HOLD(four(sarpukten_read_tree_strict(object, 56, SARPUKTEN_SHA1, SARPUKTEN_RULES_PRESENT, records, 11, answer), SARPUKTEN_BROKEN_ENTRY, 29, SARPUKTEN_CUT_ID, 0));
-    HOLD(four(sarpukten_read_tree(object, 36, SARPUKTEN_SHA1, records, 11, answer), SARPUKTEN_BROKEN_ENTRY, 29, SARPUKTEN_NO_NUL, 0));
-    HOLD(three(sarpukten_read_tree_strict(object, 57, 21, 3, records, 11, answer), SARPUKTEN_ID_LENGTH, 0, 0));
-    HOLD(three(sarpukten_read_tree_strict(object, 57, SARPUKTEN_SHA1, 3, records, 11, answer), SARPUKTEN_RULE_SET, 0, 0));
+    HOLD(four(sarpukten_read_tree_strict(object, 56, SARPUKTEN_SHA1, SARPUKTEN_RULES_PRESENT, records, 11, answer), SARPUKTEN_REFUSED_BROKEN_ENTRY, 29, SARPUKTEN_BROKEN_CUT_ID, 0));
+    HOLD(four(sarpukten_read_tree(object, 36, SARPUKTEN_SHA1, records, 11, answer), SARPUKTEN_REFUSED_BROKEN_ENTRY, 29, SARPUKTEN_BROKEN_NO_NUL, 0));
+    HOLD(three(sarpukten_read_tree_strict(object, 57, 21, 3, records, 11, answer), SARPUKTEN_REFUSED_ID_LENGTH, 0, 0));
+    HOLD(three(sarpukten_read_tree_strict(object, 57, SARPUKTEN_SHA1, 3, records, 11, answer), SARPUKTEN_REFUSED_RULE_SET, 0, 0));
     HOLD(three(sarpukten_read_tree_strict(object, 57, SARPUKTEN_SHA1, SARPUKTEN_RULES_PRESENT, records, 10, answer), SARPUKTEN_DONE, 0, 2));
     HOLD(memcmp(records, both, sizeof both) == 0);
-    HOLD(answers(sarpukten_bisect_entry(object, 57, SARPUKTEN_SHA1, records, 10, BYTES("b"), 1, true, answer), SARPUKTEN_LOOKUP_ANSWER, found));
-    HOLD(answers(sarpukten_bisect_entry(object, 57, SARPUKTEN_SHA1, records, 10, BYTES("b"), 1, false, answer), SARPUKTEN_LOOKUP_ANSWER, absent));
+    HOLD(answers(sarpukten_bisect_entry(object, 57, SARPUKTEN_SHA1, records, 10, BYTES("b"), 1, true, answer), SARPUKTEN_LENGTH_LOOKUP, found));
+    HOLD(answers(sarpukten_bisect_entry(object, 57, SARPUKTEN_SHA1, records, 10, BYTES("b"), 1, false, answer), SARPUKTEN_LENGTH_LOOKUP, absent));
     HOLD(sarpukten_most_comparisons(0) == 0 && sarpukten_most_comparisons(2) == 2);
     HOLD(three(sarpukten_tree_size(object, 57, SARPUKTEN_SHA1, records, 10, answer), SARPUKTEN_DONE, 0, 57));
     memset(out, GUARD, sizeof out);
-    HOLD(three(sarpukten_write_tree(object, 57, SARPUKTEN_SHA1, records, 10, out, 56, answer), SARPUKTEN_SHORT_OUTPUT, 57, 0));
+    HOLD(three(sarpukten_write_tree(object, 57, SARPUKTEN_SHA1, records, 10, out, 56, answer), SARPUKTEN_REFUSED_SHORT_OUTPUT, 57, 0));
     HOLD(untouched(out, sizeof out));
     HOLD(three(sarpukten_write_tree(object, 57, SARPUKTEN_SHA1, records, 10, out, 60, answer), SARPUKTEN_DONE, 0, 57));
     HOLD(memcmp(out, object, 57) == 0 && untouched(out + 57, 3));
 }
 
 /* What many lookups store, with a guard on both sides: `stored + 1` is lent. */
-static size_t stored[3 * SARPUKTEN_FOUND + 2];
+static size_t stored[3 * SARPUKTEN_WIDTH_FOUND + 2];
 
 /* Whether many lookups answered so, and stored these numbers, so many. The array is then as new. */
 static int finds(int answered, size_t many, const size_t *want)
@@ -202,7 +202,7 @@ static int finds(int answered, size_t many, const size_t *want)
     size_t i;
     int same = answered;
 
-    for (i = 0; i < 3 * SARPUKTEN_FOUND + 2; i++) {
+    for (i = 0; i < 3 * SARPUKTEN_WIDTH_FOUND + 2; i++) {
         same = same && stored[i] == (1 <= i && i <= many ? want[i - 1] : GUARD);
         stored[i] = GUARD;
     }
@@ -215,17 +215,17 @@ static size_t seek(
     size_t room)
 {
     return sarpukten_bisect_entries(
-        object, 57, h, records, 2 * SARPUKTEN_ENTRY, names, names_len, sought, sought_len, stored + 1, room, answer);
+        object, 57, h, records, 2 * SARPUKTEN_WIDTH_ENTRY, names, names_len, sought, sought_len, stored + 1, room, answer);
 }
 
 /* A name of whatever sort, and many names: folder `b`, file `a` and `ab`, all in the two bytes `ab`. */
 static void lookups(void)
 {
     static const size_t both[10] = {0100644, 7, 8, 9, 0, 040000, 35, 36, 37, 29}, broken[10] = {65536, 7, 8, 9, 0, 040000, 35, 36, 37, 29};
-    static const size_t file[SARPUKTEN_LOOKUP_ANSWER] = {0, 0, 0, 0, 2}, folder[SARPUKTEN_LOOKUP_ANSWER] = {0, 0, 0, 1, 3};
-    static const size_t absent[SARPUKTEN_LOOKUP_ANSWER] = {SARPUKTEN_NOT_THERE, 0, 0, 0, 4}, bad[SARPUKTEN_LOOKUP_ANSWER] = {SARPUKTEN_BAD_RECORD};
-    static const size_t length[SARPUKTEN_LOOKUP_ANSWER] = {SARPUKTEN_ID_LENGTH}, bound[SARPUKTEN_LOOKUP_ANSWER] = {SARPUKTEN_BOUND};
-    static const size_t sought[11] = {1, 2, 1, 0, 1, 0, 0, 2, 0, GUARD, GUARD}, three_found[9] = {0, 1, 1, 0, 0, 2, SARPUKTEN_NOT_THERE, 0, 2};
+    static const size_t file[SARPUKTEN_LENGTH_LOOKUP] = {0, 0, 0, 0, 2}, folder[SARPUKTEN_LENGTH_LOOKUP] = {0, 0, 0, 1, 3};
+    static const size_t absent[SARPUKTEN_LENGTH_LOOKUP] = {SARPUKTEN_REFUSED_NOT_THERE, 0, 0, 0, 4}, bad[SARPUKTEN_LENGTH_LOOKUP] = {SARPUKTEN_REFUSED_BAD_RECORD};
+    static const size_t length[SARPUKTEN_LENGTH_LOOKUP] = {SARPUKTEN_REFUSED_ID_LENGTH}, bound[SARPUKTEN_LENGTH_LOOKUP] = {SARPUKTEN_REFUSED_BOUND};
+    static const size_t sought[11] = {1, 2, 1, 0, 1, 0, 0, 2, 0, GUARD, GUARD}, three_found[9] = {0, 1, 1, 0, 0, 2, SARPUKTEN_REFUSED_NOT_THERE, 0, 2};
     static const size_t backwards[6] = {0, 1, 0, 2, 1, 0}, outside[6] = {0, 1, 0, 0, 3, 0}, marked[6] = {0, 1, 0, 0, 1, 2};
     struct sarpukten_entry entries[2] = {{0100644, 7, 8, 9, 0}, {040000, 35, 36, 37, 29}};
     struct sarpukten_sought typed[3] = {{1, 2, 1}, {0, 1, 0}, {0, 2, 0}};
@@ -237,34 +237,34 @@ static void lookups(void)
     memcpy(object + 29, "40000 b", 8);
     memset(object + 37, 0x22, 20);
 
-    HOLD(answers(sarpukten_bisect_any(object, 57, SARPUKTEN_SHA1, both, 10, BYTES("a"), 1, answer), SARPUKTEN_LOOKUP_ANSWER, file));
-    HOLD(answers(sarpukten_bisect_any(object, 57, SARPUKTEN_SHA1, both, 10, BYTES("b"), 1, answer), SARPUKTEN_LOOKUP_ANSWER, folder));
-    HOLD(answers(sarpukten_bisect_any(object, 57, SARPUKTEN_SHA1, both, 10, BYTES("ab"), 2, answer), SARPUKTEN_LOOKUP_ANSWER, absent));
-    HOLD(answers(sarpukten_bisect_any(object, 57, SARPUKTEN_SHA1, broken, 10, BYTES("a"), 1, answer), SARPUKTEN_LOOKUP_ANSWER, bad));
-    HOLD(answers(sarpukten_bisect_any(object, 57, 21, both, 10, BYTES("a"), 1, answer), SARPUKTEN_LOOKUP_ANSWER, length));
-    HOLD(answers(sarpukten_bisect_any(object, 57, SARPUKTEN_SHA1, both, 10, big, over, answer), SARPUKTEN_LOOKUP_ANSWER, bound));
-    HOLD(answers(sarpukten_bisect_any_in_entries(object, 57, SARPUKTEN_SHA1, entries, 2, BYTES("b"), 1, answer), SARPUKTEN_LOOKUP_ANSWER, folder));
+    HOLD(answers(sarpukten_bisect_any(object, 57, SARPUKTEN_SHA1, both, 10, BYTES("a"), 1, answer), SARPUKTEN_LENGTH_LOOKUP, file));
+    HOLD(answers(sarpukten_bisect_any(object, 57, SARPUKTEN_SHA1, both, 10, BYTES("b"), 1, answer), SARPUKTEN_LENGTH_LOOKUP, folder));
+    HOLD(answers(sarpukten_bisect_any(object, 57, SARPUKTEN_SHA1, both, 10, BYTES("ab"), 2, answer), SARPUKTEN_LENGTH_LOOKUP, absent));
+    HOLD(answers(sarpukten_bisect_any(object, 57, SARPUKTEN_SHA1, broken, 10, BYTES("a"), 1, answer), SARPUKTEN_LENGTH_LOOKUP, bad));
+    HOLD(answers(sarpukten_bisect_any(object, 57, 21, both, 10, BYTES("a"), 1, answer), SARPUKTEN_LENGTH_LOOKUP, length));
+    HOLD(answers(sarpukten_bisect_any(object, 57, SARPUKTEN_SHA1, both, 10, big, over, answer), SARPUKTEN_LENGTH_LOOKUP, bound));
+    HOLD(answers(sarpukten_bisect_any_in_entries(object, 57, SARPUKTEN_SHA1, entries, 2, BYTES("b"), 1, answer), SARPUKTEN_LENGTH_LOOKUP, folder));
 
     finds(1, 0, NULL);
     HOLD(finds(three(seek(object, SARPUKTEN_SHA1, both, BYTES("ab"), 2, sought, 11, 9), SARPUKTEN_DONE, 0, 3), 9, three_found));
     HOLD(finds(three(seek(object, SARPUKTEN_SHA1, both, BYTES("ab"), 2, sought, 6, 9), SARPUKTEN_DONE, 0, 2), 6, three_found));
     HOLD(finds(three(seek(object, SARPUKTEN_SHA1, both, BYTES("ab"), 2, sought, 2, 9), SARPUKTEN_DONE, 0, 0), 0, NULL));
-    HOLD(finds(three(seek(object, 21, both, big, over, sought, 9, 8), SARPUKTEN_ID_LENGTH, 0, 0), 0, NULL));
-    HOLD(finds(three(seek(object, SARPUKTEN_SHA1, both, big, over, sought, 9, 8), SARPUKTEN_BOUND, 0, 0), 0, NULL));
-    HOLD(finds(three(seek(object, SARPUKTEN_SHA1, broken, BYTES("ab"), 2, sought, 9, 8), SARPUKTEN_FEW_RECORDS, 3, 0), 0, NULL));
-    HOLD(finds(three(seek(object, SARPUKTEN_SHA1, broken, BYTES("ab"), 2, sought, 9, 9), SARPUKTEN_BAD_RECORD, 1, 0), 0, NULL));
-    HOLD(finds(three(seek(object, SARPUKTEN_SHA1, both, BYTES("ab"), 2, backwards, 6, 9), SARPUKTEN_BAD_RECORD, 1, 0), 0, NULL));
-    HOLD(finds(three(seek(object, SARPUKTEN_SHA1, both, BYTES("ab"), 2, outside, 6, 9), SARPUKTEN_BAD_RECORD, 1, 0), 0, NULL));
-    HOLD(finds(three(seek(object, SARPUKTEN_SHA1, both, BYTES("ab"), 2, marked, 6, 9), SARPUKTEN_BAD_RECORD, 1, 0), 0, NULL));
+    HOLD(finds(three(seek(object, 21, both, big, over, sought, 9, 8), SARPUKTEN_REFUSED_ID_LENGTH, 0, 0), 0, NULL));
+    HOLD(finds(three(seek(object, SARPUKTEN_SHA1, both, big, over, sought, 9, 8), SARPUKTEN_REFUSED_BOUND, 0, 0), 0, NULL));
+    HOLD(finds(three(seek(object, SARPUKTEN_SHA1, broken, BYTES("ab"), 2, sought, 9, 8), SARPUKTEN_REFUSED_FEW_RECORDS, 3, 0), 0, NULL));
+    HOLD(finds(three(seek(object, SARPUKTEN_SHA1, broken, BYTES("ab"), 2, sought, 9, 9), SARPUKTEN_REFUSED_BAD_RECORD, 1, 0), 0, NULL));
+    HOLD(finds(three(seek(object, SARPUKTEN_SHA1, both, BYTES("ab"), 2, backwards, 6, 9), SARPUKTEN_REFUSED_BAD_RECORD, 1, 0), 0, NULL));
+    HOLD(finds(three(seek(object, SARPUKTEN_SHA1, both, BYTES("ab"), 2, outside, 6, 9), SARPUKTEN_REFUSED_BAD_RECORD, 1, 0), 0, NULL));
+    HOLD(finds(three(seek(object, SARPUKTEN_SHA1, both, BYTES("ab"), 2, marked, 6, 9), SARPUKTEN_REFUSED_BAD_RECORD, 1, 0), 0, NULL));
 
     memset(lent, GUARD, sizeof lent);
     HOLD(
-        three(sarpukten_bisect_all_in_entries(object, 57, SARPUKTEN_SHA1, entries, 2, BYTES("ab"), 2, typed, 3, lent, 2, answer), SARPUKTEN_FEW_RECORDS, 3, 0));
+        three(sarpukten_bisect_all_in_entries(object, 57, SARPUKTEN_SHA1, entries, 2, BYTES("ab"), 2, typed, 3, lent, 2, answer), SARPUKTEN_REFUSED_FEW_RECORDS, 3, 0));
     HOLD(untouched((const uint8_t *)lent, sizeof lent));
     HOLD(three(sarpukten_bisect_all_in_entries(object, 57, SARPUKTEN_SHA1, entries, 2, BYTES("ab"), 2, typed, 3, lent, 3, answer), SARPUKTEN_DONE, 0, 3));
     HOLD(lent[0].number == SARPUKTEN_DONE && lent[0].index == 1 && lent[0].compared == 1);
     HOLD(lent[1].number == SARPUKTEN_DONE && lent[1].index == 0 && lent[1].compared == 2);
-    HOLD(lent[2].number == SARPUKTEN_NOT_THERE && lent[2].index == 0 && lent[2].compared == 2);
+    HOLD(lent[2].number == SARPUKTEN_REFUSED_NOT_THERE && lent[2].index == 0 && lent[2].compared == 2);
     HOLD(untouched((const uint8_t *)(lent + 3), sizeof *lent));
 }
 
@@ -288,12 +288,12 @@ static void many_lookups(void)
     memset(lent, GUARD, sizeof lent);
     sought[129].is_folder = 2;
     HOLD(
-        three(sarpukten_bisect_all_in_entries(object, 29, SARPUKTEN_SHA1, &entry, 1, BYTES("a"), 1, sought, 130, lent, 130, answer), SARPUKTEN_BAD_RECORD, 129, 0));
+        three(sarpukten_bisect_all_in_entries(object, 29, SARPUKTEN_SHA1, &entry, 1, BYTES("a"), 1, sought, 130, lent, 130, answer), SARPUKTEN_REFUSED_BAD_RECORD, 129, 0));
     HOLD(untouched((const uint8_t *)lent, sizeof lent));
     sought[129].is_folder = 1;
     HOLD(three(sarpukten_bisect_all_in_entries(object, 29, SARPUKTEN_SHA1, &entry, 1, BYTES("a"), 1, sought, 130, lent, 130, answer), SARPUKTEN_DONE, 0, 130));
     for (i = 0; i < 130; i++)
-        same = same && lent[i].number == (i % 2 == 0 ? SARPUKTEN_DONE : SARPUKTEN_NOT_THERE) && lent[i].index == 0 && lent[i].compared == 1;
+        same = same && lent[i].number == (i % 2 == 0 ? SARPUKTEN_DONE : SARPUKTEN_REFUSED_NOT_THERE) && lent[i].index == 0 && lent[i].compared == 1;
     HOLD(same);
     HOLD(untouched((const uint8_t *)(lent + 130), sizeof *lent));
 }
@@ -302,22 +302,22 @@ static void ids(void)
 {
     static const char hex[] = "000102030405060708090a0b0c0d0e0f1011121314151617181920213031feff";
     static const char upper[] = "FEDCBA9876543210FEDCBA9876543210FEDCBA98", no_digit[] = "FEDCBA9876543210FEDCBA9876543210FEDCBA9g";
-    uint8_t id[SARPUKTEN_ID + 2], digits[SARPUKTEN_HEX + 2];
+    uint8_t id[SARPUKTEN_ROOM_ID + 2], digits[SARPUKTEN_ROOM_HEX + 2];
 
     memset(id, GUARD, sizeof id);
     memset(digits, GUARD, sizeof digits);
-    HOLD(three(sarpukten_id_of_hex(BYTES(hex), 63, id + 1, 0, answer), SARPUKTEN_ID_LENGTH, 0, 0));
-    HOLD(three(sarpukten_id_of_hex(BYTES(hex), 41, big, over, answer), SARPUKTEN_ID_LENGTH, 0, 0));
-    HOLD(three(sarpukten_id_of_hex(BYTES(no_digit), 40, big, over, answer), SARPUKTEN_BOUND, 0, 0));
-    HOLD(three(sarpukten_id_of_hex(BYTES(no_digit), 40, id + 1, 19, answer), SARPUKTEN_BAD_RECORD, 0, 0));
-    HOLD(three(sarpukten_id_of_hex(BYTES(upper), 40, id + 1, 19, answer), SARPUKTEN_SHORT_OUTPUT, 20, 0));
-    HOLD(three(sarpukten_id_of_hex(BYTES(hex), 64, id + 1, 31, answer), SARPUKTEN_SHORT_OUTPUT, 32, 0));
+    HOLD(three(sarpukten_id_of_hex(BYTES(hex), 63, id + 1, 0, answer), SARPUKTEN_REFUSED_ID_LENGTH, 0, 0));
+    HOLD(three(sarpukten_id_of_hex(BYTES(hex), 41, big, over, answer), SARPUKTEN_REFUSED_ID_LENGTH, 0, 0));
+    HOLD(three(sarpukten_id_of_hex(BYTES(no_digit), 40, big, over, answer), SARPUKTEN_REFUSED_BOUND, 0, 0));
+    HOLD(three(sarpukten_id_of_hex(BYTES(no_digit), 40, id + 1, 19, answer), SARPUKTEN_REFUSED_BAD_RECORD, 0, 0));
+    HOLD(three(sarpukten_id_of_hex(BYTES(upper), 40, id + 1, 19, answer), SARPUKTEN_REFUSED_SHORT_OUTPUT, 20, 0));
+    HOLD(three(sarpukten_id_of_hex(BYTES(hex), 64, id + 1, 31, answer), SARPUKTEN_REFUSED_SHORT_OUTPUT, 32, 0));
     HOLD(untouched(id, sizeof id));
     HOLD(three(sarpukten_id_of_hex(BYTES(upper), 40, id + 1, 32, answer), SARPUKTEN_DONE, 0, 20));
     HOLD(memcmp(id, "\011\376\334\272\230\166\124\062\020\376\334\272\230\166\124\062\020\376\334\272\230", 21) == 0 && untouched(id + 21, 13));
-    HOLD(three(sarpukten_hex_of_id(id + 1, 19, big, over, answer), SARPUKTEN_ID_LENGTH, 0, 0));
-    HOLD(three(sarpukten_hex_of_id(id + 1, 20, big, over, answer), SARPUKTEN_BOUND, 0, 0));
-    HOLD(three(sarpukten_hex_of_id(id + 1, 20, digits + 1, 39, answer), SARPUKTEN_SHORT_OUTPUT, 40, 0));
+    HOLD(three(sarpukten_hex_of_id(id + 1, 19, big, over, answer), SARPUKTEN_REFUSED_ID_LENGTH, 0, 0));
+    HOLD(three(sarpukten_hex_of_id(id + 1, 20, big, over, answer), SARPUKTEN_REFUSED_BOUND, 0, 0));
+    HOLD(three(sarpukten_hex_of_id(id + 1, 20, digits + 1, 39, answer), SARPUKTEN_REFUSED_SHORT_OUTPUT, 40, 0));
     HOLD(untouched(digits, sizeof digits) && big[0] == 0);
     HOLD(three(sarpukten_hex_of_id(id + 1, 20, digits + 1, 64, answer), SARPUKTEN_DONE, 0, 40));
     HOLD(memcmp(digits, "\011fedcba9876543210fedcba9876543210fedcba98", 41) == 0 && untouched(digits + 41, 25));
@@ -327,10 +327,97 @@ static void ids(void)
     HOLD(digits[0] == GUARD && memcmp(digits + 1, hex, 64) == 0 && digits[65] == GUARD);
 }
 
+/* A bundle of three objects: a tree with the folder `a`, its tree with the file `b`, and the file; then what is wrong with others. */
+static void bundles(void)
+{
+    static const size_t checked[SARPUKTEN_LENGTH_BUNDLE] = {0, 0, 0, 20, 2, 3}, early[SARPUKTEN_LENGTH_BUNDLE] = {0, 0, 0, 20, 1, 3};
+    static const size_t unframed[SARPUKTEN_LENGTH_BUNDLE] = {SARPUKTEN_REFUSED_NOT_FRAMED}, twice[SARPUKTEN_LENGTH_BUNDLE] = {SARPUKTEN_REFUSED_ID_TWICE};
+    static const size_t over_it[SARPUKTEN_LENGTH_BUNDLE] = {SARPUKTEN_REFUSED_BOUND}, gone[SARPUKTEN_LENGTH_OBJECT] = {SARPUKTEN_REFUSED_NOT_THERE};
+    static const size_t blob[SARPUKTEN_LENGTH_OBJECT] = {0, 0, 0, 3, 142, 147};
+    static const size_t folder[SARPUKTEN_LENGTH_PATH] = {0, 0, 0, 040000, 20}, file[SARPUKTEN_LENGTH_PATH] = {0, 0, 0, 0100644, 20};
+    static const size_t no_path[SARPUKTEN_LENGTH_PATH] = {SARPUKTEN_REFUSED_NO_PATH};
+    uint8_t bundle[149], id[SARPUKTEN_ROOM_ID + 2], want[SARPUKTEN_ROOM_ID];
+    uint8_t *first = bundle + 10, *second = first + 25 + 28, *third = second + 25 + 29;
+
+    memcpy(bundle, "GOB\001\000\024\003\000\000\000", 10);
+    memset(first, 0x11, 20);
+    memcpy(first + 20, "\002\034\000\000\00040000 a", 13);
+    memset(first + 33, 0x22, 20);
+    memset(second, 0x22, 20);
+    memcpy(second + 20, "\002\035\000\000\000100644 b", 14);
+    memset(second + 34, 0x33, 20);
+    memset(third, 0x33, 20);
+    memcpy(third + 20, "\003\005\000\000\000hello", 10);
+    memset(id, GUARD, sizeof id);
+    memset(want, 0, sizeof want);
+
+    HOLD(answers(sarpukten_check_bundle(bundle, 147, answer), SARPUKTEN_LENGTH_BUNDLE, checked));
+    HOLD(answers(sarpukten_check_bundle(bundle, 146, answer), SARPUKTEN_LENGTH_BUNDLE, unframed));
+    HOLD(answers(sarpukten_check_bundle(bundle, 0, answer), SARPUKTEN_LENGTH_BUNDLE, unframed));
+    HOLD(answers(sarpukten_check_bundle(big, over, answer), SARPUKTEN_LENGTH_BUNDLE, over_it));
+    HOLD(answers(sarpukten_bundle_object(bundle, 147, third, 20, answer), SARPUKTEN_LENGTH_OBJECT, blob));
+    HOLD(answers(sarpukten_bundle_object(bundle, 147, third, 19, answer), SARPUKTEN_LENGTH_OBJECT, gone));
+    HOLD(answers(sarpukten_bundle_object(bundle, 147, big, over, answer), SARPUKTEN_LENGTH_OBJECT, over_it));
+
+    HOLD(answers(sarpukten_follow_path(bundle, 147, first, 20, BYTES("a"), 1, answer, id + 1), SARPUKTEN_LENGTH_PATH, folder));
+    memset(want, 0x22, 20);
+    HOLD(id[0] == GUARD && memcmp(id + 1, want, SARPUKTEN_ROOM_ID) == 0 && id[SARPUKTEN_ROOM_ID + 1] == GUARD);
+    HOLD(answers(sarpukten_follow_path(bundle, 147, first, 20, BYTES("a/b"), 3, answer, id + 1), SARPUKTEN_LENGTH_PATH, file));
+    memset(want, 0x33, 20);
+    HOLD(id[0] == GUARD && memcmp(id + 1, want, SARPUKTEN_ROOM_ID) == 0 && id[SARPUKTEN_ROOM_ID + 1] == GUARD);
+    HOLD(answers(sarpukten_follow_path(bundle, 147, first, 20, BYTES("a//b"), 4, answer, id + 1), SARPUKTEN_LENGTH_PATH, no_path));
+    memset(want, 0, 20);
+    HOLD(id[0] == GUARD && memcmp(id + 1, want, SARPUKTEN_ROOM_ID) == 0 && id[SARPUKTEN_ROOM_ID + 1] == GUARD);
+    HOLD(answers(sarpukten_follow_path(bundle, 147, third, 20, BYTES("a"), 1, answer, id + 1), SARPUKTEN_LENGTH_PATH, gone));
+    HOLD(answers(sarpukten_follow_path(bundle, 147, first, 20, BYTES(""), 0, answer, id + 1), SARPUKTEN_LENGTH_PATH, gone));
+    HOLD(answers(sarpukten_follow_path(bundle, 147, first, 32, BYTES("a"), 1, answer, id + 1), SARPUKTEN_LENGTH_PATH, unframed));
+    HOLD(answers(sarpukten_follow_path(bundle, 147, first, 20, big, over, answer, id + 1), SARPUKTEN_LENGTH_PATH, over_it));
+    /* An id twice, whatever else is the same; then version 2 with rule set 1, and with one that is none. */
+    memset(third, 0x11, 20);
+    HOLD(answers(sarpukten_check_bundle(bundle, 147, answer), SARPUKTEN_LENGTH_BUNDLE, twice));
+    HOLD(answers(sarpukten_follow_path(bundle, 147, first, 20, BYTES("a//b"), 4, answer, id + 1), SARPUKTEN_LENGTH_PATH, twice));
+    memset(third, 0x33, 20);
+    memmove(bundle + 7, bundle + 5, 142);
+    memcpy(bundle + 3, "\002\000\001\000", 4);
+    HOLD(answers(sarpukten_check_bundle(bundle, 149, answer), SARPUKTEN_LENGTH_BUNDLE, early));
+    bundle[5] = 3;
+    HOLD(answers(sarpukten_check_bundle(bundle, 149, answer), SARPUKTEN_LENGTH_BUNDLE, unframed));
+}
+
+/* An entry put and removed, and what an edit refuses. */
+static void edits(void)
+{
+    uint8_t object[57], new_id[20], out[88], folder[56];
+
+    memcpy(object, "100644 a", 9);
+    memset(object + 9, 0x11, 20);
+    memcpy(object + 29, "40000 b", 8);
+    memset(object + 37, 0x22, 20);
+    memset(new_id, 0x33, 20);
+    memcpy(folder, "40000 a", 8);
+    memset(folder + 8, 0x33, 20);
+    memcpy(folder + 28, object + 29, 28);
+    memset(out, GUARD, sizeof out);
+
+    HOLD(three(sarpukten_put_in_tree(object, 57, 21, 3, 0100644, BYTES("c"), 1, new_id, 20, out + 1, 86, answer), SARPUKTEN_REFUSED_ID_LENGTH, 0, 0));
+    HOLD(three(sarpukten_put_in_tree(object, 57, SARPUKTEN_SHA1, 3, 0100644, BYTES("c"), 1, new_id, 20, out + 1, 86, answer), SARPUKTEN_REFUSED_RULE_SET, 0, 0));
+    HOLD(three(sarpukten_put_in_tree(object, 57, SARPUKTEN_SHA1, 2, 0100644, BYTES("c"), 1, new_id, 20, big, over, answer), SARPUKTEN_REFUSED_BOUND, 0, 0));
+    HOLD(three(sarpukten_put_in_tree(object, 57, SARPUKTEN_SHA1, 2, 0100644, BYTES("c"), 1, new_id, 19, out + 1, 86, answer), SARPUKTEN_REFUSED_BAD_RECORD, 0, 0));
+    HOLD(three(sarpukten_put_in_tree(object, 57, SARPUKTEN_SHA1, 2, 0100664, BYTES("c"), 1, new_id, 20, out + 1, 86, answer), SARPUKTEN_REFUSED_MODE_TEXT, 0, 0));
+    HOLD(three(sarpukten_put_in_tree(object, 57, SARPUKTEN_SHA1, 2, 0100644, BYTES("c"), 1, new_id, 20, out + 1, 85, answer), SARPUKTEN_REFUSED_SHORT_OUTPUT, 86, 0));
+    HOLD(three(sarpukten_remove_from_tree(object, 57, SARPUKTEN_SHA1, 2, BYTES("c"), 1, out + 1, 86, answer), SARPUKTEN_REFUSED_NOT_THERE, 0, 0));
+    HOLD(three(sarpukten_remove_from_tree(object, 57, SARPUKTEN_SHA1, 2, BYTES("a"), 1, out + 1, 27, answer), SARPUKTEN_REFUSED_SHORT_OUTPUT, 28, 0));
+    HOLD(untouched(out, sizeof out));
+    HOLD(three(sarpukten_put_in_tree(object, 57, SARPUKTEN_SHA1, 2, 040000, BYTES("a"), 1, new_id, 20, out + 1, 86, answer), SARPUKTEN_DONE, 0, 56));
+    HOLD(out[0] == GUARD && memcmp(out + 1, folder, 56) == 0 && untouched(out + 57, 31));
+    HOLD(three(sarpukten_remove_from_tree(object, 57, SARPUKTEN_SHA1, 2, BYTES("a"), 1, out + 1, 86, answer), SARPUKTEN_DONE, 0, 28));
+    HOLD(memcmp(out + 1, object + 29, 28) == 0 && memcmp(out + 29, folder + 28, 28) == 0);
+}
+
 /* The same entries as structs, and their number in records. */
 static void entries(void)
 {
-    static const size_t found[SARPUKTEN_LOOKUP_ANSWER] = {0, 0, 0, 1, 1};
+    static const size_t found[SARPUKTEN_LENGTH_LOOKUP] = {0, 0, 0, 1, 1};
     struct sarpukten_entry lent[3], e;
     uint8_t object[57], out[57];
 
@@ -340,14 +427,14 @@ static void entries(void)
     memset(object + 37, 0x22, 20);
     memset(lent, GUARD, sizeof lent);
 
-    HOLD(three(sarpukten_read_tree_entries(object, 57, SARPUKTEN_SHA1, lent, 1, answer), SARPUKTEN_FEW_RECORDS, 2, 0));
+    HOLD(three(sarpukten_read_tree_entries(object, 57, SARPUKTEN_SHA1, lent, 1, answer), SARPUKTEN_REFUSED_FEW_RECORDS, 2, 0));
     HOLD(untouched((const uint8_t *)lent, sizeof lent));
-    HOLD(three(sarpukten_read_tree_strict_entries(object, 57, SARPUKTEN_SHA1, SARPUKTEN_RULES_PRESENT, lent, 1, answer), SARPUKTEN_FEW_RECORDS, 2, 0));
+    HOLD(three(sarpukten_read_tree_strict_entries(object, 57, SARPUKTEN_SHA1, SARPUKTEN_RULES_PRESENT, lent, 1, answer), SARPUKTEN_REFUSED_FEW_RECORDS, 2, 0));
     HOLD(three(sarpukten_read_tree_strict_entries(object, 57, SARPUKTEN_SHA1, SARPUKTEN_RULES_PRESENT, lent, 2, answer), SARPUKTEN_DONE, 0, 2));
     HOLD(lent[0].mode == 0100644 && lent[0].name_start == 7 && lent[0].name_end == 8 && lent[0].id_start == 9 && lent[0].text_start == 0);
     HOLD(lent[1].mode == 040000 && lent[1].name_start == 35 && lent[1].name_end == 36 && lent[1].id_start == 37 && lent[1].text_start == 29);
     HOLD(untouched((const uint8_t *)(lent + 2), sizeof *lent));
-    HOLD(answers(sarpukten_bisect_in_entries(object, 57, SARPUKTEN_SHA1, lent, 2, BYTES("b"), 1, true, answer), SARPUKTEN_LOOKUP_ANSWER, found));
+    HOLD(answers(sarpukten_bisect_in_entries(object, 57, SARPUKTEN_SHA1, lent, 2, BYTES("b"), 1, true, answer), SARPUKTEN_LENGTH_LOOKUP, found));
     HOLD(three(sarpukten_tree_size_entries(object, 57, SARPUKTEN_SHA1, lent, 2, answer), SARPUKTEN_DONE, 0, 57));
     HOLD(three(sarpukten_write_tree_entries(object, 57, SARPUKTEN_SHA1, lent, 2, out, 57, answer), SARPUKTEN_DONE, 0, 57));
     HOLD(memcmp(out, object, 57) == 0);
@@ -357,57 +444,57 @@ static void entries(void)
     lent[1] = e;
     HOLD(three(sarpukten_write_tree_entries(object, 57, SARPUKTEN_SHA1, lent, 2, out, 57, answer), SARPUKTEN_DONE, 0, 57));
     HOLD(memcmp(out, object + 29, 28) == 0 && memcmp(out + 28, object, 29) == 0);
-    HOLD(three(sarpukten_read_tree_strict_entries(out, 57, SARPUKTEN_SHA1, SARPUKTEN_RULES_PRESENT, lent, 2, answer), SARPUKTEN_ORDER, 28, 0));
+    HOLD(three(sarpukten_read_tree_strict_entries(out, 57, SARPUKTEN_SHA1, SARPUKTEN_RULES_PRESENT, lent, 2, answer), SARPUKTEN_REFUSED_ORDER, 28, 0));
     /* The mode text's start is not above the name's start. */
     lent[0].text_start = lent[0].name_start + 1;
-    HOLD(three(sarpukten_tree_size_entries(object, 57, SARPUKTEN_SHA1, lent, 2, answer), SARPUKTEN_BAD_RECORD, 0, 0));
+    HOLD(three(sarpukten_tree_size_entries(object, 57, SARPUKTEN_SHA1, lent, 2, answer), SARPUKTEN_REFUSED_BAD_RECORD, 0, 0));
 }
 
 static void commits(void)
 {
     static const char text[] = "tree aaaaaaaaaaaaaaaaaaaaaaaaaaaaaaaaaaaaaaaa\nparent bbbbbbbbbbbbbbbbbbbbbbbbbbbbbbbbbbbbbbbb\n"
                                "author A <a@b> 1 +0000\ncommitter B <c@d> 22 -0100\nencoding x\nsig one\n two\n\nmessage";
-    static const size_t whole[SARPUKTEN_COMMIT_ANSWER] = {0, 0, 0, 0, 1, 1, 5, 101, 116, 127, 143, 1, 153, 154, 169, sizeof text - 1};
+    static const size_t whole[SARPUKTEN_LENGTH_COMMIT] = {0, 0, 0, 0, 1, 1, 5, 101, 116, 127, 143, 1, 153, 154, 169, sizeof text - 1};
     const uint8_t *bytes = BYTES(text);
     const size_t n = sizeof text - 1, *parts = whole + SARPUKTEN_ANSWER_PARTS;
     size_t parents[3] = {GUARD, GUARD, GUARD}, headers[7] = {GUARD, GUARD, GUARD, GUARD, GUARD, GUARD, GUARD};
     uint8_t out[200];
 
-    HOLD(sarpukten_read_commit(bytes, 140, SARPUKTEN_SHA1, parents, 3, headers, 7, answer) == SARPUKTEN_COMMIT_FIELD);
+    HOLD(sarpukten_read_commit(bytes, 140, SARPUKTEN_SHA1, parents, 3, headers, 7, answer) == SARPUKTEN_REFUSED_COMMIT_FIELD);
     HOLD(answer[SARPUKTEN_ANSWER_PLACE] == 117 && answer[SARPUKTEN_ANSWER_FIELD] == 3);
-    HOLD(sarpukten_read_commit(bytes, n, SARPUKTEN_SHA1, parents, 3, headers, 4, answer) == SARPUKTEN_FEW_RECORDS);
+    HOLD(sarpukten_read_commit(bytes, n, SARPUKTEN_SHA1, parents, 3, headers, 4, answer) == SARPUKTEN_REFUSED_FEW_RECORDS);
     HOLD(answer[SARPUKTEN_ANSWER_PLACE] == 1 && parents[0] == GUARD && headers[0] == GUARD);
-    HOLD(answers(sarpukten_read_commit(bytes, n, SARPUKTEN_SHA1, parents + 1, 1, headers + 1, 5, answer), SARPUKTEN_COMMIT_ANSWER, whole));
+    HOLD(answers(sarpukten_read_commit(bytes, n, SARPUKTEN_SHA1, parents + 1, 1, headers + 1, 5, answer), SARPUKTEN_LENGTH_COMMIT, whole));
     HOLD(parents[0] == GUARD && parents[1] == 53 && parents[2] == GUARD);
     HOLD(headers[0] == GUARD && headers[6] == GUARD);
     HOLD(headers[1 + SARPUKTEN_HEADER_NAME_START] == 155 && headers[1 + SARPUKTEN_HEADER_NAME_END] == 158);
     HOLD(headers[1 + SARPUKTEN_HEADER_VALUE_START] == 159 && headers[1 + SARPUKTEN_HEADER_VALUE_END] == 168 && headers[1 + SARPUKTEN_HEADER_MARK] == 1);
     memset(out, GUARD, sizeof out);
-    HOLD(three(sarpukten_unfold(bytes, n, headers + 1, out, 7, answer), SARPUKTEN_SHORT_OUTPUT, 8, 0));
+    HOLD(three(sarpukten_unfold(bytes, n, headers + 1, out, 7, answer), SARPUKTEN_REFUSED_SHORT_OUTPUT, 8, 0));
     HOLD(untouched(out, sizeof out));
     HOLD(three(sarpukten_unfold(bytes, n, headers + 1, out, 9, answer), SARPUKTEN_DONE, 0, 8));
     HOLD(memcmp(out, "one\ntwo\n\011", 9) == 0);
     HOLD(three(sarpukten_commit_size(bytes, n, SARPUKTEN_SHA1, parts, parents + 1, 1, headers + 1, 5, answer), SARPUKTEN_DONE, 0, n));
     memset(out, GUARD, sizeof out);
     HOLD(
-        three(sarpukten_write_commit(bytes, n, SARPUKTEN_SHA1, parts, parents + 1, 1, headers + 1, 5, out, n - 1, answer), SARPUKTEN_SHORT_OUTPUT, n, 0));
+        three(sarpukten_write_commit(bytes, n, SARPUKTEN_SHA1, parts, parents + 1, 1, headers + 1, 5, out, n - 1, answer), SARPUKTEN_REFUSED_SHORT_OUTPUT, n, 0));
     HOLD(untouched(out, sizeof out));
     HOLD(
         three(sarpukten_write_commit(bytes, n, SARPUKTEN_SHA1, parts, parents + 1, 1, headers + 1, 5, out, sizeof out, answer), SARPUKTEN_DONE, 0, n));
     HOLD(memcmp(out, text, n) == 0 && untouched(out + n, sizeof out - n));
     HOLD(
-        three(sarpukten_write_commit(bytes, n, SARPUKTEN_SHA1, parts, parents, 1, headers + 1, 5, out, sizeof out, answer), SARPUKTEN_BAD_RECORD, 1, 0));
+        three(sarpukten_write_commit(bytes, n, SARPUKTEN_SHA1, parts, parents, 1, headers + 1, 5, out, sizeof out, answer), SARPUKTEN_REFUSED_BAD_RECORD, 1, 0));
 }
 
 static void loose(void)
 {
-    uint8_t out[SARPUKTEN_LOOSE_HEADER + 1];
+    uint8_t out[SARPUKTEN_ROOM_LOOSE_HEADER + 1];
 
     memset(out, GUARD, sizeof out);
-    HOLD(three(sarpukten_loose_header(SARPUKTEN_TREE, 57, out, 8, answer), SARPUKTEN_DONE, 0, 8));
+    HOLD(three(sarpukten_loose_header(SARPUKTEN_KIND_TREE, 57, out, 8, answer), SARPUKTEN_DONE, 0, 8));
     HOLD(memcmp(out, "tree 57", 8) == 0 && untouched(out + 8, sizeof out - 8));
-    HOLD(three(sarpukten_loose_header(SARPUKTEN_COMMIT, UINT64_MAX, out, 28, answer), SARPUKTEN_DONE, 0, 28));
-    HOLD(three(sarpukten_loose_header(5, 57, out, 28, answer), SARPUKTEN_NO_MODE_OR_KIND, 0, 0));
+    HOLD(three(sarpukten_loose_header(SARPUKTEN_KIND_COMMIT, UINT64_MAX, out, 28, answer), SARPUKTEN_DONE, 0, 28));
+    HOLD(three(sarpukten_loose_header(5, 57, out, 28, answer), SARPUKTEN_REFUSED_NO_MODE_OR_KIND, 0, 0));
     HOLD(out[28] == GUARD);
 }
 
@@ -420,7 +507,7 @@ int main(void)
         printf("calls.c: no memory for a buffer over the bound\n");
         return 1;
     }
-    for (i = 0; i < SARPUKTEN_COMMIT_ANSWER + 2; i++)
+    for (i = 0; i < SARPUKTEN_LENGTH_COMMIT + 2; i++)
         numbers[i] = GUARD;
     modes();
     names();
@@ -433,6 +520,8 @@ int main(void)
     lookups();
     many_lookups();
     ids();
+    bundles();
+    edits();
     free(big);
     printf("calls.c: %d answers held\n", held);
     return failed;

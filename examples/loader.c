@@ -48,11 +48,11 @@ static uint8_t *read_file(const char *path, size_t *len)
 /* Prints an id as hex digits. */
 static void print_id(const uint8_t *id, size_t h)
 {
-    uint8_t digits[SARPUKTEN_HEX] = {0};
-    size_t answer[SARPUKTEN_COUNT_ANSWER] = {0};
+    uint8_t digits[SARPUKTEN_ROOM_HEX] = {0};
+    size_t answer[SARPUKTEN_LENGTH_COUNT] = {0};
 
-    sarpukten_hex_of_id(id, h, digits, sizeof digits, answer);
-    printf("%.*s\n", (int)answer[SARPUKTEN_ANSWER_COUNT], (const char *)digits);
+    if (sarpukten_hex_of_id(id, h, digits, sizeof digits, answer) == SARPUKTEN_DONE)
+        printf("%.*s\n", (int)answer[SARPUKTEN_ANSWER_COUNT], (const char *)digits);
 }
 
 static void print_refusal(size_t number, size_t place)
@@ -63,7 +63,7 @@ static void print_refusal(size_t number, size_t place)
 /* One folder: prints its id or the refusal, and gives the exit status. */
 static int one(const uint8_t *object, size_t len, size_t h, const struct sarpukten_entry *entries, size_t many, const char *name)
 {
-    size_t answer[SARPUKTEN_LOOKUP_ANSWER] = {0};
+    size_t answer[SARPUKTEN_LENGTH_LOOKUP] = {0};
 
     if (sarpukten_bisect_in_entries(object, len, h, entries, many, (const uint8_t *)name, strlen(name), true, answer) != SARPUKTEN_DONE) {
         print_refusal(answer[SARPUKTEN_ANSWER_NUMBER], answer[SARPUKTEN_ANSWER_PLACE]);
@@ -79,7 +79,7 @@ static int several(
 {
     struct sarpukten_sought *sought = calloc(n, sizeof *sought);
     struct sarpukten_found *found = calloc(n, sizeof *found);
-    size_t answer[SARPUKTEN_COUNT_ANSWER] = {0}, names_len = 0, i;
+    size_t answer[SARPUKTEN_LENGTH_COUNT] = {0}, names_len = 0, i;
     uint8_t *names;
     int status = 0;
 
@@ -120,7 +120,7 @@ static int several(
 
 int main(int argc, char **argv)
 {
-    size_t h = SARPUKTEN_SHA1, len, lent, answer[SARPUKTEN_COUNT_ANSWER] = {0};
+    size_t h = SARPUKTEN_SHA1, len, lent, answer[SARPUKTEN_LENGTH_COUNT] = {0};
     struct sarpukten_entry *entries;
     uint8_t *object;
     int i, status;

@@ -28,9 +28,9 @@ static size_t by_set_2(const uint8_t *bytes, size_t len, size_t h, size_t *recor
 }
 
 int main(void) {
-    size_t most = SARPUKTEN_MOST_RECORDS, room = most * SARPUKTEN_ENTRY, size = 0, shorter = 0;
+    size_t most = SARPUKTEN_MOST_RECORDS, room = most * SARPUKTEN_WIDTH_ENTRY, size = 0, shorter = 0;
     uint8_t *object = malloc((most + 1) * 36 + 64);
-    size_t *records = malloc(room * sizeof *records), *last, answer[SARPUKTEN_COUNT_ANSWER];
+    size_t *records = malloc(room * sizeof *records), *last, answer[SARPUKTEN_LENGTH_COUNT];
     int fine = object && records;
     for (size_t i = 0; fine && i <= most; i++) {
         shorter = size;
@@ -41,11 +41,11 @@ int main(void) {
         double began = now();
         read(object, shorter, 20, records, room, answer);
         fine &= told(strict ? "strict, at the bound" : "plain, at the bound", answer[SARPUKTEN_ANSWER_NUMBER], answer[SARPUKTEN_ANSWER_PLACE], answer[SARPUKTEN_ANSWER_COUNT], 0, most, now() - began);
-        last = records + room - SARPUKTEN_ENTRY;
+        last = records + room - SARPUKTEN_WIDTH_ENTRY;
         fine &= last[SARPUKTEN_ENTRY_MODE] == 0100644 && last[SARPUKTEN_ENTRY_ID_START] == shorter - 20 && last[SARPUKTEN_ENTRY_TEXT_START] == shorter - 36;
         began = now();
         read(object, size, 20, records, room, answer);
-        fine &= told(strict ? "strict, one past it" : "plain, one past it", answer[SARPUKTEN_ANSWER_NUMBER], answer[SARPUKTEN_ANSWER_PLACE], answer[SARPUKTEN_ANSWER_COUNT], SARPUKTEN_BOUND, 0, now() - began);
+        fine &= told(strict ? "strict, one past it" : "plain, one past it", answer[SARPUKTEN_ANSWER_NUMBER], answer[SARPUKTEN_ANSWER_PLACE], answer[SARPUKTEN_ANSWER_COUNT], SARPUKTEN_REFUSED_BOUND, 0, now() - began);
         began = now();
         read(object, shorter / 2 / 36 * 36, 20, records, room, answer);
         fine &= told(strict ? "strict, half as many" : "plain, half as many", answer[SARPUKTEN_ANSWER_NUMBER], answer[SARPUKTEN_ANSWER_PLACE], answer[SARPUKTEN_ANSWER_COUNT], 0, most / 2, now() - began);

@@ -28,9 +28,9 @@ static double now(void) {
 static double read_it(size_t number, size_t place) {
     size_t answer[8] = {0}, none[1];
     double began = now();
-    sarpukten_read_tree_strict(object, size, 20, SARPUKTEN_RULES_PRESENT, none, 0, answer);
+    size_t returned = sarpukten_read_tree_strict(object, size, 20, SARPUKTEN_RULES_PRESENT, none, 0, answer);
     double took = now() - began;
-    if (answer[0] != number || answer[1] != place) {
+    if (returned != number || answer[0] != number || answer[1] != place) {
         printf("long_trees: %zu at %zu, and it had to be %zu at %zu\n", answer[0], answer[1], number, place);
         fine = 0;
     }
@@ -46,7 +46,7 @@ static double between(size_t many) {
         put("100644", name, (size_t)sprintf(name, "a.%08zu", i));
     size_t last = size;
     put("40000", "a", 1);
-    return read_it(SARPUKTEN_SAME_NAME, last);
+    return read_it(SARPUKTEN_REFUSED_SAME_NAME, last);
 }
 
 /* `a`, `a-`, `a--`, ..: so many names, each the start of the next; then folder `a`, or nothing. */
@@ -61,7 +61,7 @@ static double chain(size_t many, int folder) {
     size_t last = size;
     if (folder)
         put("40000", "a", 1);
-    return read_it(folder ? SARPUKTEN_SAME_NAME : SARPUKTEN_FEW_RECORDS, folder ? last : many);
+    return read_it(folder ? SARPUKTEN_REFUSED_SAME_NAME : SARPUKTEN_REFUSED_FEW_RECORDS, folder ? last : many);
 }
 
 int main(int argc, char **argv) {

@@ -7,7 +7,7 @@ mod sarpukten;
 
 use count::{How, measure};
 use gix_object::{CommitRef, TreeRef, TreeRefIter, WriteTo, bstr::ByteSlice, tree::EntryRef};
-use std::{borrow::Cow, ffi::CString, hint::black_box};
+use std::{borrow::Cow, cmp::Ordering, ffi::CString, hint::black_box};
 
 const SHA1: gix_hash::Kind = gix_hash::Kind::Sha1;
 const NAMES: [usize; 5] = [6, 12, 24, 60, 200];
@@ -60,6 +60,45 @@ fn iterate(object: &[u8], out: &mut [usize]) -> usize {
     n
 }
 
+/// The strict rules over the Rust's iterator, as a user of the crate writes them: each mode text, each name, and the entry before. Of the names before only
+/// files' that the present one begins with can come again, as a folder's.
+#[inline(never)]
+fn strictly(object: &[u8], out: &mut [usize]) -> usize {
+    let mut n = 0;
+    let mut at = 0;
+    let mut before: Option<EntryRef> = None;
+    let mut begun: Vec<&[u8]> = Vec::new();
+    for entry in TreeRefIter::from_bytes(object, SHA1) {
+        let Ok(entry) = entry else { return usize::MAX };
+        let start = place(object, entry.filename);
+        let name: &[u8] = entry.filename;
+        if !matches!(&object[at..start - 1], b"40000" | b"100644" | b"100755" | b"120000" | b"160000") {
+            return usize::MAX;
+        }
+        if name.is_empty() || name.contains(&b'/') || name == b"." || name == b".." || name.eq_ignore_ascii_case(b".git") {
+            return usize::MAX;
+        }
+        if before.is_some_and(|last| last.cmp(&entry) != Ordering::Less) {
+            return usize::MAX;
+        }
+        while begun.last().is_some_and(|file| !name.starts_with(file)) {
+            begun.pop();
+        }
+        if entry.mode.is_tree() {
+            if begun.last() == Some(&name) {
+                return usize::MAX;
+            }
+        } else {
+            begun.push(name);
+        }
+        out[n * WIDTH..(n + 1) * WIDTH].copy_from_slice(&[entry.mode.value() as usize, start, start + name.len(), start + name.len() + 1, at]);
+        at = start + name.len() + 1 + entry.oid.as_bytes().len();
+        n += 1;
+        before = Some(entry);
+    }
+    n
+}
+
 fn trees(how: How, len: usize, n: usize) {
     let (names, object) = inputs::tree(n, len);
     let object = &object[..];
@@ -74,6 +113,8 @@ fn trees(how: How, len: usize, n: usize) {
     assert_eq!(sarpukten::read_tree_strict(object, &mut other), [0, 0, 0, n]);
     assert!(records == other && records[n * WIDTH..] == [7, 7, 7]);
     assert_eq!(iterate(object, &mut other), n);
+    assert!(records == other);
+    assert_eq!(strictly(object, &mut other), n);
     assert!(records == other);
     for (i, entry) in rust.entries.iter().enumerate() {
         assert_eq!(records[i * WIDTH..(i + 1) * WIDTH], numbers(object, entry));
@@ -117,6 +158,7 @@ fn trees(how: How, len: usize, n: usize) {
         tree
     });
     measure(how, &key("plain", "sarpukten"), || sarpukten::read_tree(black_box(object), &mut other));
+    measure(how, &key("strict", "rust"), || strictly(black_box(object), &mut other));
     measure(how, &key("strict", "sarpukten"), || sarpukten::read_tree_strict(black_box(object), &mut other));
 
     let finds = sought.len();
@@ -128,6 +170,29 @@ fn trees(how: How, len: usize, n: usize) {
     measure(how, &key("find", "sarpukten"), || {
         sought.iter().filter(|(name, folder)| black_box(sarpukten::bisect_entry(object, &records, name.to_bytes(), *folder))[0] == 0).count()
     });
+
+    // Forty names of one listing: the Rust one by one, Sarpukten one by one and in one call.
+    let forty: Vec<_> = (0..40).map(|i| &sought[i * 7 % finds]).collect();
+    let mut packed = Vec::new();
+    let mut asked = Vec::new();
+    for (name, folder) in &forty {
+        asked.extend([packed.len(), packed.len() + name.to_bytes().len(), *folder as usize]);
+        packed.extend_from_slice(name.to_bytes());
+    }
+    let mut answers = [7; 120];
+    assert_eq!(sarpukten::bisect_entries(object, &records, &packed, &asked, &mut answers), [0, 0, 0, 40]);
+    for (i, (name, folder)) in forty.iter().enumerate() {
+        let a = sarpukten::bisect_entry(object, &records, name.to_bytes(), *folder);
+        assert_eq!(answers[i * 3..i * 3 + 3], [a[0], a[3], a[4]]);
+    }
+    let key = |operation: &str, whose: &str| format!("{operation} {whose} {len} {n} 40");
+    measure(how, &key("forty", "rust"), || {
+        forty.iter().filter(|(name, folder)| black_box(rust.bisect_entry(name.to_bytes().as_bstr(), *folder)).is_some()).count()
+    });
+    measure(how, &key("forty", "calls"), || {
+        forty.iter().filter(|(name, folder)| black_box(sarpukten::bisect_entry(object, &records, name.to_bytes(), *folder))[0] == 0).count()
+    });
+    measure(how, &key("forty", "sarpukten"), || sarpukten::bisect_entries(object, &records, black_box(&packed), &asked, &mut answers));
 
     let (name, folder) = &sought[sought.len() / 3 * 2];
     let key = |operation: &str, whose: &str| format!("{operation} {whose} {len} {n}");

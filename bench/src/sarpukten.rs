@@ -4,6 +4,10 @@ mod c {
         pub fn sarpukten_read_tree(s: *const u8, n: usize, h: usize, out: *mut usize, room: usize, answer: *mut [usize; 4]);
         pub fn sarpukten_read_tree_strict(s: *const u8, n: usize, h: usize, rules: u16, out: *mut usize, room: usize, answer: *mut [usize; 4]);
         pub fn sarpukten_bisect_entry(s: *const u8, n: usize, h: usize, records: *const usize, many: usize, name: *const u8, len: usize, folder: bool, answer: *mut [usize; 5]);
+        pub fn sarpukten_bisect_entries(
+            s: *const u8, n: usize, h: usize, records: *const usize, many: usize, names: *const u8, len: usize, sought: *const usize, asked: usize, answers: *mut usize, room: usize,
+            answer: *mut [usize; 4],
+        );
         pub fn sarpukten_write_tree(s: *const u8, n: usize, h: usize, records: *const usize, many: usize, out: *mut u8, room: usize, answer: *mut [usize; 4]);
         pub fn sarpukten_write_commit(
             s: *const u8, n: usize, h: usize, parts: *const [usize; 10], parents: *const usize, np: usize, headers: *const usize, nh: usize, out: *mut u8, room: usize, answer: *mut [usize; 4],
@@ -29,6 +33,17 @@ pub fn read_tree_strict(s: &[u8], out: &mut [usize]) -> [usize; 4] {
 pub fn bisect_entry(s: &[u8], records: &[usize], name: &[u8], folder: bool) -> [usize; 5] {
     let mut answer = [0; 5];
     unsafe { c::sarpukten_bisect_entry(s.as_ptr(), s.len(), 20, records.as_ptr(), records.len(), name.as_ptr(), name.len(), folder, &mut answer) };
+    answer
+}
+
+/// Number, place, part, count; the answers are in `answers`, three numbers each.
+pub fn bisect_entries(s: &[u8], records: &[usize], names: &[u8], sought: &[usize], answers: &mut [usize]) -> [usize; 4] {
+    let mut answer = [0; 4];
+    unsafe {
+        c::sarpukten_bisect_entries(
+            s.as_ptr(), s.len(), 20, records.as_ptr(), records.len(), names.as_ptr(), names.len(), sought.as_ptr(), sought.len(), answers.as_mut_ptr(), answers.len(), &mut answer,
+        )
+    };
     answer
 }
 

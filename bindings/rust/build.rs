@@ -1,6 +1,6 @@
 //! Finds libsarpukten.a: in the folder that SARPUKTEN_LIB names, else where `rt staticlib sarpukten` writes it.
+use std::env;
 use std::path::PathBuf;
-use std::{env, process};
 
 fn main() {
     let dir = match env::var_os("SARPUKTEN_LIB") {
@@ -10,9 +10,9 @@ fn main() {
     let lib = dir.join("libsarpukten.a");
     println!("cargo:rerun-if-env-changed=SARPUKTEN_LIB");
     println!("cargo:rerun-if-changed={}", lib.display());
+    // `cargo doc` and `cargo check` do without; what has to be linked does not.
     if !lib.is_file() {
-        eprintln!("no {}: run `rt staticlib sarpukten` at the repository's root, or set SARPUKTEN_LIB", lib.display());
-        process::exit(1);
+        println!("cargo:warning=no {}: run `rt staticlib sarpukten` at the repository's root, or set SARPUKTEN_LIB", lib.display());
     }
     println!("cargo:rustc-link-search=native={}", dir.display());
     println!("cargo:rustc-link-lib=static=sarpukten");

@@ -5,7 +5,7 @@
 //!
 //! Exit status 0: the ids are printed. 1: one line `refused N at P`, where N is 15 if there is no such folder; of several, this line stands
 //! for each that is not there. 2: the file cannot be read, or wrong arguments. examples/loader.c does the same.
-use sarpukten::{EntryRef, Error, Kind, ObjectId, Rules, TreeRef, MOST_BYTES};
+use sarpukten::{EntryRef, Error, Kind, ObjectId, Rules, StrictTree, MOST_BYTES};
 use std::env;
 use std::ffi::OsStr;
 use std::fs::File;
@@ -22,7 +22,7 @@ fn read_file(path: &OsStr) -> io::Result<Vec<u8>> {
 
 /// The folders' ids, those that are there.
 fn folders(object: &[u8], kind: Kind, names: &[&[u8]]) -> Result<Vec<Option<ObjectId>>, Error> {
-    let tree = TreeRef::from_bytes_strict(object, kind, Rules::Present)?;
+    let tree = StrictTree::from_bytes(object, kind, Rules::Present)?;
     let found = match names {
         [name] => vec![tree.bisect_entry(name, true)],
         _ => tree.bisect_entries(&names.iter().map(|&name| (name, true)).collect::<Vec<_>>())?,
@@ -65,7 +65,7 @@ fn main() -> ExitCode {
             ExitCode::from(u8::from(ids.contains(&None)))
         }
         Err(e) => {
-            println!("{e}");
+            println!("refused {} at {}", e.number, e.place);
             ExitCode::from(1)
         }
     }

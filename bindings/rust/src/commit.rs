@@ -7,21 +7,38 @@ use std::io;
 const WIDTH: usize = ffi::HEADER;
 
 /// A commit, its parts borrowed from the object.
+///
+/// ```
+/// use sarpukten::{CommitRef, Kind};
+///
+/// let who = "A U Thor <a@example.com> 1700000000 +0000";
+/// let object = format!("tree {}\nauthor {who}\ncommitter {who}\n\nmessage\n", "1f".repeat(20));
+/// let commit = CommitRef::from_bytes(object.as_bytes(), Kind::Sha1)?;
+/// assert_eq!(commit.tree().unwrap().to_string(), "1f".repeat(20));
+/// assert_eq!((commit.author, commit.message), (who.as_bytes(), &b"message\n"[..]));
+/// assert_eq!(commit.to_bytes()?, object.as_bytes());
+/// # Ok::<(), sarpukten::Error>(())
+/// ```
 #[derive(Clone, Debug, PartialEq, Eq)]
 pub struct CommitRef<'a> {
     /// The tree's id in hex digits.
     pub tree: &'a [u8],
     /// The parents' ids in hex digits.
     pub parents: Vec<&'a [u8]>,
+    /// The author's line without its word: name, address, time.
     pub author: &'a [u8],
+    /// The committer's.
     pub committer: &'a [u8],
+    /// The encoding, where there is one.
     pub encoding: Option<&'a [u8]>,
+    /// All behind the blank line.
     pub message: &'a [u8],
     /// The extra headers: name, and value without the spaces that fold it over several lines.
     pub extra_headers: Vec<(&'a [u8], Cow<'a, [u8]>)>,
 }
 
 impl<'a> CommitRef<'a> {
+    /// Reads a commit: refused 11 with the field that is missing or malformed, 12 for an author or committer without the actor form.
     pub fn from_bytes(data: &'a [u8], kind: Kind) -> Result<CommitRef<'a>, Error> {
         // A parent's line has 8 bytes and its digits, so a 4 within the bound is for the headers.
         let mut parents = vec![0; (data.len() / (8 + kind.len_in_hex())).min(MOST_RECORDS)];

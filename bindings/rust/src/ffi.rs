@@ -8,6 +8,9 @@ pub const MODE_ANSWER: usize = 4;
 pub const STEP_ANSWER: usize = 10;
 pub const LOOKUP_ANSWER: usize = 5;
 pub const COMMIT_ANSWER: usize = 16;
+pub const BUNDLE_ANSWER: usize = 6;
+pub const OBJECT_ANSWER: usize = 6;
+pub const PATH_ANSWER: usize = 5;
 pub const QUESTIONS: usize = 7;
 pub const WORD: usize = 6;
 pub const ENTRY: usize = 5;
@@ -149,5 +152,57 @@ extern "C" {
         out_len: usize,
         answer: &mut [usize; COUNT_ANSWER],
     ) -> usize;
+    pub fn sarpukten_put_in_tree(
+        bytes: *const u8,
+        bytes_len: usize,
+        h: usize,
+        rules: u16,
+        mode: usize,
+        name: *const u8,
+        name_len: usize,
+        id: *const u8,
+        id_len: usize,
+        out: *mut u8,
+        out_len: usize,
+        answer: &mut [usize; COUNT_ANSWER],
+    ) -> usize;
+    pub fn sarpukten_remove_from_tree(
+        bytes: *const u8,
+        bytes_len: usize,
+        h: usize,
+        rules: u16,
+        name: *const u8,
+        name_len: usize,
+        out: *mut u8,
+        out_len: usize,
+        answer: &mut [usize; COUNT_ANSWER],
+    ) -> usize;
     pub fn sarpukten_hex_of_id(id: *const u8, id_len: usize, out: *mut u8, out_len: usize, answer: &mut [usize; COUNT_ANSWER]) -> usize;
+    pub fn sarpukten_export_tree(
+        bytes: *const u8,
+        bytes_len: usize,
+        h: usize,
+        rules: u16,
+        out: *mut u8,
+        out_len: usize,
+        answer: &mut [usize; COUNT_ANSWER],
+    ) -> usize;
+    pub fn sarpukten_check_bundle(bundle: *const u8, bundle_len: usize, answer: &mut [usize; BUNDLE_ANSWER]) -> usize;
+    pub fn sarpukten_bundle_object(
+        bundle: *const u8,
+        bundle_len: usize,
+        id: *const u8,
+        id_len: usize,
+        answer: &mut [usize; OBJECT_ANSWER],
+    ) -> usize;
+    pub fn sarpukten_follow_path(
+        bundle: *const u8,
+        bundle_len: usize,
+        root: *const u8,
+        root_len: usize,
+        path: *const u8,
+        path_len: usize,
+        answer: &mut [usize; PATH_ANSWER],
+        id: &mut [u8; ID],
+    ) -> usize;
 }

@@ -1,21 +1,51 @@
 //! Git's tree objects and commit headers, over the proved library `libsarpukten.a` (include/sarpukten.h, docs/FORMAT.md).
 //!
 //! The names follow gix-object: [`TreeRef`], [`TreeRefIter`], [`EntryRef`], [`EntryMode`], [`CommitRef`], [`loose_header`]. The library
-//! decides everything; this crate lends it memory and hands out slices. [`TreeRef::from_bytes_strict`] is the reader for objects from outside.
+//! decides everything; this crate lends it memory and hands out slices. [`StrictTree`] is what to read objects from outside as.
+//!
+//! ```
+//! use sarpukten::{Kind, Rules, StrictTree};
+//!
+//! let object = [&b"100644 a\0"[..], &[0x11; 20], b"40000 b\0", &[0x22; 20]].concat();
+//! let tree = StrictTree::from_bytes(&object, Kind::Sha1, Rules::Present)?;
+//! assert_eq!(tree.len(), 2);
+//! let b = tree.bisect_entry(b"b", true).unwrap();
+//! assert_eq!(b.object_id().unwrap().to_string(), "22".repeat(20));
+//! # Ok::<(), sarpukten::Error>(())
+//! ```
+#![warn(missing_docs)]
+
+mod bundle;
 mod commit;
+mod edit;
 mod ffi;
 mod id;
 mod mode;
+pub mod numbers;
+mod strict;
+mod text;
 mod tree;
 
+pub use bundle::{Bundle, ObjectRef};
 pub use commit::CommitRef;
+pub use edit::{put_in_tree, remove_from_tree};
 pub use id::{Kind, ObjectId};
 pub use mode::{EntryKind, EntryMode};
+pub use strict::StrictTree;
+pub use text::tree_to_text;
 pub use tree::{name_order, tree_to_bytes, EntryRef, Rules, TreeRef, TreeRefIter};
 
 use std::fmt;
 
 /// A refusal: a number of docs/FORMAT.md, "Numbers", with its place, and with 3 its part.
+///
+/// ```
+/// use sarpukten::{numbers, Kind, TreeRef};
+///
+/// let e = TreeRef::from_bytes(b"100644 a\0cut", Kind::Sha1).unwrap_err();
+/// assert_eq!((e.number, e.place, e.part), (numbers::BROKEN_ENTRY, 0, 3));
+/// assert_eq!(e.to_string(), "refused 3 at 0 part 3: an entry cannot be read");
+/// ```
 ///
 /// It may gain fields, so outside of this crate it is read and not made:
 ///
@@ -38,34 +68,17 @@ pub struct Error {
 impl Error {
     /// What the number says.
     pub fn reason(&self) -> &'static str {
-        match self.number {
-            1 => "the length of ids is neither 20 nor 32",
-            2 => "a buffer or list is over its bound",
-            3 => "an entry cannot be read",
-            4 => "too few records are lent",
-            5 => "the mode text is none of the rule set's",
-            6 => "the name is not permitted",
-            7 => "the entry does not stand after the one before",
-            8 => "the output is too short",
-            9 => "a name to be written has a NUL",
-            10 => "a record is not well formed",
-            11 => "a field of the commit is missing or malformed",
-            12 => "author or committer has not the actor form",
-            13 => "the encoding is empty",
-            14 => "the encoding has an LF",
-            15 => "no such entry",
-            17 => "an entry before has this name",
-            18 => "the name is .git with letters in upper case",
-            19 => "there is no such rule set",
-            23 => "a number is no mode or no kind of object",
-            _ => "unknown",
-        }
+        numbers::reason(self.number)
     }
 }
 
 impl fmt::Display for Error {
     fn fmt(&self, f: &mut fmt::Formatter<'_>) -> fmt::Result {
-        write!(f, "refused {} at {}", self.number, self.place)
+        write!(f, "refused {} at {}", self.number, self.place)?;
+        if self.part != 0 {
+            write!(f, " part {}", self.part)?;
+        }
+        write!(f, ": {}", self.reason())
     }
 }
 
@@ -86,6 +99,14 @@ pub(crate) fn counted(answer: [usize; ffi::COUNT_ANSWER]) -> Result<usize, Error
     }
 }
 
+/// Number, place and part of an answer, as a result.
+pub(crate) fn settled(number: usize, place: usize, part: usize) -> Result<(), Error> {
+    match number {
+        0 => Ok(()),
+        _ => Err(Error { number, place, part, field: 0 }),
+    }
+}
+
 /// The longest object that is read or written, in bytes.
 pub const MOST_BYTES: usize = 1 << 30;
 
@@ -93,6 +114,10 @@ pub const MOST_BYTES: usize = 1 << 30;
 pub const MOST_RECORDS: usize = 1 << 20;
 
 /// The most records that a lookup among `n` compares.
+///
+/// ```
+/// assert_eq!(sarpukten::most_comparisons(1000), 10);
+/// ```
 pub fn most_comparisons(n: usize) -> usize {
     // SAFETY: a number by value.
     unsafe { ffi::sarpukten_most_comparisons(n) }
@@ -101,13 +126,23 @@ pub fn most_comparisons(n: usize) -> usize {
 /// The kinds of objects, for [`loose_header`].
 #[derive(Clone, Copy, Debug, PartialEq, Eq, Hash)]
 pub enum ObjectKind {
+    /// `commit`
     Commit = 1,
+    /// `tree`
     Tree = 2,
+    /// `blob`
     Blob = 3,
+    /// `tag`
     Tag = 4,
 }
 
 /// The header of a loose object: kind word, space, size in decimal, NUL.
+///
+/// ```
+/// use sarpukten::{loose_header, ObjectKind};
+///
+/// assert_eq!(loose_header(ObjectKind::Tree, 57), b"tree 57\0");
+/// ```
 pub fn loose_header(kind: ObjectKind, size: u64) -> Vec<u8> {
     let mut out = vec![0; 28];
     let mut answer = [0; ffi::COUNT_ANSWER];

@@ -6,14 +6,29 @@ use std::fmt;
 #[derive(Clone, Copy, Debug, PartialEq, Eq, Hash)]
 #[repr(u16)]
 pub enum EntryKind {
+    /// A folder.
     Tree = 0o040000,
+    /// A file.
     Blob = 0o100644,
+    /// A file that may be run.
     BlobExecutable = 0o100755,
+    /// A symbolic link.
     Link = 0o120000,
+    /// A submodule's commit.
     Commit = 0o160000,
 }
 
 /// The 16 bits of an entry's mode.
+///
+/// ```
+/// use sarpukten::{EntryKind, EntryMode};
+///
+/// let mode = EntryMode::from_bytes(b"040000")?;
+/// assert_eq!((mode.kind(), mode.as_str(), mode.value()), (EntryKind::Tree, "tree", 0o040000));
+/// assert_eq!("100755".parse::<EntryMode>()?, EntryKind::BlobExecutable.into());
+/// assert!(EntryMode::try_from(0o200000).is_err());
+/// # Ok::<(), sarpukten::Error>(())
+/// ```
 #[derive(Clone, Copy, PartialEq, Eq, Hash)]
 pub struct EntryMode {
     internal: u16,
@@ -33,6 +48,15 @@ impl TryFrom<u32> for EntryMode {
         // SAFETY: `answer` is ours alone.
         unsafe { ffi::sarpukten_mode_from_number(n, &mut answer) };
         counted(answer).map(EntryMode::of_record)
+    }
+}
+
+/// The mode that an octal text says.
+impl std::str::FromStr for EntryMode {
+    type Err = Error;
+
+    fn from_str(text: &str) -> Result<EntryMode, Error> {
+        EntryMode::from_bytes(text.as_bytes())
     }
 }
 
@@ -61,6 +85,7 @@ impl EntryMode {
         unsafe { ffi::sarpukten_mode_value(self.internal) }
     }
 
+    /// What an entry of this mode is.
     pub fn kind(self) -> EntryKind {
         // SAFETY: a number by value.
         match unsafe { ffi::sarpukten_mode_kind(self.internal) } {
@@ -79,30 +104,37 @@ impl EntryMode {
         answer[question] == 1
     }
 
+    /// A folder.
     pub fn is_tree(self) -> bool {
         self.ask(0)
     }
 
+    /// Anything but a folder.
     pub fn is_no_tree(self) -> bool {
         self.ask(1)
     }
 
+    /// A file, executable or not.
     pub fn is_blob(self) -> bool {
         self.ask(2)
     }
 
+    /// A file that may be run.
     pub fn is_executable(self) -> bool {
         self.ask(3)
     }
 
+    /// A file or a link.
     pub fn is_blob_or_symlink(self) -> bool {
         self.ask(4)
     }
 
+    /// A symbolic link.
     pub fn is_link(self) -> bool {
         self.ask(5)
     }
 
+    /// A submodule's commit; mode 0 is none, though it is of that kind.
     pub fn is_commit(self) -> bool {
         self.ask(6)
     }

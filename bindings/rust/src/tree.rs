@@ -12,16 +12,42 @@ fn guess(bytes: usize, kind: Kind) -> usize {
 }
 
 /// Git's comparison of two names, each of a folder or not.
+///
+/// ```
+/// use std::cmp::Ordering;
+///
+/// // folder `a` counts as `a/`, which stands after `a.b` and before `a0`
+/// assert_eq!(sarpukten::name_order(b"a", true, b"a.b", false), Ordering::Greater);
+/// assert_eq!(sarpukten::name_order(b"a", true, b"a0", false), Ordering::Less);
+/// ```
 pub fn name_order(a: &[u8], a_is_tree: bool, b: &[u8], b_is_tree: bool) -> Ordering {
     // SAFETY: both names live through the call.
     unsafe { ffi::sarpukten_name_order(a.as_ptr(), a.len(), a_is_tree, b.as_ptr(), b.len(), b_is_tree) }.cmp(&0)
 }
 
-/// An entry, its name and id borrowed from the object. Two are equal when mode, name and id are.
+/// An entry, its name and id borrowed from the object. Two are equal when mode, name and id are. They are ordered as Git orders them in a
+/// tree, so that entries which were sorted can be written.
+///
+/// ```
+/// use sarpukten::{tree_to_bytes, EntryKind, EntryRef, Kind, Rules, StrictTree};
+///
+/// let mut entries = [
+///     EntryRef::new(EntryKind::Tree.into(), b"a", &[0x11; 20]),
+///     EntryRef::new(EntryKind::Blob.into(), b"a.b", &[0x22; 20]),
+/// ];
+/// entries.sort();
+/// assert_eq!(entries[0].filename, b"a.b");
+/// let object = tree_to_bytes(&entries, Kind::Sha1)?;
+/// assert!(StrictTree::from_bytes(&object, Kind::Sha1, Rules::Present).is_ok());
+/// # Ok::<(), sarpukten::Error>(())
+/// ```
 #[derive(Clone, Copy, Debug)]
 pub struct EntryRef<'a> {
+    /// What it is.
     pub mode: EntryMode,
+    /// Its name.
     pub filename: &'a [u8],
+    /// Its id.
     pub oid: &'a [u8],
     text: Option<&'a [u8]>,
 }
@@ -33,6 +59,20 @@ impl PartialEq for EntryRef<'_> {
 }
 
 impl Eq for EntryRef<'_> {}
+
+/// Git's order by name and sort; where that says equal (one name twice, or a slash in a name) by name, mode and id.
+impl Ord for EntryRef<'_> {
+    fn cmp(&self, other: &Self) -> Ordering {
+        name_order(self.filename, self.mode.is_tree(), other.filename, other.mode.is_tree())
+            .then_with(|| (self.filename, self.mode.in_record(), self.oid).cmp(&(other.filename, other.mode.in_record(), other.oid)))
+    }
+}
+
+impl PartialOrd for EntryRef<'_> {
+    fn partial_cmp(&self, other: &Self) -> Option<Ordering> {
+        Some(self.cmp(other))
+    }
+}
 
 impl<'a> EntryRef<'a> {
     /// An entry to be written.
@@ -63,7 +103,18 @@ impl<'a> EntryRef<'a> {
     }
 }
 
-/// A tree object that was read to its end.
+/// A tree object that was read to its end, in whatever order its entries stand. [`crate::StrictTree`] is one that was read strictly.
+///
+/// ```
+/// use sarpukten::{Kind, TreeRef};
+///
+/// let object = [&b"100644 a\0"[..], &[0x11; 20], b"040000 b\0", &[0x22; 20]].concat();
+/// let tree = TreeRef::from_bytes(&object, Kind::Sha1)?;
+/// let names: Vec<_> = tree.entries().map(|e| e.filename).collect();
+/// assert_eq!(names, [b"a", b"b"]);
+/// assert_eq!(tree.get(1).unwrap().mode_text(), Some(&b"040000"[..]));
+/// # Ok::<(), sarpukten::Error>(())
+/// ```
 #[derive(Clone, Debug)]
 pub struct TreeRef<'a> {
     data: &'a [u8],
@@ -132,6 +183,7 @@ impl<'a> TreeRef<'a> {
         self.records.len() / WIDTH
     }
 
+    /// Whether there is none.
     pub fn is_empty(&self) -> bool {
         self.records.is_empty()
     }
@@ -301,6 +353,17 @@ fn write(data: &[u8], kind: Kind, records: &[usize]) -> Result<Vec<u8>, Error> {
 }
 
 /// The entries of an object one after the other, read plainly and without a list. It ends after a refusal.
+///
+/// ```
+/// use sarpukten::{Kind, TreeRefIter};
+///
+/// let object = [&b"100644 a\0"[..], &[0x11; 20], b"100644 cut"].concat();
+/// let mut entries = TreeRefIter::from_bytes(&object, Kind::Sha1);
+/// assert_eq!(entries.next().unwrap()?.filename, b"a");
+/// assert_eq!(entries.next().unwrap().unwrap_err().place, 29);
+/// assert!(entries.next().is_none());
+/// # Ok::<(), sarpukten::Error>(())
+/// ```
 #[derive(Clone, Debug)]
 pub struct TreeRefIter<'a> {
     data: &'a [u8],
@@ -310,6 +373,7 @@ pub struct TreeRefIter<'a> {
 }
 
 impl<'a> TreeRefIter<'a> {
+    /// From the object's first byte on.
     pub fn from_bytes(data: &'a [u8], kind: Kind) -> TreeRefIter<'a> {
         TreeRefIter { data, kind, at: 0, ended: false }
     }

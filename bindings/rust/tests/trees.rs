@@ -159,7 +159,7 @@ fn refusals() {
     assert_eq!(o.len(), 57);
     let cut = &o[..56];
     assert_eq!(told(TreeRef::from_bytes(cut, Kind::Sha1).unwrap_err()), broken(29, 3));
-    assert_eq!(TreeRef::from_bytes(cut, Kind::Sha1).unwrap_err().to_string(), "refused 3 at 29");
+    assert_eq!(TreeRef::from_bytes(cut, Kind::Sha1).unwrap_err().to_string(), "refused 3 at 29 part 3: an entry cannot be read");
     assert_eq!(told(TreeRef::from_bytes_strict(cut, Kind::Sha1, Rules::Present).unwrap_err()), broken(29, 3));
     let mut steps = TreeRefIter::from_bytes(cut, Kind::Sha1);
     assert_eq!(steps.next().unwrap().unwrap().filename, b"a");

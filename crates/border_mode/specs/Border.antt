@@ -3,7 +3,8 @@ use Prim.Native.Nat.{ℕ}
 use mathlib.Core.Bool.{not}
 use mathlib.Core.List.{List, [], _∷_, _++_}
 use lib.Dec.{eqb}
-use Rattle.mode.specs.Mode.{sortOf, kindOf, isTree, isExecutable, isFileOrLink}
+use Rattle.mode.specs.Mode.{sortOf, kindOf, isTree}
+use Rattle.mode_table.specs.Kind.{isExecutable, isFileOrLink}
 use Rattle.mode.specs.declared.ModeAnswer.{ModeAnswer}
 use Rattle.border.specs.Border.{yes, verdictNumbers}
 

@@ -2,12 +2,13 @@
 ghost use mathlib.Core.Path.{_≡_};
 ghost use Rattle.mode.specs.Mode.{valueOf, kindOf, fromNumber};
 ghost use Rattle.mode.specs.Read.{modeAlone};
-ghost use Rattle.mode.specs.Write.{modeText};
-ghost use Rattle.mode.specs.Table.{writtenOf, wordOf};
+ghost use Rattle.mode_text.specs.Write.{modeText};
+ghost use Rattle.mode.specs.Mode.{wordOf};
+ghost use Rattle.mode_table.specs.Table.{writtenOf};
 ghost use Rattle.border_mode.specs.Border.{modeNumbers, modeAsked};
 use mode::EntryMode;
 use mode::ModeAnswer;
-use mode::written_of;
+use mode_table::written_of;
 
 // Hands over a mode's answer, and returns its number.
 fn hand_mode(a: ModeAnswer, answer: &mut [usize; 4]) -> usize

@@ -36,7 +36,7 @@ use Rattle.commit_grammar.proofs.Theorems.{commit-is-read}
 use Rattle.commit_write.specs.Fold.{foldValue}
 use Rattle.commit_write.specs.Written.{lowerDigit, lowerHex, headerWritten, headersWritten, commitWritten}
 use Rattle.commit_write.proofs.Laws.{digit-low, digit-high, digit-letter}
-use Rattle.commit_round.specs.Claims.{ReadsBack}
+use Rattle.commit_round.specs.Claims.{ReadsBack, WrittenBack}
 use Rattle.commit_round.specs.Round.{severalLines, headerBack, commitBack, Writable, Writables, WritableCommit}
 use Rattle.commit_round.proofs.Folding.{Within, fold-shape}
 use Rattle.commit_round.proofs.Rewriting.{header-copied}
@@ -170,7 +170,7 @@ first-form (given v) xs f = tt
 
 -- ---- the commit
 
-pub written-back : (h : ℕ) (c : Commit) → WritableCommit h c → commitWritten c ≡ commitBytes (commitBack c)
+pub written-back : WrittenBack
 unfolding commitWritten commitBytes
 written-back h c w = rw (headers-bytes (c .headers) (w .headers))
 

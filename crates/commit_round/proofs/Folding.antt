@@ -16,7 +16,7 @@ use Rattle.ground.proofs.Laws.{and-left, and-right}
 use Rattle.grammar.specs.Grammar.{foldedLines, plainLines, OneLines, FoldedForm}
 use Rattle.commit_grammar.proofs.Unfolded.{unfolds-to-lines}
 use Rattle.commit_write.specs.Fold.{foldRest, foldValue}
-use Rattle.commit_round.specs.Claims.{FoldUnfolds, UnfoldedFolds}
+use Rattle.commit_round.specs.Claims.{FoldUnfolds, UnfoldedFolds, FoldLine, FoldLines, FoldGains, lastOf}
 use Rattle.commit_round.specs.Round.{some, severalLines}
 
 -- ---- one byte
@@ -60,14 +60,11 @@ lines-fold ((b ∷ l) ∷ ls) f =
 
 -- ---- the theorems
 
--- a value of one line without an LF gets one
-pub fold-line : (v : List ℕ) → freeOf 10 v ≡ true → foldValue v ≡ v ++ 10 ∷ []
+pub fold-line : FoldLine
 unfolding foldValue
 fold-line v f = last-fold 0 v (λ z. omega arith) f
 
--- a value of lines, each with its LF: a space before each but the first; one line stays as it is
-pub fold-lines : (first : List ℕ) (more : List (List ℕ)) → freeOf 10 first ≡ true → OneLines more
-    → foldValue (first ++ 10 ∷ plainLines more) ≡ first ++ 10 ∷ foldedLines more
+pub fold-lines : FoldLines
 unfolding foldValue
 fold-lines first more f g = line-fold 0 first (plainLines more) (λ z. omega arith) f ∙ ap (λ (t : List ℕ). first ++ 10 ∷ t) (lines-fold more g)
 
@@ -80,18 +77,12 @@ fold-unfolds first more f g n =
 pub unfolded-folds : UnfoldedFolds
 unfolded-folds v f = ap foldValue (unfolds-to-lines v f) ∙ fold-lines (f .first) (f .more) (f .one-line) (f .one-lines) ∙ sym (f .whole)
 
--- the last byte of a value, prev where it is empty
-abbrev pub lastOf : ℕ → List ℕ → ℕ
-lastOf prev [] = prev
-lastOf prev (b ∷ bs) = lastOf b bs
-
 gains : (prev : ℕ) (t : List ℕ) → (lastOf prev t ≡ 10 → ⊥) → foldRest prev t ≡ foldRest prev (t ++ 10 ∷ [])
 unfolding foldRest
 gains prev [] n = rw (ne-eqb prev 10 n)
 gains prev (b ∷ bs) n = ap (λ (t : List ℕ). pick (eqb prev 10) (32 ∷ b ∷ t) (b ∷ t)) (gains b bs n)
 
--- a value that does not end with an LF is written as if it did
-pub fold-gains : (v : List ℕ) → (lastOf 0 v ≡ 10 → ⊥) → foldValue v ≡ foldValue (v ++ 10 ∷ [])
+pub fold-gains : FoldGains
 unfolding foldValue
 fold-gains v = gains 0 v
 

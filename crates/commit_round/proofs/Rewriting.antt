@@ -8,13 +8,11 @@ use mathlib.Core.Logic.{_⊎_, inl, inr}
 use native.Mathlib.Omega.{arith}
 use borrow.Author.Tests.{eq-eqb, ne-eqb}
 use Rattle.ground.specs.Scan.{freeOf}
-use Rattle.ground.specs.Verdict.{fine}
-use Rattle.commit_read.specs.Read.{commitAnswer, commitParents, commitHeaders}
 use Rattle.grammar.specs.Grammar.{Header, Commit, headerBytes, headersBytes, commitBytes, FoldedForm, HeaderForm, HeaderForms, CommitForm}
-use Rattle.commit_grammar.specs.Named.{named}
 use Rattle.commit_grammar.proofs.Theorems.{read-is-commit}
 use Rattle.commit_write.specs.Written.{lowerHex, headerWritten, headersWritten, commitWritten}
 use Rattle.commit_round.specs.Round.{LowerIds}
+use Rattle.commit_round.specs.Claims.{Rewrites, ReadRewrites}
 use Rattle.commit_round.proofs.Folding.{fold-line}
 
 -- a folded value is copied
@@ -43,14 +41,11 @@ ids-same : (ds : List (List ℕ)) → LowerIds ds → map lowerHex ds ≡ ds
 ids-same [] f = refl
 ids-same (d ∷ ds) f = rw (f .0, ids-same ds (f .1))
 
-pub rewrites : (h : ℕ) (c : Commit) → CommitForm h c → lowerHex (c .tree) ≡ c .tree → LowerIds (c .parents) → commitWritten c ≡ commitBytes c
+pub rewrites : Rewrites
 unfolding commitWritten commitBytes
 rewrites h c f t ps = rw (t, ids-same (c .parents) ps, headers-same (c .headers) (f .headers))
 
--- what was read and named, with its ids in lower case, is written as the bytes it was read from
-pub read-rewrites : (s : List ℕ) (h : ℕ) (ps hs : List ℕ) → commitAnswer s h ps hs .verdict ≡ fine
-    → (c : Commit) → c ≡ named h s (commitAnswer s h ps hs) (commitParents s h ps hs) (commitHeaders s h ps hs)
-    → lowerHex (c .tree) ≡ c .tree → LowerIds (c .parents) → commitWritten c ≡ s
+pub read-rewrites : ReadRewrites
 read-rewrites s h ps hs v c e t l =
     let k = read-is-commit s h ps hs v in
     let f : CommitForm h c = rw e (k .1) in

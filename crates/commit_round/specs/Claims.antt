@@ -9,7 +9,7 @@ use Rattle.ground.specs.Scan.{freeOf}
 use Rattle.ground.specs.Verdict.{fine, counted, mostBytes, mostRecords}
 use Rattle.header.specs.Record.{width}
 use Rattle.unfold.specs.Unfold.{plainOf}
-use Rattle.grammar.specs.Grammar.{given, Commit, plainLines, OneLines, FoldedForm}
+use Rattle.grammar.specs.Grammar.{given, Commit, commitBytes, plainLines, foldedLines, OneLines, FoldedForm, CommitForm}
 use Rattle.commit_read.specs.Read.{commitAnswer, commitParents, commitHeaders}
 use Rattle.commit_grammar.specs.Named.{named}
 use Rattle.commit_write.specs.Fold.{foldValue}
@@ -53,3 +53,37 @@ FoldUnfolds =
 -- a folded value is written as it stands, which is what unfolding and folding it gives
 abbrev pub UnfoldedFolds : Type 0
 UnfoldedFolds = (v : List ℕ) → FoldedForm v → foldValue (plainOf 1 v) ≡ v
+
+-- a value of one line without an LF gets one
+abbrev pub FoldLine : Type 0
+FoldLine = (v : List ℕ) → freeOf 10 v ≡ true → foldValue v ≡ v ++ 10 ∷ []
+
+-- a value of lines, each with its LF: a space before each but the first; one line stays as it is
+abbrev pub FoldLines : Type 0
+FoldLines =
+    (first : List ℕ) (more : List (List ℕ)) → freeOf 10 first ≡ true → OneLines more
+    → foldValue (first ++ 10 ∷ plainLines more) ≡ first ++ 10 ∷ foldedLines more
+
+-- the last byte of a value, prev where it is empty
+abbrev pub lastOf : ℕ → List ℕ → ℕ
+lastOf prev [] = prev
+lastOf prev (b ∷ bs) = lastOf b bs
+
+-- a value that does not end with an LF is written as if it did
+abbrev pub FoldGains : Type 0
+FoldGains = (v : List ℕ) → (lastOf 0 v ≡ 10 → ⊥) → foldValue v ≡ foldValue (v ++ 10 ∷ [])
+
+-- a commit that may be written is written as the bytes of the commit read back
+abbrev pub WrittenBack : Type 0
+WrittenBack = (h : ℕ) (c : Commit) → WritableCommit h c → commitWritten c ≡ commitBytes (commitBack c)
+
+-- a commit of the grammar with its ids in lower case is written as its own bytes
+abbrev pub Rewrites : Type 0
+Rewrites = (h : ℕ) (c : Commit) → CommitForm h c → lowerHex (c .tree) ≡ c .tree → LowerIds (c .parents) → commitWritten c ≡ commitBytes c
+
+-- what was read and named, with its ids in lower case, is written as the bytes it was read from
+abbrev pub ReadRewrites : Type 0
+ReadRewrites =
+    (s : List ℕ) (h : ℕ) (ps hs : List ℕ) → commitAnswer s h ps hs .verdict ≡ fine
+    → (c : Commit) → c ≡ named h s (commitAnswer s h ps hs) (commitParents s h ps hs) (commitHeaders s h ps hs)
+    → lowerHex (c .tree) ≡ c .tree → LowerIds (c .parents) → commitWritten c ≡ s

@@ -95,12 +95,26 @@ line-put l m r w v at from end p q e f =
     let k : Put l at ((w ++ 32 ∷ []) ++ (v ++ 10 ∷ [])) r end = put-then x y in
     rw (line-pieces w v) at k
 
+-- the same of a value in a range
+pub range-put : (l m r w bytes : List ℕ) (at value end from to : ℕ) → from ≤ to → to ≤ length bytes → value ≡ at + length w + 1 → end ≡ value + (to - from) + 1
+    → m ≡ sets l at (w ++ 32 ∷ []) → r ≡ sets m value (part from to bytes ++ 10 ∷ []) → Put l at (line w (part from to bytes)) r end
+range-put l m r w bytes at value end from to p q e d f g =
+    line-put l m r w (part from to bytes) at value end e (omega (arith, part-length bytes from to p q)) f g
+
 -- the same of an id: its digits, then LF
-pub id-put : (l m n r w d : List ℕ) (at from last end : ℕ) → from ≡ at + length w + 1 → last ≡ from + length d → end ≡ last + 1
+pub id-put : (l m n r w d : List ℕ) (at from last end k : ℕ) → length d ≡ k → from ≡ at + length w + 1 → last ≡ from + k → end ≡ last + 1
     → m ≡ sets l at (w ++ 32 ∷ []) → n ≡ sets m from (lowerHex d) → r ≡ set n last 10 → Put l at (line w (lowerHex d)) r end
-id-put l m n r w d at from last end p q z e f g =
+id-put l m n r w d at from last end k c p q z e f g =
     let a : last ≡ from + length (lowerHex d) = omega (arith, length-map d lowerDigit) in
     line-put l m r w (lowerHex d) at from end p (omega (arith, a)) e (g ∙ rw (f, a) (sym (sets-ended m from (lowerHex d) 10)))
+
+-- an LF, then a piece
+pub after-lf : (l m r v : List ℕ) (at end k : ℕ) → length v ≡ k → end ≡ at + 1 + k → m ≡ set l at 10 → r ≡ sets m (at + 1) v → Put l at (10 ∷ v) r end
+after-lf l m r v at end k c q e f = record { holds = f ∙ rw (e, add-one at); past = omega arith }
+
+-- an id of 2H digits that lies inside
+pub named-length : (h : ℕ) (bytes : List ℕ) (from : ℕ) → from + 2 * h ≤ length bytes → length (idNamed h bytes from) ≡ 2 * h
+named-length h bytes from p = part-length bytes from (from + 2 * h) (omega arith) p ∙ omega arith
 
 -- ---- a value from a place on, prev the byte before it
 
@@ -201,7 +215,7 @@ module _ (h : ℕ) (bytes parents : List ℕ) (i : ℕ) where
 
 -- an id has 2H digits
 pub id-length : (h : ℕ) (bytes : List ℕ) (at : ℕ) → idFits h bytes at ≡ true → length (idNamed h bytes at) ≡ 2 * h
-id-length h bytes at f = part-length bytes at (at + 2 * h) (omega arith) (id-inside h bytes at f) ∙ omega arith
+id-length h bytes at f = named-length h bytes at (id-inside h bytes at f)
 
 pub id-line-le : (h : ℕ) (bytes : List ℕ) (at : ℕ) → h ≤ 32 → idFits h bytes at ≡ true → length (line parentWord (lowerHex (idNamed h bytes at))) ≤ 72
 id-line-le h bytes at p f =
@@ -368,24 +382,40 @@ sizes h bytes p parents headers room s =
 pub sizes-of : (h : ℕ) (bytes : List ℕ) (p : CommitParts) (parents headers : List ℕ) → checked h bytes p parents headers 0 .number ≡ 0 → Sizes h bytes p parents headers
 sizes-of h bytes p parents headers z = sizes h bytes p parents headers 0 (checked-sound h bytes p parents headers 0 z)
 
+-- where the pieces end, so that no place leaves 64 bits
+module _ {h : ℕ} {bytes : List ℕ} {p : CommitParts} {parents headers : List ℕ} (k : Sizes h bytes p parents headers) where
+  pub parents-end : {a b : ℕ} → a ≡ 0 + length (line treeWord (lowerHex (idNamed h bytes (p .tree))))
+      → b ≡ a + length (parentsBytes (map lowerHex (map (idNamed h bytes) parents))) → b ≤ 75497542
+  parents-end e f = omega (arith, e, f, k .tree-size, k .parents-size, k .parents-most)
+
+  pub author-end : {b c : ℕ} → b ≤ 75497542 → c ≡ b + length (line authorWord (part (p .«author_start») (p .«author_end») bytes)) → c ≤ 1149239374
+  author-end m e = omega (arith, m, e, k .author-size)
+
+  pub committer-end : {c d : ℕ} → c ≤ 1149239374 → d ≡ c + length (line committerWord (part (p .«committer_start») (p .«committer_end») bytes)) → d ≤ 2222981209
+  committer-end m e = omega (arith, m, e, k .committer-size)
+
+  pub encoding-end : {d e : ℕ} → d ≤ 2222981209 → e ≡ d + length (encodingBytes (encodingNamed bytes p)) → e ≤ 3296723043
+  encoding-end m e = omega (arith, m, e, k .encoding-size)
+
+  pub headers-end : {e f : ℕ} → e ≤ 3296723043 → f ≡ e + length (headersWritten (map (headerNamed bytes) (headersOf headers))) → f ≤ 3377703019348067
+  headers-end m e = omega (arith, m, e, k .headers-size, k .headers-most)
+
 -- what a store promises, as a piece that was put
 pub put-of : (l : List ℕ) (at : ℕ) (p m : List ℕ) (to : ℕ) → to ≡ at + length p → m ≡ sets l at p → Put l at p m to
 put-of l at p m to q e = record { holds = e; past = q }
 
 -- the pieces in turn are the commit
-pub commit-put : (h : ℕ) (bytes : List ℕ) (p : CommitParts) (parents headers : List ℕ) (l l1 l2 l3 l4 l5 l6 l7 l8 : List ℕ) (a b c d e f g : ℕ)
+pub commit-put : (h : ℕ) (bytes : List ℕ) (p : CommitParts) (parents headers : List ℕ) {l l1 l2 l3 l4 l5 l6 l7 : List ℕ} {a b c d e f g : ℕ}
     → Put l 0 (line treeWord (lowerHex (idNamed h bytes (p .tree)))) l1 a
     → Put l1 a (parentsBytes (map lowerHex (map (idNamed h bytes) parents))) l2 b
     → Put l2 b (line authorWord (part (p .«author_start») (p .«author_end») bytes)) l3 c
     → Put l3 c (line committerWord (part (p .«committer_start») (p .«committer_end») bytes)) l4 d
     → Put l4 d (encodingBytes (encodingNamed bytes p)) l5 e
     → Put l5 e (headersWritten (map (headerNamed bytes) (headersOf headers))) l6 f
-    → Put l6 f (10 ∷ []) l7 (f + 1)
-    → Put l7 (f + 1) (part (p .«message_start») (p .«message_end») bytes) l8 g
-    → Put l 0 (written h bytes p parents headers) l8 g
+    → Put l6 f (10 ∷ part (p .«message_start») (p .«message_end») bytes) l7 g
+    → Put l 0 (written h bytes p parents headers) l7 g
 unfolding commitWritten
-commit-put h bytes p parents headers l l1 l2 l3 l4 l5 l6 l7 l8 a b c d e f g x1 x2 x3 x4 x5 x6 x7 x8 =
-    put-then x1 (put-then x2 (put-then x3 (put-then x4 (put-then x5 (put-then x6 (put-then x7 x8))))))
+commit-put h bytes p parents headers x1 x2 x3 x4 x5 x6 x7 = put-then x1 (put-then x2 (put-then x3 (put-then x4 (put-then x5 (put-then x6 x7)))))
 
 -- ---- the answers
 

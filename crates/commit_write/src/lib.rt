@@ -2,10 +2,11 @@
 // One walk serves both: it stores what has room and gives the place past it, so with no room it measures.
 ghost use mathlib.Core.Path.{_≡_};
 ghost use mathlib.Core.Bool.{true};
-ghost use mathlib.Core.List.{map};
-ghost use Prim.Native.Nat.{_+_, _*_, _/_, _<_, _≤_};
+ghost use mathlib.Core.List.{map, _∷_};
+ghost use Prim.Native.Nat.{_+_, _-_, _*_, _/_, _<_, _≤_};
 ghost use lib.ListN.{length, set};
 ghost use lib.Seq.{sets};
+ghost use Rattle.ground.specs.Basics.{part};
 ghost use Rattle.ground.specs.Verdict.{mostBytes, mostRecords, stored};
 ghost use Rattle.header.specs.Record.{width};
 ghost use Rattle.grammar.specs.Grammar.{line, parentsBytes, encodingBytes};
@@ -53,30 +54,33 @@ fn put_digits(out: &mut [u8], at: usize, digits: &[u8])
     }
 }
 
-// Stores the line of an id.
-fn put_id_line(out: &mut [u8], at: usize, word: &[u8], digits: &[u8]) -> usize
-    requires { ⌜ at + (length (now word) + length (now digits) + 2) < 18446744073709551616 ⌝ }
-    ensures { λ r. ⌜ r ≡ at + length (line (now (word .entry)) (lowerHex (now (digits .entry)))) ⌝ }
-    ensures { λ _. ⌜ now (out .exit) ≡ sets (now (out .entry)) at (line (now (word .entry)) (lowerHex (now (digits .entry)))) ⌝ }
+// Stores the line of an id, whose digits start at a place.
+fn put_id_line(out: &mut [u8], at: usize, word: &[u8], bytes: &[u8], h: usize, from: usize) -> usize
+    requires { ⌜ from + 2 * h ≤ length (now bytes) ⌝ }
+    requires { ⌜ (h ≤ 32) × (at + (length (now word) + 2 * h + 2) < 18446744073709551616) ⌝ }
+    ensures { λ r. ⌜ r ≡ at + length (line (now (word .entry)) (lowerHex (idNamed h (now (bytes .entry)) from))) ⌝ }
+    ensures { λ _. ⌜ now (out .exit) ≡ sets (now (out .entry)) at (line (now (word .entry)) (lowerHex (idNamed h (now (bytes .entry)) from))) ⌝ }
 {
-    let from = at + word.len() + 1;
-    let end = from + digits.len();
+    let end = from + 2 * h;
+    let digits = at + word.len() + 1;
+    let last = digits + 2 * h;
     put_ended(out, at, word, b' ');
-    put_digits(out, from, digits);
-    put_byte(out, end, b'\n');
-    end + 1
+    put_digits(out, digits, &bytes[from..end]);
+    put_byte(out, last, b'\n');
+    last + 1
 }
 
-// Stores the line of a value.
-fn put_line(out: &mut [u8], at: usize, word: &[u8], value: &[u8]) -> usize
-    requires { ⌜ at + (length (now word) + length (now value) + 2) < 18446744073709551616 ⌝ }
-    ensures { λ r. ⌜ r ≡ at + length (line (now (word .entry)) (now (value .entry))) ⌝ }
-    ensures { λ _. ⌜ now (out .exit) ≡ sets (now (out .entry)) at (line (now (word .entry)) (now (value .entry))) ⌝ }
+// Stores the line of a value, which lies in a range.
+fn put_line(out: &mut [u8], at: usize, word: &[u8], bytes: &[u8], from: usize, to: usize) -> usize
+    requires { ⌜ (from ≤ to) × (to ≤ length (now bytes)) ⌝ }
+    requires { ⌜ at + (length (now word) + (to - from) + 2) < 18446744073709551616 ⌝ }
+    ensures { λ r. ⌜ r ≡ at + length (line (now (word .entry)) (part from to (now (bytes .entry)))) ⌝ }
+    ensures { λ _. ⌜ now (out .exit) ≡ sets (now (out .entry)) at (line (now (word .entry)) (part from to (now (bytes .entry)))) ⌝ }
 {
-    let from = at + word.len() + 1;
-    let end = from + value.len();
+    let value = at + word.len() + 1;
+    let end = value + (to - from);
     put_ended(out, at, word, b' ');
-    put_ended(out, from, value, b'\n');
+    put_ended(out, value, &bytes[from..to], b'\n');
     end + 1
 }
 
@@ -140,9 +144,7 @@ fn put_parents(out: &mut [u8], at: usize, bytes: &[u8], h: usize, parents: &[usi
     let mut to = at;
     let mut i = 0;
     while i < parents.len() {
-        let from = parents[i];
-        let end = from + 2 * h;
-        to = put_id_line(out, to, b"parent", &bytes[from..end]);
+        to = put_id_line(out, to, b"parent", bytes, h, parents[i]);
         i += 1;
     }
     to
@@ -174,11 +176,29 @@ fn put_encoding(out: &mut [u8], at: usize, bytes: &[u8], p: CommitParts) -> usiz
     ensures { λ _. ⌜ now (out .exit) ≡ sets (now (out .entry)) at (encodingBytes (encodingNamed (now (bytes .entry)) p)) ⌝ }
 {
     if p.encoding == 1 {
-        let from = p.encoding_start;
-        let to = p.encoding_end;
-        return put_line(out, at, b"encoding", &bytes[from..to]);
+        return put_line(
+            out,
+            at,
+            b"encoding",
+            bytes,
+            p.encoding_start,
+            p.encoding_end,
+        );
     }
     at
+}
+
+// Stores the blank line and the message, which lies in a range.
+fn put_message(out: &mut [u8], at: usize, bytes: &[u8], from: usize, to: usize) -> usize
+    requires { ⌜ (from ≤ to) × (to ≤ length (now bytes)) ⌝ }
+    requires { ⌜ at + (to - from) + 1 < 18446744073709551616 ⌝ }
+    ensures { λ r. ⌜ r ≡ at + length (10 ∷ part from to (now (bytes .entry))) ⌝ }
+    ensures { λ _. ⌜ now (out .exit) ≡ sets (now (out .entry)) at (10 ∷ part from to (now (bytes .entry))) ⌝ }
+{
+    let next = at + 1;
+    put_byte(out, at, b'\n');
+    put(out, next, &bytes[from..to]);
+    next + (to - from)
 }
 
 // Stores a commit at the front, as far as there is room, and gives its length.
@@ -194,23 +214,27 @@ fn put_commit(
     ensures { λ r. ⌜ r ≡ length (written h (now (bytes .entry)) parts (now (parents .entry)) (now (headers .entry))) ⌝ }
     ensures { λ _. ⌜ now (out .exit) ≡ sets (now (out .entry)) 0 (written h (now (bytes .entry)) parts (now (parents .entry)) (now (headers .entry))) ⌝ }
 {
-    let tree = parts.tree;
-    let tree_end = tree + 2 * h;
-    let author = parts.author_start;
-    let author_end = parts.author_end;
-    let committer = parts.committer_start;
-    let committer_end = parts.committer_end;
-    let message = parts.message_start;
-    let message_end = parts.message_end;
-    let a = put_id_line(out, 0, b"tree", &bytes[tree..tree_end]);
+    let a = put_id_line(out, 0, b"tree", bytes, h, parts.tree);
     let b = put_parents(out, a, bytes, h, parents);
-    let c = put_line(out, b, b"author", &bytes[author..author_end]);
-    let d = put_line(out, c, b"committer", &bytes[committer..committer_end]);
+    let c = put_line(
+        out,
+        b,
+        b"author",
+        bytes,
+        parts.author_start,
+        parts.author_end,
+    );
+    let d = put_line(
+        out,
+        c,
+        b"committer",
+        bytes,
+        parts.committer_start,
+        parts.committer_end,
+    );
     let e = put_encoding(out, d, bytes, parts);
     let f = put_headers(out, e, bytes, headers);
-    put_byte(out, f, b'\n');
-    put(out, f + 1, &bytes[message..message_end]);
-    f + 1 + (message_end - message)
+    put_message(out, f, bytes, parts.message_start, parts.message_end)
 }
 
 // The number that refuses an encoding, or 0.

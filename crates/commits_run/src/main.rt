@@ -389,10 +389,17 @@ fn examine_with(
     whole(kept, read, s, h, &parents[0..n], &headers[0..m], room)
 }
 
+// The records that are lent; no object of the input has more parents or headers.
+const PARENTS: usize = 8;
+
+const HEADERS: usize = 8;
+
+const NUMBERS: usize = HEADERS * HEADER_WIDTH;
+
 // All calls, with so much room for parents, for numbers of headers, and for output.
 fn examine(s: &[u8], h: usize, np: usize, nh: usize, room: usize) -> Outcome {
-    let mut parents = [0usize; 8];
-    let mut headers = [0usize; 40];
+    let mut parents = [0usize; PARENTS];
+    let mut headers = [0usize; NUMBERS];
     let read = read_first(s, h, np, nh, &mut parents, &mut headers);
     examine_with(read, s, h, room, &parents, &headers)
 }
@@ -509,9 +516,15 @@ const ANYWHERE: usize = 5;
 // The first bytes of a buffer as an object, with eight bytes more of output than it needs.
 fn examine_first(bytes: &[u8], len: usize, h: usize) -> Outcome {
     if bytes.len() < len {
-        return examine(b"", h, 8, 40, 0);
+        return examine(b"", h, PARENTS, NUMBERS, 0);
     }
-    examine(&bytes[0..len], h, 8, 40, wrapping_add_usize(len, 8))
+    examine(
+        &bytes[0..len],
+        h,
+        PARENTS,
+        NUMBERS,
+        wrapping_add_usize(len, 8),
+    )
 }
 
 // ---- damage anywhere
@@ -871,10 +884,10 @@ fn middle_lines(read: CommitRead, s: &[u8], h: usize, parents: &[usize], headers
 }
 
 fn object(s: &[u8], h: usize) {
-    let mut parents = [0usize; 8];
-    let mut headers = [0usize; 40];
+    let mut parents = [0usize; PARENTS];
+    let mut headers = [0usize; NUMBERS];
     let read = commit_read::read_commit(s, h, &mut parents, &mut headers);
-    first_line(examine(s, h, 8, 40, ROOM));
+    first_line(examine(s, h, PARENTS, NUMBERS, ROOM));
     middle_lines(read, s, h, &parents, &headers);
     anywhere_line(anywhere(s, h));
 }

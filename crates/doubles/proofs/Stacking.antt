@@ -15,7 +15,7 @@ use Rattle.order.specs.Order.{nameOrder}
 use Rattle.order.specs.declared.Order.{Order}
 use Rattle.order.specs.declared.Order.the-variants.{Below, Same, Above}
 use Rattle.doubles.specs.Doubles.{shut, topIs}
-use Rattle.doubles.specs.Stack.{stackOf, keptOf, openAt, marksAt, isDouble, ifBelow, placeOf, marksOf}
+use Rattle.doubles.specs.Stack.{stackOf, keptOf, openAt, marksAt, isDouble, openOf, ifBelow, placeOf, marksOf}
 use Rattle.doubles.specs.declared.Placed.{Placed}
 use Rattle.doubles.specs.declared.Placed.the-variants.{Fine, NotAfter, Double}
 
@@ -124,6 +124,21 @@ module _ (a : List ℕ) (k len : ℕ) (folder : Bool) where
         let s : stackOf a k ≡ getD a (k - 1) 0 ∷ stackOf a (k - 1) = ap (stackOf a) q in
         rw (f, s)
 
+-- ---- an entry after one of whose name so much is shared
+
+-- what is answered, and the marks afterwards
+abbrev pub Opened : List ℕ → ℕ → ℕ → ℕ → Bool → ℕ → Bool → Placed → List ℕ → Type 0
+Opened a n p len was size folder r b = (r ≡ openOf a n p len was size folder) × (b ≡ marksAt a (min n (length a)) p len was)
+
+module _ (a : List ℕ) (n p len : ℕ) (was : Bool) (size : ℕ) (folder : Bool) (m k : ℕ) (b : List ℕ) (e : m ≡ min n (length a)) (d : Did a m p len was k b) where
+  pub opened-double : isDouble b k size folder ≡ true → Opened a n p len was size folder Double b
+  unfolding openOf
+  opened-double q = (rw (← e, ← (d .0), ← (d .1), q), rw (← e) (d .1))
+
+  pub opened-fine : isDouble b k size folder ≡ false → Opened a n p len was size folder (Fine k) b
+  unfolding openOf
+  opened-fine q = (rw (← e, ← (d .0), ← (d .1), q), rw (← e) (d .1))
+
 -- ---- an entry after one whose name is at hand
 
 -- what is answered, and the marks afterwards
@@ -150,12 +165,7 @@ module _ (a : List ℕ) (n : ℕ) (last : List ℕ) (was : Bool) (name : List �
       go Same v = refl
       go Above v = refl
 
-  module _ (o : nameOrder last was name folder ≡ Below) (m p k : ℕ) (b : List ℕ) (em : m ≡ min n (length a)) (ep : p ≡ commonStart last name)
-      (d : Did a m p (length last) was k b) where
-    pub went-double : isDouble b k (length name) folder ≡ true → Went a n last was name folder Double b
-    unfolding placeOf marksOf
-    went-double e = (rw (o, ← ep, ← em, ← (d .0), ← (d .1), e), rw (o, ← ep, ← em) (d .1))
-
-    pub went-fine : isDouble b k (length name) folder ≡ false → Went a n last was name folder (Fine k) b
-    unfolding placeOf marksOf
-    went-fine e = (rw (o, ← ep, ← em, ← (d .0), ← (d .1), e), rw (o, ← ep, ← em) (d .1))
+  pub went-below : nameOrder last was name folder ≡ Below → (p : ℕ) {r : Placed} {b : List ℕ} → p ≡ commonStart last name
+      → Opened a n p (length last) was (length name) folder r b → Went a n last was name folder r b
+  unfolding placeOf marksOf openOf
+  went-below o p e d = (rw (o, ← e) (d .0), rw (o, ← e) (d .1))

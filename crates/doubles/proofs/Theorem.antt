@@ -393,3 +393,9 @@ shut-fewer p (j ∷ ks) =
 pub held-few : (seen : List Entry) (e : Entry) → Ascends seen → (bytes room : ℕ) → nameBytes seen ≤ bytes → 2 * bytes < room * room + room → length (held (e ∷ seen)) ≤ room
 unfolding held
 held-few seen e h bytes room b r = omega (arith, shut-fewer (commonStart (lastName seen) (e .name)) (opened seen), opened-few seen h bytes room b r)
+
+-- and no more than the name before has bytes, and one
+pub held-within : (seen : List Entry) (e : Entry) → Ascends seen → length (held (e ∷ seen)) ≤ length (lastName seen) + 1
+unfolding held
+held-within seen e h =
+    omega (arith, shut-fewer (commonStart (lastName seen) (e .name)) (opened seen), steep-length (length (lastName seen) + 1) (opened seen) (opened-steep seen h))

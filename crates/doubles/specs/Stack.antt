@@ -40,6 +40,12 @@ ifBelow Below x y = x
 ifBelow Same x y = y
 ifBelow Above x y = y
 
+-- an entry of size bytes that stands after one of len bytes, of which it shares p: Double, or fine with so many names open
+unfoldable pub openOf : List ℕ → ℕ → ℕ → ℕ → Bool → ℕ → Bool → Placed
+openOf a n p len was size folder =
+    let m = min n (length a) in
+    pick (isDouble (marksAt a m p len was) (openAt a m p len was) size folder) Double (Fine (openAt a m p len was))
+
 -- an entry after one whose name is at hand
 unfoldable pub placeOf : List ℕ → ℕ → List ℕ → Bool → List ℕ → Bool → Placed
 placeOf a n last was name folder =

@@ -2,7 +2,7 @@
 ghost use mathlib.Core.Path.{_≡_};
 ghost use Prim.Native.Nat.{_≤_, min};
 ghost use lib.ListN.{length};
-ghost use Rattle.doubles.specs.Stack.{keptOf, openAt, marksAt, isDouble, placeOf, marksOf};
+ghost use Rattle.doubles.specs.Stack.{keptOf, openAt, marksAt, isDouble, openOf, placeOf, marksOf};
 use order::Order;
 use order::by_next;
 use scan::common_start;
@@ -73,7 +73,28 @@ fn shorter(a: usize, b: usize) -> usize
     if a < b { a } else { b }
 }
 
-// An entry after one whose name is at hand, by one walk along the two names. The marks keep the names that are open.
+// An entry of size bytes that stands after one of len bytes, of which it shares p. The marks keep the names that are open.
+pub fn open_entry(
+    marks: &mut [u32],
+    n: usize,
+    p: usize,
+    len: usize,
+    was: bool,
+    size: usize,
+    folder: bool,
+) -> Placed
+    ensures placed { λ r. ⌜ r ≡ openOf (now (marks .entry)) n p len was size folder ⌝ }
+    ensures marks { λ r. ⌜ now (marks .exit) ≡ marksAt (now (marks .entry)) (min n (length (now (marks .entry)))) p len was ⌝ }
+{
+    let m = shorter(n, marks.len());
+    let k = open_next(marks, m, p, len, was);
+    if is_double(marks, k, size, folder) {
+        return Placed::Double;
+    }
+    Placed::Fine(k)
+}
+
+// An entry after one whose name is at hand, by one walk along the two names.
 pub fn place_entry(
     marks: &mut [u32],
     n: usize,
@@ -87,14 +108,7 @@ pub fn place_entry(
 {
     let p = common_start(last, name);
     match by_next(last, was, name, folder, p) {
-        Order::Below => {
-            let m = shorter(n, marks.len());
-            let k = open_next(marks, m, p, last.len(), was);
-            if is_double(marks, k, name.len(), folder) {
-                return Placed::Double;
-            }
-            Placed::Fine(k)
-        }
+        Order::Below => open_entry(marks, n, p, last.len(), was, name.len(), folder),
         Order::Same => Placed::NotAfter,
         Order::Above => Placed::NotAfter,
     }

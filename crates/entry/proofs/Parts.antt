@@ -17,8 +17,10 @@ use Rattle.ground.proofs.Laws.{and-left, and-right, gate-shut, count-le, count-
 use Rattle.ground.specs.declared.Verdict.{Verdict}
 use Rattle.ground.specs.declared.Gate.{Gate}
 use Rattle.ground.specs.declared.Gate.the-variants.{Open, Shut}
-use Rattle.mode.specs.Read.{isOctal, octalFrom, hasSix, textLen, settle, modeOf, readMode}
-use Rattle.mode.proofs.Laws.{text-count, read-text, rest-end}
+use Rattle.mode.specs.Read.{modeOf, readMode}
+use Rattle.mode_text.specs.Read.{isOctal, octalFrom, hasSix, textLen, settle}
+use Rattle.mode.proofs.Laws.{read-text}
+use Rattle.mode_text.proofs.Laws.{text-count, rest-end}
 use Rattle.mode.specs.declared.EntryMode.{EntryMode}
 use Rattle.mode.specs.declared.ModeRead.{ModeRead}
 use Rattle.mode.specs.declared.ModeRead.the-variants.{Mode, Bad}

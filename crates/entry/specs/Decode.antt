@@ -46,6 +46,11 @@ decodeMode h at b Bad = brokenAt at 1
 unfoldable pub decode : ℕ → ℕ → List ℕ → Decoded
 decode h at b = decodeMode h at b (readMode b)
 
+-- the verdict of decoding: done where an entry was read
+abbrev pub decodedVerdict : Decoded → Verdict
+decodedVerdict (Whole e next) = fine
+decodedVerdict (Broken v) = v
+
 -- a step that found no entry
 abbrev pub noEntry : Verdict → Cursor → Step
 noEntry v next = record { verdict = v; found = false; entry = noRecord; next = next }

@@ -1,7 +1,7 @@
 -- A tree entry as Git has it, and the bytes of a listing as written (docs/FORMAT.md, "Entries"). Assumes nothing.
 use Prim.Native.Nat.{ℕ}
 use mathlib.Core.List.{List, [], _∷_, _++_, map}
-use Rattle.mode.specs.Write.{writeMode}
+use Rattle.mode_text.specs.Write.{writeMode}
 use Rattle.entry.specs.Record.{nameOf, idOf}
 use Rattle.entry.specs.declared.EntryRecord.{EntryRecord}
 

@@ -8,7 +8,8 @@ use lib.ListN.{length, drop}
 use Rattle.ground.specs.Scan.{freeOf}
 use Rattle.ground.specs.Verdict.{broken}
 use Rattle.ground.specs.declared.Verdict.{Verdict}
-use Rattle.mode.specs.Read.{isOctal, readMode}
+use Rattle.mode.specs.Read.{readMode}
+use Rattle.mode_text.specs.Read.{isOctal}
 use Rattle.mode.specs.declared.EntryMode.{EntryMode}
 use Rattle.mode.specs.declared.ModeRead.the-variants.{Mode, Bad}
 use Rattle.entry.specs.Decode.{brokenAt, decode, stepOf}

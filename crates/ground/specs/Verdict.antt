@@ -54,6 +54,11 @@ sizeGate bytes records = pick (leb bytes mostBytes && leb records mostRecords) O
 unfoldable pub gateOf : ℕ → ℕ → ℕ → Gate
 gateOf h bytes records = pick (idLength h) (sizeGate bytes records) (Shut (verdict 1 0))
 
+-- the verdict that a gate stands for: an open one is done
+abbrev pub gateVerdict : Gate → Verdict
+gateVerdict Open = fine
+gateVerdict (Shut v) = v
+
 -- what a lent buffer or list holds after a call with this verdict that writes l at its front: past l it stays, and after a refusal all of it stays
 unfoldable pub stored : Verdict → List ℕ → List ℕ → List ℕ
 stored v l lent = pick (eqb (v .number) 0) (l ++ drop (length l) lent) lent

@@ -42,13 +42,27 @@ pub const LF_IN_ENCODING: usize = 14;
 
 pub const NOT_THERE: usize = 15;
 
+pub const LONG_NAME: usize = 16;
+
 pub const SAME_NAME: usize = 17;
 
 pub const DOT_GIT: usize = 18;
 
 pub const RULE_SET: usize = 19;
 
+pub const BAD_TEXT: usize = 20;
+
 pub const NO_MODE_OR_KIND: usize = 23;
+
+pub const NOT_FRAMED: usize = 24;
+
+pub const ID_TWICE: usize = 25;
+
+pub const NO_PATH: usize = 26;
+
+pub const TOO_DEEP: usize = 27;
+
+pub const NO_TREE: usize = 28;
 
 // The parts of an entry that BROKEN_ENTRY tells apart.
 pub const NO_MODE: usize = 1;

@@ -1,6 +1,6 @@
 // Hex digits: the value of every byte in one table, digits in lower case, and the digit of a number (docs/FORMAT.md, "Hex").
 ghost use mathlib.Core.Path.{_≡_};
-ghost use Prim.Native.Nat.{_%_};
+ghost use Prim.Native.Nat.{_%_, _<_};
 ghost use Rattle.hex.specs.Hex.{hexValue, isHex, lowerDigit, digitOf};
 
 // The value of a byte that is no hex digit.
@@ -35,13 +35,25 @@ pub fn hex_digit(b: u8) -> u8
     DIGITS[row][column]
 }
 
-// Whether each byte is a hex digit.
+// A byte as a number.
+fn wide(b: u8) -> usize
+    ensures same { λ r. ⌜ r ≡ b ⌝ }
+    ensures small { λ r. ⌜ r < 256 ⌝ }
+{
+    b as usize
+}
+
+// Whether each byte is a hex digit. The table is laid out once, before the walk.
 pub fn is_hex(t: &[u8]) -> bool
     ensures { λ r. ⌜ r ≡ isHex (now (t .entry)) ⌝ }
 {
+    let digits = DIGITS;
     let mut i: usize = 0;
     while i < t.len() {
-        if hex_digit(t[i]) == 255 {
+        let b = wide(t[i]);
+        let row = b / 16;
+        let column = b % 16;
+        if digits[row][column] == 255 {
             return false;
         }
         i += 1;

@@ -5,21 +5,32 @@ use native.Mathlib.Numerals.{add-one}
 use native.Mathlib.Omega.{arith}
 use mathlib.Core.Path.{_≡_, refl, ap, sym, _∙_}
 use mathlib.Core.List.{List, [], _∷_, _++_}
+use lib.Dec.{eqb}
+use borrow.Author.Tests.{ne-eqb}
+use Rattle.ground.specs.Verdict.{idLength}
 use lib.ListN.{length, getD, take, drop, length-append, length-take, length-drop, drop-of-length-le}
 use lib.Seq.{sets, drop-cons, take-all, take-nil}
 use Rattle.ground.proofs.Laws.{sets-append, part-from}
 use Rattle.mode.specs.Mode.{kindOf}
-use Rattle.mode.specs.Write.{writeMode, modeText}
-use Rattle.mode.specs.Table.{shown, wordOf, writtenOf, rowAt, rows}
-use Rattle.mode.specs.declared.ShortText.{ShortText}
-use Rattle.mode.specs.declared.EntryKind.{EntryKind}
-use Rattle.mode.specs.declared.EntryKind.the-variants.{Tree, Blob, BlobExecutable, Link, Commit}
-use Rattle.mode.proofs.Laws.{mode-le, text-is}
+use Rattle.mode_text.specs.Write.{writeMode, modeText}
+use Rattle.mode.specs.Mode.{wordOf}
+use Rattle.mode_table.specs.Table.{writtenOf, rowAt, rows}
+use Rattle.mode_text.specs.Write.{shown}
+use Rattle.mode_text.specs.declared.ShortText.{ShortText}
+use Rattle.mode_table.specs.declared.EntryKind.{EntryKind}
+use Rattle.mode_table.specs.declared.EntryKind.the-variants.{Tree, Blob, BlobExecutable, Link, Commit}
+use Rattle.mode_text.proofs.Laws.{mode-le, text-is}
 use Rattle.entry.specs.Record.{many, noRecord, recordsOf, nameOf, idOf}
 use Rattle.entry.specs.declared.EntryRecord.{EntryRecord}
 use Rattle.entry.proofs.Laws.{records-many}
 use Rattle.listing_text.specs.Text.{space, lf, hexDigit, hexOf, modeWords, line, lines, partWords}
 use Rattle.listing_text.specs.Code.{Added}
+
+-- ---- the length of ids
+
+pub not-short : (h : ℕ) → (h ≡ 20 → ⊥) → eqb h 32 ≡ idLength h
+unfolding idLength
+not-short h n = rw (ne-eqb h 20 n) refl
 
 -- ---- one piece after another
 
@@ -127,33 +138,33 @@ name-le : (s : List ℕ) (e : EntryRecord) → length (nameOf s e) ≤ length s
 unfolding nameOf
 name-le s e = simp (length-take, length-drop) (omega arith)
 
-pub id-le : (s : List ℕ) (e : EntryRecord) → length (idOf 20 s e) ≤ 20
+pub id-le : (h : ℕ) (s : List ℕ) (e : EntryRecord) → length (idOf h s e) ≤ h
 unfolding idOf
-id-le s e = simp (length-take, length-drop) (omega arith)
+id-le h s e = simp (length-take, length-drop) (omega arith)
 
-pub line-most : (s : List ℕ) (e : EntryRecord) → length (line s e) ≤ 56 + length s
+pub line-most : (h : ℕ) (s : List ℕ) (e : EntryRecord) → length (line h s e) ≤ 16 + h * 2 + length s
 unfolding line
-line-most s e = simp length-append (omega (arith, mode-most (e .mode), hex-length (idOf 20 s e), id-le s e, name-le s e))
+line-most h s e = simp length-append (omega (arith, mode-most (e .mode), hex-length (idOf h s e), id-le h s e, name-le s e))
 
-pub line-said : (s : List ℕ) (e : EntryRecord) (id name : List ℕ) (n : ℕ) → n ≡ e .«name_end» - e .«name_start» → id ≡ take 20 (drop (e .«id_start») s)
-    → name ≡ take n (drop (e .«name_start») s) → modeWords (e .mode) ++ hexOf id ++ space ++ name ++ lf ≡ line s e
+pub line-said : (h : ℕ) (s : List ℕ) (e : EntryRecord) (id name : List ℕ) (n : ℕ) → n ≡ e .«name_end» - e .«name_start» → id ≡ take h (drop (e .«id_start») s)
+    → name ≡ take n (drop (e .«name_start») s) → modeWords (e .mode) ++ hexOf id ++ space ++ name ++ lf ≡ line h s e
 unfolding line nameOf idOf
-line-said s e id name n m x y = rw (x, y, m) refl
+line-said h s e id name n m x y = rw (x, y, m) refl
 
 -- ---- the lent records, one by one
 
-module _ (s records : List ℕ) (i : ℕ) where
+module _ (h : ℕ) (s records : List ℕ) (i : ℕ) where
   pub lines-more : i < many (length records)
-      → lines s (drop i (recordsOf records)) ≡ line s (getD (recordsOf records) i noRecord) ++ lines s (drop (i + 1) (recordsOf records))
+      → lines h s (drop i (recordsOf records)) ≡ line h s (getD (recordsOf records) i noRecord) ++ lines h s (drop (i + 1) (recordsOf records))
   unfolding lines
   lines-more p = rw (add-one i, drop-cons (recordsOf records) i noRecord (rw (records-many records) p)) refl
 
   pub lines-turn : {out now new whole : List ℕ} {at p q : ℕ} {e : EntryRecord} → i < many (length records) → e ≡ getD (recordsOf records) i noRecord
-      → Rest out at whole now p (lines s (drop i (recordsOf records))) → Added now p (line s e) new q
-      → Rest out at whole new q (lines s (drop (i + 1) (recordsOf records)))
-  lines-turn l k r a = rest-turn (lines s (drop (i + 1) (recordsOf records))) r (lines-more l ∙ rw k refl) a
+      → Rest out at whole now p (lines h s (drop i (recordsOf records))) → Added now p (line h s e) new q
+      → Rest out at whole new q (lines h s (drop (i + 1) (recordsOf records)))
+  lines-turn l k r a = rest-turn (lines h s (drop (i + 1) (recordsOf records))) r (lines-more l ∙ rw k refl) a
 
-  pub lines-end : many (length records) ≤ i → lines s (drop i (recordsOf records)) ≡ []
+  pub lines-end : many (length records) ≤ i → lines h s (drop i (recordsOf records)) ≡ []
   unfolding lines
   lines-end p = rw (drop-of-length-le (recordsOf records) {i = i} (rw (records-many records) p)) refl
 

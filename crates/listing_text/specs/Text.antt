@@ -1,13 +1,14 @@
--- What `listing` says of a tree object whose ids have 20 bytes (docs/FORMAT.md, "Examples"). Assumes nothing.
+-- What `listing` says of a tree object whose ids have `h` bytes (docs/FORMAT.md, "Examples"). Assumes nothing.
 use Prim.Native.Nat.{ℕ, _+_, _/_, _%_}
 use mathlib.Core.List.{List, [], _∷_, _++_}
 use lib.Dec.{leb, ltb}
 use lib.ListN.{length, getD}
 use Rattle.ground.specs.Basics.{pick, ascii}
-use Rattle.ground.specs.Verdict.{verdict, fine}
+use Rattle.ground.specs.Verdict.{verdict, fine, idLength}
 use Rattle.ground.specs.declared.Verdict.{Verdict}
-use Rattle.mode.specs.Write.{writeMode}
-use Rattle.mode.specs.Table.{shown, wordOf}
+use Rattle.mode_text.specs.Write.{writeMode}
+use Rattle.mode.specs.Mode.{wordOf}
+use Rattle.mode_text.specs.Write.{shown}
 use Rattle.entry.specs.Record.{nameOf, idOf}
 use Rattle.entry.specs.declared.EntryRecord.{EntryRecord}
 use Rattle.reading.specs.Listing.{listing, recordsIn, tally}
@@ -36,13 +37,13 @@ unfoldable pub modeWords : ℕ → List ℕ
 modeWords m = writeMode (m % 65536) ++ space ++ shown (wordOf (m % 65536)) ++ space
 
 -- an entry's line: mode text, word, id in hex, name
-unfoldable pub line : List ℕ → EntryRecord → List ℕ
-line s e = modeWords (e .mode) ++ hexOf (idOf 20 s e) ++ space ++ nameOf s e ++ lf
+unfoldable pub line : ℕ → List ℕ → EntryRecord → List ℕ
+line h s e = modeWords (e .mode) ++ hexOf (idOf h s e) ++ space ++ nameOf s e ++ lf
 
 -- the lines of entries, one after the other
-unfoldable pub lines : List ℕ → List EntryRecord → List ℕ
-lines s [] = []
-lines s (e ∷ es) = line s e ++ lines s es
+unfoldable pub lines : ℕ → List ℕ → List EntryRecord → List ℕ
+lines h s [] = []
+lines h s (e ∷ es) = line h s e ++ lines h s es
 
 -- the line before them
 unfoldable pub head : ℕ → List ℕ
@@ -62,18 +63,25 @@ abbrev pub longest : ℕ
 longest = 65536
 
 -- the text, and the verdict, of an object that was read
-unfoldable pub toldOf : List ℕ → List EntryRecord → Counted → List ℕ
-toldOf s es (Total n) = head n ++ lines s es
-toldOf s es (Stopped v) = refusal v
+unfoldable pub toldOf : ℕ → List ℕ → List EntryRecord → Counted → List ℕ
+toldOf h s es (Total n) = head n ++ lines h s es
+toldOf h s es (Stopped v) = refusal v
 
-unfoldable pub verdictOf : Counted → Verdict
-verdictOf (Total n) = fine
-verdictOf (Stopped v) = v
+unfoldable pub tallyVerdict : Counted → Verdict
+tallyVerdict (Total n) = fine
+tallyVerdict (Stopped v) = v
 
--- the whole text: a longer object is refused 2
-unfoldable pub text : List ℕ → List ℕ
-text s = pick (leb (length s) longest) (toldOf s (recordsIn (listing 20 s)) (tally 0 (listing 20 s))) (refusal (verdict 2 0))
+-- the whole text where ids have one of the two lengths: a longer object is refused 2
+unfoldable pub textOf : ℕ → List ℕ → List ℕ
+textOf h s = pick (leb (length s) longest) (toldOf h s (recordsIn (listing h s)) (tally 0 (listing h s))) (refusal (verdict 2 0))
+
+-- and of any: 1 comes first
+unfoldable pub text : ℕ → List ℕ → List ℕ
+text h s = pick (idLength h) (textOf h s) (refusal (verdict 1 0))
 
 -- its verdict, and how long the text is
-unfoldable pub listed : List ℕ → Listed
-listed s = record { verdict = pick (leb (length s) longest) (verdictOf (tally 0 (listing 20 s))) (verdict 2 0); len = length (text s) }
+unfoldable pub listedOf : ℕ → List ℕ → Listed
+listedOf h s = record { verdict = pick (leb (length s) longest) (tallyVerdict (tally 0 (listing h s))) (verdict 2 0); len = length (textOf h s) }
+
+unfoldable pub listed : ℕ → List ℕ → Listed
+listed h s = pick (idLength h) (listedOf h s) (record { verdict = verdict 1 0; len = length (refusal (verdict 1 0)) })

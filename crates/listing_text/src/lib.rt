@@ -1,11 +1,13 @@
-// The text of a listing, made from an object that is read plainly with ids of 20 bytes (docs/FORMAT.md, "Examples").
+// The text of a listing, made from an object that is read plainly, with ids of 20 or 32 bytes (docs/FORMAT.md, "Examples").
 ghost use mathlib.Core.Path.{_≡_};
+ghost use mathlib.Core.Bool.{true};
 ghost use Prim.Native.Nat.{_+_, _-_, _*_, _<_, _≤_};
 ghost use lib.ListN.{length, take, drop};
 ghost use lib.Seq.{sets};
+ghost use Rattle.ground.specs.Verdict.{idLength};
 ghost use Rattle.entry.specs.Record.{width, recordsOf};
 ghost use Rattle.loose_header.specs.Header.{decimal};
-ghost use Rattle.listing_text.specs.Text.{hexDigit, hexOf, modeWords, line, lines, head, refusal, partWords, longest, text, listed};
+ghost use Rattle.listing_text.specs.Text.{hexDigit, hexOf, modeWords, line, lines, head, refusal, partWords, longest, textOf, text, listedOf, listed};
 ghost use Rattle.listing_text.specs.Code.{Added, room};
 use entry::EntryRecord;
 use entry::WIDTH;
@@ -13,6 +15,7 @@ use entry::entry_at;
 use ground::BOUND;
 use ground::DONE;
 use ground::FINE;
+use ground::ID_LENGTH;
 use ground::Verdict;
 use mode::EntryMode;
 use output::put;
@@ -109,6 +112,16 @@ fn piece(s: &[u8], from: usize, n: usize) -> &[u8]
     &s[from..to]
 }
 
+// Whether ids can have so many bytes.
+fn is_id_length(h: usize) -> bool
+    ensures { λ r. ⌜ r ≡ idLength h ⌝ }
+{
+    if h == 20 {
+        return true;
+    }
+    h == 32
+}
+
 // How much more one number is than another.
 fn above(a: usize, b: usize) -> usize
     ensures { λ r. ⌜ r ≡ a - b ⌝ }
@@ -139,29 +152,29 @@ fn add_mode(out: &mut [u8], at: usize, mode: usize) -> usize
     add(out, u, b" ")
 }
 
-fn add_line(out: &mut [u8], at: usize, s: &[u8], e: EntryRecord) -> usize
-    requires { ⌜ (at ≤ 274877906944) × (length (now s) ≤ longest) ⌝ }
-    ensures { λ r. ⌜ Added (now (out .entry)) at (line (now (s .entry)) e) (now (out .exit)) r × (r ≤ at + 65600) ⌝ }
+fn add_line(out: &mut [u8], at: usize, h: usize, s: &[u8], e: EntryRecord) -> usize
+    requires { ⌜ (at ≤ 274877906944) × (h ≤ 32) × (length (now s) ≤ longest) ⌝ }
+    ensures { λ r. ⌜ Added (now (out .entry)) at (line h (now (s .entry)) e) (now (out .exit)) r × (r ≤ at + 65664) ⌝ }
 {
     let start = e.name_start;
     let n = above(e.name_end, start);
     let p = add_mode(out, at, e.mode);
-    let q = add_hex(out, p, piece(s, e.id_start, 20));
+    let q = add_hex(out, p, piece(s, e.id_start, h));
     let u = add(out, q, b" ");
     let w = add(out, u, piece(s, start, n));
     add(out, w, b"\n")
 }
 
 // The lines of all records.
-fn add_lines(out: &mut [u8], at: usize, s: &[u8], records: &[usize]) -> usize
-    requires { ⌜ (at ≤ 64) × (length (now s) ≤ longest) × (length (now records) ≤ room * width) ⌝ }
-    ensures { λ r. ⌜ Added (now (out .entry)) at (lines (now (s .entry)) (recordsOf (now (records .entry)))) (now (out .exit)) r ⌝ }
+fn add_lines(out: &mut [u8], at: usize, h: usize, s: &[u8], records: &[usize]) -> usize
+    requires { ⌜ (at ≤ 64) × (h ≤ 32) × (length (now s) ≤ longest) × (length (now records) ≤ room * width) ⌝ }
+    ensures { λ r. ⌜ Added (now (out .entry)) at (lines h (now (s .entry)) (recordsOf (now (records .entry)))) (now (out .exit)) r ⌝ }
 {
     let n = records.len() / WIDTH;
     let mut p = at;
     let mut i: usize = 0;
     while i < n {
-        p = add_line(out, p, s, entry_at(records, i));
+        p = add_line(out, p, h, s, entry_at(records, i));
         i += 1;
     }
     p
@@ -203,12 +216,12 @@ pub fn put_part(out: &mut [u8], part: usize) -> usize
 }
 
 // An object that is not too long, with room for its records.
-fn list_into(object: &[u8], records: &mut [usize], out: &mut [u8]) -> Listed
-    requires { ⌜ (length (now object) ≤ longest) × (length (now records) ≡ room * width) ⌝ }
-    ensures listed { λ r. ⌜ r ≡ listed (now (object .entry)) ⌝ }
-    ensures out { λ _. ⌜ now (out .exit) ≡ sets (now (out .entry)) 0 (text (now (object .entry))) ⌝ }
+fn list_into(object: &[u8], h: usize, records: &mut [usize], out: &mut [u8]) -> Listed
+    requires { ⌜ (idLength h ≡ true) × (length (now object) ≤ longest) × (length (now records) ≡ room * width) ⌝ }
+    ensures listed { λ r. ⌜ r ≡ listedOf h (now (object .entry)) ⌝ }
+    ensures out { λ _. ⌜ now (out .exit) ≡ sets (now (out .entry)) 0 (textOf h (now (object .entry))) ⌝ }
 {
-    let a = read_tree(object, 20, records);
+    let a = read_tree(object, h, records);
     let verdict = a.verdict;
     let number = verdict.number;
     if number != DONE {
@@ -218,30 +231,47 @@ fn list_into(object: &[u8], records: &mut [usize], out: &mut [u8]) -> Listed
     let n = a.count;
     let all = n * WIDTH;
     let at = add_head(out, n);
-    let len = add_lines(out, at, object, &records[..all]);
+    let len = add_lines(out, at, h, object, &records[..all]);
     Listed { verdict, len }
 }
 
 // An object that is not too long.
-fn list_short(object: &[u8], out: &mut [u8]) -> Listed
-    requires { ⌜ length (now object) ≤ longest ⌝ }
-    ensures listed { λ r. ⌜ r ≡ listed (now (object .entry)) ⌝ }
-    ensures out { λ _. ⌜ now (out .exit) ≡ sets (now (out .entry)) 0 (text (now (object .entry))) ⌝ }
+fn list_short(object: &[u8], h: usize, out: &mut [u8]) -> Listed
+    requires { ⌜ (idLength h ≡ true) × (length (now object) ≤ longest) ⌝ }
+    ensures listed { λ r. ⌜ r ≡ listedOf h (now (object .entry)) ⌝ }
+    ensures out { λ _. ⌜ now (out .exit) ≡ sets (now (out .entry)) 0 (textOf h (now (object .entry))) ⌝ }
 {
     let mut records = [0usize; ROOM * WIDTH];
-    list_into(object, &mut records, out)
+    list_into(object, h, &mut records, out)
 }
 
-// The text of an object's listing to the front of a lent output, as far as there is room.
-pub fn put_listing(object: &[u8], out: &mut [u8]) -> Listed
-    ensures listed { λ r. ⌜ r ≡ listed (now (object .entry)) ⌝ }
-    ensures out { λ _. ⌜ now (out .exit) ≡ sets (now (out .entry)) 0 (text (now (object .entry))) ⌝ }
+// An object of any length.
+fn list_any(object: &[u8], h: usize, out: &mut [u8]) -> Listed
+    requires { ⌜ idLength h ≡ true ⌝ }
+    ensures listed { λ r. ⌜ r ≡ listedOf h (now (object .entry)) ⌝ }
+    ensures out { λ _. ⌜ now (out .exit) ≡ sets (now (out .entry)) 0 (textOf h (now (object .entry))) ⌝ }
 {
     if object.len() <= LONGEST {
-        return list_short(object, out);
+        return list_short(object, h, out);
     }
     let verdict = Verdict {
         number: BOUND,
+        ..FINE
+    };
+    let len = add_refusal(out, verdict);
+    Listed { verdict, len }
+}
+
+// The text of an object's listing to the front of a lent output, as far as there is room.
+pub fn put_listing(object: &[u8], h: usize, out: &mut [u8]) -> Listed
+    ensures listed { λ r. ⌜ r ≡ listed h (now (object .entry)) ⌝ }
+    ensures out { λ _. ⌜ now (out .exit) ≡ sets (now (out .entry)) 0 (text h (now (object .entry))) ⌝ }
+{
+    if is_id_length(h) {
+        return list_any(object, h, out);
+    }
+    let verdict = Verdict {
+        number: ID_LENGTH,
         ..FINE
     };
     let len = add_refusal(out, verdict);

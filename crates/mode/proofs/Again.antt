@@ -9,11 +9,11 @@ use lib.ListN.{drop, length, getD}
 use borrow.Author.Tests.{eq-eqb, ne-eqb, le-leb, lt-ltb, eqb-true, eqb-false, ltb-true}
 use Rattle.ground.specs.Basics.{pick}
 use Rattle.mode.specs.Read.{octalFrom, hasSix, textLen, settle, readMode}
-use Rattle.mode.specs.Write.{sixDigits, trimmed, writeMode}
+use Rattle.mode_text.specs.Write.{sixDigits, trimmed, writeMode}
 use Rattle.mode.specs.declared.ModeRead.the-variants.{Mode}
-use Rattle.mode.specs.declared.Octal.the-variants.{Number}
+use Rattle.mode_text.specs.declared.Octal.the-variants.{Number}
 use Rattle.mode.proofs.Laws.{text-six, text-count, rest-more, read-number}
-unfoldable pub use Rattle.mode.specs.Write.{again}
+unfoldable pub use Rattle.mode_text.specs.Write.{again}
 
 -- ---- the digits of a mode say it again
 

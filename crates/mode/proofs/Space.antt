@@ -13,7 +13,7 @@ use Rattle.ground.specs.Scan.{countTo}
 use Rattle.ground.proofs.Laws.{and-left, count-is, count-at, count-take}
 use Rattle.mode.specs.Read.{octalFrom, textLen, hasSix, settle, readMode}
 use Rattle.mode.specs.declared.ModeRead.the-variants.{Mode}
-use Rattle.mode.specs.declared.Octal.the-variants.{Number, Other}
+use Rattle.mode_text.specs.declared.Octal.the-variants.{Number, Other}
 use Rattle.mode.proofs.Laws.{text-six, text-count, rest-more, read-parts}
 
 -- ---- digits that say a number: it has 16 bits, and none of them is a space

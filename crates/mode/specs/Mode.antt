@@ -1,14 +1,17 @@
 -- What the 16 bits of a mode stand for, and which 32-bit numbers are modes (docs/FORMAT.md, "Modes"). Assumes nothing.
 use Prim.Native.Nat.{ℕ, _/_, _%_, _*_}
-use mathlib.Core.Bool.{Bool, true, false, _||_}
+use mathlib.Core.Bool.{Bool, _||_}
 use lib.Dec.{eqb}
 use Rattle.ground.specs.Basics.{pick}
 use Rattle.ground.specs.Verdict.{verdict, fine}
 use Rattle.ground.specs.declared.Verdict.{Verdict}
+use Rattle.mode_text.specs.declared.ShortText.{ShortText}
+use Rattle.mode_table.specs.Table.{writtenOf}
 use Rattle.mode.specs.declared.EntryMode.{EntryMode}
-use Rattle.mode.specs.declared.EntryKind.{EntryKind}
-use Rattle.mode.specs.declared.EntryKind.the-variants.{Tree, Blob, BlobExecutable, Link, Commit}
+use Rattle.mode_table.specs.declared.EntryKind.{EntryKind}
+use Rattle.mode_table.specs.declared.EntryKind.the-variants.{Tree, Blob, BlobExecutable, Link, Commit}
 use Rattle.mode.specs.declared.ModeAnswer.{ModeAnswer}
+pub use Rattle.mode_table.specs.Kind.{isExecutable, isFileOrLink}
 
 -- the highest four of 16 bits, in their place
 abbrev pub topBits : ℕ → ℕ
@@ -32,25 +35,13 @@ kindOf m =
     pick (eqb (sortOf m) 0o100000) (pick (executes m) BlobExecutable Blob)
     (pick (eqb (sortOf m) 0o120000) Link (pick (eqb (sortOf m) 0o40000) Tree Commit))
 
+-- the word of a mode's kind
+unfoldable pub wordOf : ℕ → ShortText
+wordOf m = writtenOf (kindOf m) .word
+
 -- the sort is a tree's
 unfoldable pub isTree : ℕ → Bool
 isTree m = eqb (sortOf m) 0o40000
-
--- of the five kinds, only the executable file
-abbrev pub isExecutable : EntryKind → Bool
-isExecutable Tree = false
-isExecutable Blob = false
-isExecutable BlobExecutable = true
-isExecutable Link = false
-isExecutable Commit = false
-
--- of the five kinds, both files and the link
-abbrev pub isFileOrLink : EntryKind → Bool
-isFileOrLink Tree = false
-isFileOrLink Blob = true
-isFileOrLink BlobExecutable = true
-isFileOrLink Link = true
-isFileOrLink Commit = false
 
 -- a mode that is given, with number 0
 abbrev pub accepted : EntryMode → ModeAnswer

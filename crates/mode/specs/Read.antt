@@ -1,57 +1,33 @@
--- How the text of a mode is read (docs/FORMAT.md, "Modes"). Assumes nothing.
-use Prim.Native.Nat.{ℕ, _+_, _-_, _*_, _%_}
-use mathlib.Core.Bool.{Bool, _&&_, not}
-use mathlib.Core.List.{List, [], _∷_}
-use lib.ListN.{length, getD, take, drop}
-use lib.Dec.{eqb, ltb, leb}
-use Rattle.ground.specs.Basics.{pick}
-use Rattle.ground.specs.Scan.{countTo}
+-- How the text of a mode is read as a mode (docs/FORMAT.md, "Modes"). Assumes nothing.
+use Prim.Native.Nat.{ℕ, _+_}
+use mathlib.Core.List.{List}
+use lib.ListN.{length, drop}
 use Rattle.ground.specs.Verdict.{broken, sizeGate}
 use Rattle.ground.specs.declared.Gate.{Gate}
 use Rattle.ground.specs.declared.Gate.the-variants.{Open, Shut}
+use Rattle.mode_text.specs.Read.{textOf, readText}
+use Rattle.mode_text.specs.declared.TextRead.{TextRead}
+use Rattle.mode_text.specs.declared.TextRead.the-variants as text
+use Rattle.mode_text.specs.declared.Octal.{Octal}
 use Rattle.mode.specs.Mode.{accepted, rejected}
 use Rattle.mode.specs.declared.ModeAnswer.{ModeAnswer}
 use Rattle.mode.specs.declared.ModeRead.{ModeRead}
 use Rattle.mode.specs.declared.ModeRead.the-variants.{Mode, Bad}
-use Rattle.mode.specs.declared.Octal.{Octal}
-use Rattle.mode.specs.declared.Octal.the-variants.{Number, Other}
+unfoldable pub use Rattle.mode_text.specs.Read.{octalFrom, hasSix, textLen, settle, restAt}
+pub use Rattle.mode_text.specs.Read.{isOctal}
 
--- one of the bytes `0` to `7`
-abbrev pub isOctal : ℕ → Bool
-isOctal b = leb 48 b && leb b 55
+-- the 16 bits that a text says are a mode
+abbrev pub made : TextRead → ModeRead
+made (text.Bits m n) = Mode (record { internal = m }) n
+made text.Bad = Bad
 
--- the number that octal digits say after those already summed, of which 16 bits are kept; a byte that is no digit spoils it
-unfoldable pub octalFrom : ℕ → List ℕ → Octal
-octalFrom sum [] = Number sum
-octalFrom sum (b ∷ bs) = pick (isOctal b) (octalFrom ((sum * 8 + (b - 48)) % 0o200000) bs) Other
-
--- a space stands at byte 6 and none at byte 5
-unfoldable pub hasSix : List ℕ → Bool
-hasSix i = eqb (getD i 6 0) 32 && not (eqb (getD i 5 0) 32)
-
--- the text is then the first six bytes; otherwise it runs to the first space, or to the end where there is none
-unfoldable pub textLen : List ℕ → ℕ
-textLen i = pick (hasSix i) 6 (countTo 32 i)
-
--- 16384 from a text that begins with `0` is kept as 49152
-unfoldable pub settle : ℕ → ℕ → ℕ
-settle v first = pick (eqb v 16384 && eqb first 48) 49152 v
-
--- the rest begins behind the space; where no space ends the text, at byte 1
-unfoldable pub restAt : ℕ → ℕ → ℕ
-restAt n len = pick (ltb n len) (n + 1) 1
+-- the mode at the front of some bytes, and where the rest begins
+unfoldable pub readMode : List ℕ → ModeRead
+readMode i = made (readText i)
 
 -- a number from the digits makes a mode, with the text's first byte and the rest's place
 abbrev pub modeOf : ℕ → ℕ → Octal → ModeRead
-modeOf first rest (Number v) = Mode (record { internal = settle v first }) rest
-modeOf first rest Other = Bad
-
--- there is at least one byte, the text has at most seven, and all of those are octal digits
-unfoldable pub readMode : List ℕ → ModeRead
-readMode i =
-    pick (ltb 0 (length i) && leb (textLen i) 7)
-    (modeOf (getD i 0 0) (restAt (textLen i) (length i)) (octalFrom 0 (take (textLen i) i)))
-    Bad
+modeOf first rest o = made (textOf first rest o)
 
 -- the rest's place counted from further back
 abbrev pub moved : ℕ → ModeRead → ModeRead

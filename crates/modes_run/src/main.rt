@@ -2,11 +2,11 @@
 // A line for each of the 16 sorts: the sort in octal; how many of its 4,096 modes are of each kind, in the table's order; how many texts have
 // 1, 5 and 6 bytes; how many, read back, give the mode itself, the mode less 32768, and anything else; and a sum.
 use libc::STDOUT_FILENO;
-use mode::EntryKind;
 use mode::EntryMode;
 use mode::ModeAnswer;
 use mode::ModeRead;
-use mode::ShortText;
+use mode_table::EntryKind;
+use mode_text::ShortText;
 
 fn say(s: &[u8]) {
     io::write_all(STDOUT_FILENO, s);

@@ -11,7 +11,7 @@ use borrow.Author.Tests.{le-leb}
 use Rattle.ground.specs.Scan.{countTo, freeOf}
 use Rattle.ground.proofs.Laws.{count-free}
 use Rattle.mode.specs.Read.{readMode}
-use Rattle.mode.specs.Write.{writeMode, again}
+use Rattle.mode_text.specs.Write.{writeMode, again}
 use Rattle.mode.proofs.Again.{written-reads}
 use Rattle.entry.specs.Record.{nameOf, idOf}
 use Rattle.entry.specs.Entry.{Entry, entryBytes, asWritten, entryOf, entriesOf}

@@ -14,10 +14,10 @@ use Rattle.ground.specs.Scan.{countTo, sameBytes}
 use Rattle.ground.specs.Verdict.{verdict}
 use Rattle.ground.proofs.Laws.{same-refl, same-true, count-is}
 use Rattle.mode.specs.Read.{readMode}
-use Rattle.mode.specs.Table.{shown}
-use Rattle.mode.specs.Write.{writeMode, again}
+use Rattle.mode_text.specs.Write.{shown}
+use Rattle.mode_text.specs.Write.{writeMode, again}
 use Rattle.mode.specs.declared.EntryMode.{EntryMode}
-use Rattle.mode.specs.declared.Written.{Written}
+use Rattle.mode_table.specs.declared.Written.{Written}
 use Rattle.mode.specs.declared.ModeRead.the-variants.{Mode}
 use Rattle.mode.proofs.Again.{written-reads}
 use Rattle.mode.proofs.Space.{mode-space}

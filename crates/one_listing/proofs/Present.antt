@@ -10,8 +10,8 @@ use borrow.Author.Tests.{eqb-true}
 use Rattle.ground.specs.Basics.{pick, ascii}
 use Rattle.ground.specs.Scan.{sameBytes}
 use Rattle.ground.proofs.Laws.{is-false, same-refl, same-true}
-use Rattle.mode.specs.Table.{rows}
-use Rattle.mode.specs.Write.{writeMode, trimmed, again}
+use Rattle.mode_table.specs.Table.{rows}
+use Rattle.mode_text.specs.Write.{writeMode, trimmed, again}
 use Rattle.order.specs.declared.Order.{Order}
 use Rattle.order.specs.declared.Order.the-variants.{Below, Same, Above}
 use Rattle.entry.specs.Entry.{Entry}

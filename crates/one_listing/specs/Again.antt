@@ -1,5 +1,5 @@
 -- What is read where an entry was written. Assumes nothing.
-use Rattle.mode.specs.Write.{again}
+use Rattle.mode_text.specs.Write.{again}
 use Rattle.entry.specs.Entry.{Entry}
 
 -- the same name and id, and the mode that the written text reads as

@@ -4,9 +4,9 @@ use mathlib.Core.Path.{_≡_}
 use mathlib.Core.Bool.{true}
 use mathlib.Core.List.{List, [], _∷_}
 use Rattle.ground.specs.Scan.{freeOf}
-use Rattle.mode.specs.Table.{shown}
-use Rattle.mode.specs.Write.{writeMode, again}
-use Rattle.mode.specs.declared.Written.{Written}
+use Rattle.mode_text.specs.Write.{shown}
+use Rattle.mode_text.specs.Write.{writeMode, again}
+use Rattle.mode_table.specs.declared.Written.{Written}
 use Rattle.entry.specs.Entry.{Entry}
 use Rattle.rules.specs.Rules.{Rules}
 use Rattle.one_listing.specs.Sound.{Before}

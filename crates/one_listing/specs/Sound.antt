@@ -9,7 +9,7 @@ use lib.ListN.{length}
 use Rattle.ground.specs.Basics.{ascii}
 use Rattle.ground.specs.Scan.{freeOf}
 use Rattle.mode.specs.Mode.{isTree}
-use Rattle.mode.specs.declared.Written.{Written}
+use Rattle.mode_table.specs.declared.Written.{Written}
 use Rattle.order.specs.Order.{nameOrder}
 use Rattle.order.specs.declared.Order.the-variants.{Below}
 use Rattle.entry.specs.Entry.{Entry}

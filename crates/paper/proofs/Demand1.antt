@@ -3,11 +3,15 @@ use Rattle.paper.specs.Demand1.{FirstDemand}
 use Rattle.paper.proofs.Modes as modes
 use Rattle.paper.proofs.Entries as entries
 use Rattle.paper.proofs.Reading as reading
+use Rattle.paper.proofs.Edits as edits
+use Rattle.paper.proofs.Mending as mending
 use Rattle.paper.proofs.Lookup as lookup
 use Rattle.paper.proofs.Writing as writing
 use Rattle.paper.proofs.Hex as hex
+use Rattle.paper.proofs.Text as text
 use Rattle.paper.proofs.Commits as commits
 use Rattle.paper.proofs.CommitWriting as commit-writing
+use Rattle.paper.proofs.Bundles as bundles
 use Rattle.paper.proofs.Border as border
 use Rattle.paper.proofs.Places as places
 
@@ -17,11 +21,16 @@ first-demand = record {
   of-modes = modes.of-modes;
   of-entries = entries.of-entries;
   of-reading = reading.of-reading;
+  of-edits = edits.of-edits;
+  of-mending = mending.of-mending;
+  of-leaves = mending.of-leaves;
   of-lookup = lookup.of-lookup;
   of-writing = writing.of-writing;
   of-hex = hex.of-hex;
+  of-text = text.of-text;
   of-commits = commits.of-commits;
   of-commit-writing = commit-writing.of-commit-writing;
+  of-bundles = bundles.of-bundles;
   of-border = border.of-border;
   places = places.places;
 }

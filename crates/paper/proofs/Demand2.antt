@@ -12,6 +12,11 @@ use Rattle.mode.proofs.Again.{again-same, written-reads}
 use Rattle.tree_round.proofs.Writing.{reads-back}
 use Rattle.actor.proofs.Form.{actor-exactly}
 use Rattle.commit_grammar.proofs.Theorems.{read-is-commit, commit-is-read}
+use Rattle.commit_grammar.proofs.Refused.{refused-commits}
+use Rattle.commit_grammar.proofs.Unfolded.{folded-exactly, unfolds-to-lines}
+use Rattle.commit_round.proofs.Folding.{fold-line, fold-lines, fold-gains, fold-unfolds, unfolded-folds}
+use Rattle.commit_round.proofs.Itself.{accepted-rewrites}
+use Rattle.commit_round.proofs.Back as back
 use Rattle.paper.specs.Demand2.{SecondDemand}
 use Rattle.paper.proofs.Octal.{by-places}
 use Rattle.paper.proofs.Documented.{documented}
@@ -47,5 +52,17 @@ second-demand = record {
     actor-exactly = actor-exactly;
     read-is-commit = read-is-commit;
     commit-is-read = λ h c ps hs k id bytes np nh rp rh. let r = commit-is-read h c ps hs k id bytes np nh rp rh in (r .0, r .3);
+    refused-commits = refused-commits;
+    folded-exactly = folded-exactly;
+    unfolds-to-lines = unfolds-to-lines;
+  };
+  of-commit-writing = record {
+    reads-back = back.reads-back;
+    accepted-rewrites = accepted-rewrites;
+    fold-line = fold-line;
+    fold-lines = fold-lines;
+    fold-gains = fold-gains;
+    fold-unfolds = fold-unfolds;
+    unfolded-folds = unfolded-folds;
   };
 }

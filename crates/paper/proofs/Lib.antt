@@ -3,11 +3,15 @@ pub mod Modes
 pub mod Entries
 pub mod Placed
 pub mod Reading
+pub mod Edits
 pub mod Lookup
 pub mod Writing
 pub mod Hex
+pub mod Text
 pub mod Commits
 pub mod CommitWriting
+pub mod Bundles
+pub mod Mending
 pub mod Border
 pub mod Places
 pub mod Demand1
@@ -18,6 +22,6 @@ pub mod Stepping
 pub mod Demand2
 pub mod Demand3
 pub mod Rewriting
-pub mod Bounds
-pub mod Texts
 pub mod Many
+pub mod Arrives
+pub mod Editing

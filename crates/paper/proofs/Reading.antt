@@ -109,6 +109,7 @@ of-reading = record {
   rule-bounds = keeps-reads _ (λ i. tt) _ _ _ (λ i o m. m) (λ i. rule-gate-fits _ _ _ _);
   rule-questions = ((λ i. tt), (λ i o p. same)) and ((λ i. tt), (λ i o p. same)) and none;
   place-entry = keeps-stores _ (λ i. tt) _ _ _ _ (λ i o m. m);
+  open-entry = keeps-stores _ (λ i. tt) _ _ _ _ (λ i o m. m);
   finish-reading = keeps-stores _ (λ i. tt) _ _ _ _ (λ i o m. m);
   read-tree = keeps-writes _ (λ i. tt) _ _ _ _ _ _ (λ i o m. m) (λ i. wider (plain-fits _ (now (i .args .0)) (now (i .args .1 .1 .0))) refl) (λ i z. stored-refused _ _ _ z);
   read-tree-strict = keeps-writes _ (λ i. tt) _ _ _ _ _ _ (λ i o m. m) (λ i. wider (strict-fits _ _ (now (i .args .0)) (now (i .args .1 .1 .1 .0))) refl) (λ i z. stored-refused _ _ _ z);

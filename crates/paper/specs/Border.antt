@@ -1,7 +1,7 @@
 -- The public calls under C names (include/sarpukten.h). Each hands its answer over in numbers that the caller lends for that alone, number, place
 -- and part first, and returns the number; what else it is lent is as with the call that it stands for. Assumes nothing.
 use Prim.Native.Nat.{ℕ}
-use mathlib.Core.List.{List, [], _∷_}
+use mathlib.Core.List.{List, [], _∷_, _++_}
 use lib.ListN.{getD, drop}
 use denote.Ref.{now}
 use Rattle.ground.specs.declared.Verdict.{Verdict}
@@ -11,9 +11,13 @@ use Rattle.border_mode.proofs as bm
 use Rattle.border_tree.proofs as bt
 use Rattle.border_lookup.proofs as bl
 use Rattle.border_hex.proofs as bh
+use Rattle.border_text.proofs as bx
+use Rattle.border_edit.proofs as be
+use Rattle.border_mend.proofs as bmd
 use Rattle.border_tree_write.proofs as btw
 use Rattle.border_commit.proofs as bc
 use Rattle.border_commit_write.proofs as bcw
+use Rattle.border_bundle.proofs as bb
 use Rattle.sarpukten.proofs as c
 use Rattle.paper.specs.Call.{Call, call, Input, Outcome, Said, Deed}
 use Rattle.paper.specs.Calls.{stores}
@@ -114,6 +118,47 @@ idOfHex = hands (call c.sarpukten_id_of_hex.Kinds.ps c.sarpukten_id_of_hex.Kinds
 abbrev pub hexOfId : Deed
 hexOfId = hands (call c.sarpukten_hex_of_id.Kinds.ps c.sarpukten_hex_of_id.Kinds.r c.sarpukten_hex_of_id.Reads.Asked c.sarpukten_hex_of_id.Reads.Post) (λ i o. now (o .last .1 .1 .0)) saidIn (λ i. now (i .args .1 .0) ∷ []) (λ i o. now (o .last .1 .0) ∷ [])
 
+-- ---- trees as text
+
+abbrev pub exportTree : Deed
+exportTree = hands (call c.sarpukten_export_tree.Kinds.ps c.sarpukten_export_tree.Kinds.r c.sarpukten_export_tree.Reads.Asked c.sarpukten_export_tree.Reads.Post) (λ i o. now (o .last .1 .1 .1 .1 .0)) saidIn (λ i. now (i .args .1 .1 .1 .0) ∷ [])
+    (λ i o. now (o .last .1 .1 .1 .0) ∷ [])
+
+-- ---- bundles and paths
+
+abbrev pub checkBundle : Deed
+checkBundle = hands (call c.sarpukten_check_bundle.Kinds.ps c.sarpukten_check_bundle.Kinds.r c.sarpukten_check_bundle.Reads.Asked c.sarpukten_check_bundle.Reads.Post) (λ i o. now (o .last .1 .0)) saidIn (λ i. []) (λ i o. [])
+
+abbrev pub bundleObject : Deed
+bundleObject = hands (call c.sarpukten_bundle_object.Kinds.ps c.sarpukten_bundle_object.Kinds.r c.sarpukten_bundle_object.Reads.Asked c.sarpukten_bundle_object.Reads.Post) (λ i o. now (o .last .1 .1 .0)) saidIn (λ i. []) (λ i o. [])
+
+-- the id, lent for the answer too, follows the numbers
+abbrev pub followPath : Deed
+followPath =
+    hands (call c.sarpukten_follow_path.Kinds.ps c.sarpukten_follow_path.Kinds.r c.sarpukten_follow_path.Reads.Asked c.sarpukten_follow_path.Reads.Post)
+    (λ i o. now (o .last .1 .1 .1 .0) ++ now (o .last .1 .1 .1 .1 .0)) saidIn (λ i. []) (λ i o. [])
+
+-- ---- edits
+
+abbrev pub putInTree : Deed
+putInTree =
+    hands (call c.sarpukten_put_in_tree.Kinds.ps c.sarpukten_put_in_tree.Kinds.r c.sarpukten_put_in_tree.Reads.Asked c.sarpukten_put_in_tree.Reads.Post)
+    (λ i o. now (o .last .1 .1 .1 .1 .1 .1 .1 .0)) saidIn (λ i. now (i .args .1 .1 .1 .1 .1 .1 .0) ∷ []) (λ i o. now (o .last .1 .1 .1 .1 .1 .1 .0) ∷ [])
+
+abbrev pub removeFromTree : Deed
+removeFromTree =
+    hands
+    (call c.sarpukten_remove_from_tree.Kinds.ps c.sarpukten_remove_from_tree.Kinds.r c.sarpukten_remove_from_tree.Reads.Asked c.sarpukten_remove_from_tree.Reads.Post)
+    (λ i o. now (o .last .1 .1 .1 .1 .1 .0)) saidIn (λ i. now (i .args .1 .1 .1 .1 .0) ∷ []) (λ i o. now (o .last .1 .1 .1 .1 .0) ∷ [])
+
+-- ---- mending
+
+abbrev pub mendTree : Deed
+mendTree =
+    hands (call c.sarpukten_mend_tree.Kinds.ps c.sarpukten_mend_tree.Kinds.r c.sarpukten_mend_tree.Reads.Asked c.sarpukten_mend_tree.Reads.Post)
+    (λ i o. now (o .last .1 .1 .1 .1 .0)) saidIn (λ i. now (i .args .1 .1 .0) ∷ now (i .args .1 .1 .1 .0) ∷ [])
+    (λ i o. now (o .last .1 .1 .0) ∷ now (o .last .1 .1 .1 .0) ∷ [])
+
 -- ---- those that only answer
 
 abbrev pub questions : List Call
@@ -152,6 +197,13 @@ named =
     ∷ call c.sarpukten_bisect_entries.Kinds.ps c.sarpukten_bisect_entries.Kinds.r c.sarpukten_bisect_entries.Reads.Asked c.sarpukten_bisect_entries.Reads.Post
     ∷ call c.sarpukten_id_of_hex.Kinds.ps c.sarpukten_id_of_hex.Kinds.r c.sarpukten_id_of_hex.Reads.Asked c.sarpukten_id_of_hex.Reads.Post
     ∷ call c.sarpukten_hex_of_id.Kinds.ps c.sarpukten_hex_of_id.Kinds.r c.sarpukten_hex_of_id.Reads.Asked c.sarpukten_hex_of_id.Reads.Post
+    ∷ call c.sarpukten_export_tree.Kinds.ps c.sarpukten_export_tree.Kinds.r c.sarpukten_export_tree.Reads.Asked c.sarpukten_export_tree.Reads.Post
+    ∷ call c.sarpukten_check_bundle.Kinds.ps c.sarpukten_check_bundle.Kinds.r c.sarpukten_check_bundle.Reads.Asked c.sarpukten_check_bundle.Reads.Post
+    ∷ call c.sarpukten_bundle_object.Kinds.ps c.sarpukten_bundle_object.Kinds.r c.sarpukten_bundle_object.Reads.Asked c.sarpukten_bundle_object.Reads.Post
+    ∷ call c.sarpukten_follow_path.Kinds.ps c.sarpukten_follow_path.Kinds.r c.sarpukten_follow_path.Reads.Asked c.sarpukten_follow_path.Reads.Post
+    ∷ call c.sarpukten_put_in_tree.Kinds.ps c.sarpukten_put_in_tree.Kinds.r c.sarpukten_put_in_tree.Reads.Asked c.sarpukten_put_in_tree.Reads.Post
+    ∷ call c.sarpukten_remove_from_tree.Kinds.ps c.sarpukten_remove_from_tree.Kinds.r c.sarpukten_remove_from_tree.Reads.Asked c.sarpukten_remove_from_tree.Reads.Post
+    ∷ call c.sarpukten_mend_tree.Kinds.ps c.sarpukten_mend_tree.Kinds.r c.sarpukten_mend_tree.Reads.Asked c.sarpukten_mend_tree.Reads.Post
     ∷ []
 
 abbrev pub behind : List Call
@@ -180,4 +232,11 @@ behind =
     ∷ call bl.bisect_entries.Kinds.ps bl.bisect_entries.Kinds.r bl.bisect_entries.Reads.Asked bl.bisect_entries.Reads.Post
     ∷ call bh.id_of_hex.Kinds.ps bh.id_of_hex.Kinds.r bh.id_of_hex.Reads.Asked bh.id_of_hex.Reads.Post
     ∷ call bh.hex_of_id.Kinds.ps bh.hex_of_id.Kinds.r bh.hex_of_id.Reads.Asked bh.hex_of_id.Reads.Post
+    ∷ call bx.export_tree.Kinds.ps bx.export_tree.Kinds.r bx.export_tree.Reads.Asked bx.export_tree.Reads.Post
+    ∷ call bb.check_bundle.Kinds.ps bb.check_bundle.Kinds.r bb.check_bundle.Reads.Asked bb.check_bundle.Reads.Post
+    ∷ call bb.bundle_object.Kinds.ps bb.bundle_object.Kinds.r bb.bundle_object.Reads.Asked bb.bundle_object.Reads.Post
+    ∷ call bb.follow_path.Kinds.ps bb.follow_path.Kinds.r bb.follow_path.Reads.Asked bb.follow_path.Reads.Post
+    ∷ call be.put_in_tree.Kinds.ps be.put_in_tree.Kinds.r be.put_in_tree.Reads.Asked be.put_in_tree.Reads.Post
+    ∷ call be.remove_from_tree.Kinds.ps be.remove_from_tree.Kinds.r be.remove_from_tree.Reads.Asked be.remove_from_tree.Reads.Post
+    ∷ call bmd.mend_tree.Kinds.ps bmd.mend_tree.Kinds.r bmd.mend_tree.Reads.Asked bmd.mend_tree.Reads.Post
     ∷ []

@@ -3,25 +3,29 @@ use Prim.Native.Nat.{ℕ}
 use mathlib.Core.List.{List, [], _∷_}
 use denote.Ref.{now}
 use Rattle.ground.specs.Basics.{pick}
-use Rattle.ground.specs.Verdict.{fine}
+use Rattle.ground.specs.Verdict.{fine, gateVerdict}
 use Rattle.ground.specs.declared.Verdict.{Verdict}
 use Rattle.ground.specs.declared.Answer.{Answer}
 use Rattle.ground.specs.declared.Gate.{Gate}
-use Rattle.ground.specs.declared.Gate.the-variants.{Open, Shut}
 use Rattle.mode.specs.declared.ModeAnswer.{ModeAnswer}
 use Rattle.entry.specs.Record.{flat}
+use Rattle.entry.specs.Decode.{decodedVerdict}
 use Rattle.entry.specs.declared.Decoded.{Decoded}
 use Rattle.entry.specs.declared.Decoded.the-variants.{Whole, Broken}
 use Rattle.entry.specs.declared.Step.{Step}
+use Rattle.reading.specs.declared.Counted.{Counted}
+use Rattle.reading.specs.declared.Counted.the-variants.{Total, Stopped}
 use Rattle.lookup.specs.declared.Looked.{Looked}
 use Rattle.header.specs.declared.CommitParts.{CommitParts}
 use Rattle.commit_read.specs.declared.CommitRead.{CommitRead}
 use Rattle.ground.proofs as ground
 use Rattle.scan.proofs as scan
 use Rattle.output.proofs as output
-use Rattle.mode.proofs as modes
+use Rattle.mode_text.proofs as mode-text
+use Rattle.mode_table.proofs as modes
+use Rattle.mode_table.proofs.EntryKind as kinds
 use Rattle.mode.proofs.EntryMode as mode
-use Rattle.front.proofs as front
+use Rattle.mode_code.proofs as mode-code
 use Rattle.order.proofs as order
 use Rattle.entry.proofs as entry
 use Rattle.doubles.proofs as doubles
@@ -29,6 +33,13 @@ use Rattle.rules.proofs as rules
 use Rattle.reading.proofs as reading
 use Rattle.strict.proofs as strict
 use Rattle.lookup.proofs as lookup
+use Rattle.edit_walk.proofs as editWalk
+use Rattle.edit.proofs as edit
+use Rattle.fate.proofs as fate
+use Rattle.mend.proofs as mend
+use Rattle.words.proofs as words
+use Rattle.piece_judge.proofs as pieceJudge
+use Rattle.piece_step.proofs as pieceStep
 use Rattle.record_slice.proofs as slice
 use Rattle.lookups.proofs as lookups
 use Rattle.tree_write.proofs as tree
@@ -37,11 +48,28 @@ use Rattle.actor.proofs as actor
 use Rattle.hex.proofs as hex
 use Rattle.id_of_hex.proofs as idOf
 use Rattle.hex_of_id.proofs as hexOf
+use Rattle.tree_text.proofs as treeText
+use Rattle.text_form.proofs as textForm
+use Rattle.tree_export.proofs as export
 use Rattle.header.proofs as header
 use Rattle.unfold.proofs as folded
 use Rattle.commit_read.proofs as commit
 use Rattle.commit_check.proofs as check
 use Rattle.commit_write.proofs as written
+use Rattle.bundle.specs.declared.Opening.{Opening}
+use Rattle.bundle.specs.declared.Opening.the-variants as opening
+use Rattle.bundle.specs.declared.Checked.{Checked}
+use Rattle.path.specs.declared.Followed.{Followed}
+use Rattle.keys.proofs as keys
+use Rattle.sorting.proofs as sorting
+use Rattle.frame.proofs as frame
+use Rattle.twice.proofs as twice
+use Rattle.bundle.proofs as bundle
+use Rattle.component.proofs as component
+use Rattle.path.proofs as path
+use Rattle.border_bundle.specs.declared.Object.{Object}
+use Rattle.border_bundle.proofs as bb
+use Rattle.mend.specs.declared.Mended.{Mended}
 use Rattle.paper.specs.Call.{Call, call, Input, Outcome, Answered, Said, Deed}
 use Rattle.paper.specs.Walked.{Walked}
 
@@ -57,15 +85,13 @@ ofAnswer a = record { verdict = a .verdict; counts = a .count ∷ [] }
 abbrev pub ofMode : ModeAnswer → Said
 ofMode a = record { verdict = a .verdict; counts = a .mode .internal ∷ [] }
 
--- an open gate is 0
 abbrev pub ofGate : Gate → Said
-ofGate Open = ofVerdict fine
-ofGate (Shut v) = ofVerdict v
+ofGate g = ofVerdict (gateVerdict g)
 
--- an entry that was read is 0
+-- the record of an entry that was read
 abbrev pub ofDecoded : Decoded → Said
-ofDecoded (Whole e next) = record { verdict = fine; counts = flat e }
-ofDecoded (Broken v) = ofVerdict v
+ofDecoded (Whole e next) = record { verdict = decodedVerdict (Whole e next); counts = flat e }
+ofDecoded (Broken v) = ofVerdict (decodedVerdict (Broken v))
 
 -- whether an entry was found, and its record
 abbrev pub ofStep : Step → Said
@@ -155,10 +181,14 @@ modeQuestions =
     ∷ call mode.is_blob.Kinds.ps mode.is_blob.Kinds.r mode.is_blob.Reads.Asked mode.is_blob.Reads.Post
     ∷ call mode.is_executable.Kinds.ps mode.is_executable.Kinds.r mode.is_executable.Reads.Asked mode.is_executable.Reads.Post
     ∷ call mode.is_blob_or_symlink.Kinds.ps mode.is_blob_or_symlink.Kinds.r mode.is_blob_or_symlink.Reads.Asked mode.is_blob_or_symlink.Reads.Post
+    ∷ call mode-text.text_of.Kinds.ps mode-text.text_of.Kinds.r mode-text.text_of.Reads.Asked mode-text.text_of.Reads.Post
+    ∷ call mode-text.read_at.Kinds.ps mode-text.read_at.Kinds.r mode-text.read_at.Reads.Asked mode-text.read_at.Reads.Post
+    ∷ call kinds.is_executable.Kinds.ps kinds.is_executable.Kinds.r kinds.is_executable.Reads.Asked kinds.is_executable.Reads.Post
+    ∷ call kinds.is_file_or_link.Kinds.ps kinds.is_file_or_link.Kinds.r kinds.is_file_or_link.Reads.Asked kinds.is_file_or_link.Reads.Post
     ∷ call modes.written_of.Kinds.ps modes.written_of.Kinds.r modes.written_of.Reads.Asked modes.written_of.Reads.Post
     ∷ call modes.written_mode.Kinds.ps modes.written_mode.Kinds.r modes.written_mode.Reads.Asked modes.written_mode.Reads.Post
-    ∷ call front.code_at.Kinds.ps front.code_at.Kinds.r front.code_at.Reads.Asked front.code_at.Reads.Post
-    ∷ call front.quick_code.Kinds.ps front.quick_code.Kinds.r front.quick_code.Reads.Asked front.quick_code.Reads.Post
+    ∷ call mode-code.code_at.Kinds.ps mode-code.code_at.Kinds.r mode-code.code_at.Reads.Asked mode-code.code_at.Reads.Post
+    ∷ call mode-code.quick_code.Kinds.ps mode-code.quick_code.Kinds.r mode-code.quick_code.Reads.Asked mode-code.quick_code.Reads.Post
     ∷ []
 
 -- ---- order
@@ -202,6 +232,9 @@ ruleQuestions =
 abbrev pub placeEntry : Deed
 placeEntry = stores (call doubles.place_entry.Kinds.ps doubles.place_entry.Kinds.r doubles.place_entry.Reads.Asked doubles.place_entry.Reads.Post) (λ i. now (i .args .0)) (λ i o. now (o .last .0))
 
+abbrev pub openEntry : Deed
+openEntry = stores (call doubles.open_entry.Kinds.ps doubles.open_entry.Kinds.r doubles.open_entry.Reads.Asked doubles.open_entry.Reads.Post) (λ i. now (i .args .0)) (λ i o. now (o .last .0))
+
 abbrev pub finishReading : Deed
 finishReading = stores (call reading.finish.Kinds.ps reading.finish.Kinds.r reading.finish.Reads.Asked reading.finish.Reads.Post) (λ i. now (i .args .1 .1 .1 .0)) (λ i o. now (o .last .1 .1 .1 .0))
 
@@ -210,6 +243,31 @@ readTree = writes (call reading.read_tree.Kinds.ps reading.read_tree.Kinds.r rea
 
 abbrev pub readTreeStrict : Deed
 readTreeStrict = writes (call strict.read_tree_strict.Kinds.ps strict.read_tree_strict.Kinds.r strict.read_tree_strict.Reads.Asked strict.read_tree_strict.Reads.Post) (λ i x. x) (λ i. now (i .args .1 .1 .1 .0)) (λ i o. now (o .last .1 .1 .1 .0))
+
+-- ---- edits
+
+-- a count of entries is 0
+abbrev pub ofCounted : Counted → Said
+ofCounted (Total n) = record { verdict = fine; counts = n ∷ [] }
+ofCounted (Stopped v) = record { verdict = v; counts = [] }
+
+abbrev pub countStrict : Deed
+countStrict = reads (call strict.strict_count.Kinds.ps strict.strict_count.Kinds.r strict.strict_count.Reads.Asked strict.strict_count.Reads.Post) (λ i x. ofCounted x)
+
+abbrev pub walkTree : Deed
+walkTree =
+    stores (call editWalk.walk.Kinds.ps editWalk.walk.Kinds.r editWalk.walk.Reads.Asked editWalk.walk.Reads.Post)
+    (λ i. now (i .args .1 .1 .1 .1 .1 .1 .1 .0)) (λ i o. now (o .last .1 .1 .1 .1 .1 .1 .1 .0))
+
+abbrev pub putInTree : Deed
+putInTree =
+    writes (call edit.put_in_tree.Kinds.ps edit.put_in_tree.Kinds.r edit.put_in_tree.Reads.Asked edit.put_in_tree.Reads.Post) (λ i x. x)
+    (λ i. now (i .args .1 .1 .1 .1 .1 .1 .0)) (λ i o. now (o .last .1 .1 .1 .1 .1 .1 .0))
+
+abbrev pub removeFromTree : Deed
+removeFromTree =
+    writes (call edit.remove_from_tree.Kinds.ps edit.remove_from_tree.Kinds.r edit.remove_from_tree.Reads.Asked edit.remove_from_tree.Reads.Post) (λ i x. x)
+    (λ i. now (i .args .1 .1 .1 .1 .0)) (λ i o. now (o .last .1 .1 .1 .1 .0))
 
 -- ---- lookup
 
@@ -286,6 +344,17 @@ idOfHex = writes (call idOf.id_of_hex.Kinds.ps idOf.id_of_hex.Kinds.r idOf.id_of
 abbrev pub hexOfId : Deed
 hexOfId = writes (call hexOf.hex_of_id.Kinds.ps hexOf.hex_of_id.Kinds.r hexOf.hex_of_id.Reads.Asked hexOf.hex_of_id.Reads.Post) (λ i x. x) (λ i. now (i .args .1 .0)) (λ i o. now (o .last .1 .0))
 
+-- ---- trees as text
+
+abbrev pub textQuestions : List Call
+textQuestions =
+    call treeText.front_of.Kinds.ps treeText.front_of.Kinds.r treeText.front_of.Reads.Asked treeText.front_of.Reads.Post
+    ∷ call textForm.name_from.Kinds.ps textForm.name_from.Kinds.r textForm.name_from.Reads.Asked textForm.name_from.Reads.Post
+    ∷ []
+
+abbrev pub exportTree : Deed
+exportTree = writes (call export.export_tree.Kinds.ps export.export_tree.Kinds.r export.export_tree.Reads.Asked export.export_tree.Reads.Post) (λ i x. x) (λ i. now (i .args .1 .1 .1 .0)) (λ i o. now (o .last .1 .1 .1 .0))
+
 -- ---- commits
 
 abbrev pub unfoldValue : Deed
@@ -323,4 +392,95 @@ commitQuestions =
     ∷ call header.is_folded.Kinds.ps header.is_folded.Kinds.r header.is_folded.Reads.Asked header.is_folded.Reads.Post
     ∷ call header.header_at.Kinds.ps header.header_at.Kinds.r header.header_at.Reads.Asked header.header_at.Reads.Post
     ∷ call header.well_formed.Kinds.ps header.well_formed.Kinds.r header.well_formed.Reads.Asked header.well_formed.Reads.Post
+    ∷ []
+
+-- ---- mending
+
+-- the bytes written, and the entries read
+abbrev pub ofMended : Mended → Said
+ofMended x = record { verdict = x .verdict; counts = x .count ∷ x .entries ∷ [] }
+
+abbrev pub mendQuestions : List Call
+mendQuestions =
+    call fate.own_text.Kinds.ps fate.own_text.Kinds.r fate.own_text.Reads.Asked fate.own_text.Reads.Post
+    ∷ call fate.may_stay.Kinds.ps fate.may_stay.Kinds.r fate.may_stay.Reads.Asked fate.may_stay.Reads.Post
+    ∷ call fate.fate_of.Kinds.ps fate.fate_of.Kinds.r fate.fate_of.Reads.Asked fate.fate_of.Reads.Post
+    ∷ []
+
+-- it is lent a list and an output
+abbrev pub mendTree : Deed
+mendTree =
+    record {
+      call = call mend.mend_tree.Kinds.ps mend.mend_tree.Kinds.r mend.mend_tree.Reads.Asked mend.mend_tree.Reads.Post;
+      before = λ i. now (i .args .1 .1 .0) ∷ now (i .args .1 .1 .1 .0) ∷ [];
+      after = λ i o. now (o .last .1 .1 .0) ∷ now (o .last .1 .1 .1 .0) ∷ [];
+      handed = λ i o. [];
+      said = λ i o. ofMended (o .answer);
+    }
+
+-- ---- the check in pieces, besides its three calls (`Arrives`), and the words of a command line
+
+abbrev pub pieceQuestions : List Call
+pieceQuestions =
+    call pieceJudge.meet.Kinds.ps pieceJudge.meet.Kinds.r pieceJudge.meet.Reads.Asked pieceJudge.meet.Reads.Post
+    ∷ call pieceJudge.sharing.Kinds.ps pieceJudge.sharing.Kinds.r pieceJudge.sharing.Reads.Asked pieceJudge.sharing.Reads.Post
+    ∷ call pieceJudge.judge.Kinds.ps pieceJudge.judge.Kinds.r pieceJudge.judge.Reads.Asked pieceJudge.judge.Reads.Post
+    ∷ call pieceStep.fresh.Kinds.ps pieceStep.fresh.Kinds.r pieceStep.fresh.Reads.Asked pieceStep.fresh.Reads.Post
+    ∷ call pieceStep.placed_at.Kinds.ps pieceStep.placed_at.Kinds.r pieceStep.placed_at.Reads.Asked pieceStep.placed_at.Reads.Post
+    ∷ call pieceStep.is_full.Kinds.ps pieceStep.is_full.Kinds.r pieceStep.is_full.Reads.Asked pieceStep.is_full.Reads.Post
+    ∷ call pieceStep.step.Kinds.ps pieceStep.step.Kinds.r pieceStep.step.Reads.Asked pieceStep.step.Reads.Post
+    ∷ []
+
+abbrev pub wordQuestions : List Call
+wordQuestions =
+    call words.word_at.Kinds.ps words.word_at.Kinds.r words.word_at.Reads.Asked words.word_at.Reads.Post
+    ∷ call words.is_word.Kinds.ps words.is_word.Kinds.r words.is_word.Reads.Asked words.is_word.Reads.Post
+    ∷ call words.id_length.Kinds.ps words.id_length.Kinds.r words.id_length.Reads.Asked words.id_length.Reads.Post
+    ∷ call words.rule_set.Kinds.ps words.rule_set.Kinds.r words.rule_set.Reads.Asked words.rule_set.Reads.Post
+    ∷ []
+
+-- ---- bundles and paths
+
+-- a bundle that was opened is 0
+abbrev pub ofOpening : Opening → Said
+ofOpening (opening.Open k) = record { verdict = fine; counts = k .h ∷ k .rules ∷ k .count ∷ k .from ∷ [] }
+ofOpening (opening.Shut v) = ofVerdict v
+
+abbrev pub ofChecked : Checked → Said
+ofChecked x = record { verdict = x .verdict; counts = x .h ∷ x .rules ∷ x .count ∷ [] }
+
+abbrev pub ofObject : Object → Said
+ofObject x = record { verdict = x .verdict; counts = x .kind ∷ x .start ∷ x .end ∷ [] }
+
+-- the mode, and the id with its length
+abbrev pub ofFollowed : Followed → Said
+ofFollowed x = record { verdict = x .verdict; counts = x .mode ∷ x .size ∷ x .id }
+
+abbrev pub sortAll : Deed
+sortAll = stores (call sorting.sort.Kinds.ps sorting.sort.Kinds.r sorting.sort.Reads.Asked sorting.sort.Reads.Post) (λ i. now (i .args .1 .1 .1 .0)) (λ i o. now (o .last .1 .1 .1 .0))
+
+abbrev pub sortFront : Deed
+sortFront = stores (call sorting.sort_front.Kinds.ps sorting.sort_front.Kinds.r sorting.sort_front.Reads.Asked sorting.sort_front.Reads.Post) (λ i. now (i .args .1 .1 .1 .0)) (λ i o. now (o .last .1 .1 .1 .0))
+
+abbrev pub openBundle : Deed
+openBundle = reads (call bundle.open_bundle.Kinds.ps bundle.open_bundle.Kinds.r bundle.open_bundle.Reads.Asked bundle.open_bundle.Reads.Post) (λ i x. ofOpening x)
+
+abbrev pub checkBundle : Deed
+checkBundle = reads (call bundle.check_bundle.Kinds.ps bundle.check_bundle.Kinds.r bundle.check_bundle.Reads.Asked bundle.check_bundle.Reads.Post) (λ i x. ofChecked x)
+
+abbrev pub objectOf : Deed
+objectOf = reads (call bb.object_of.Kinds.ps bb.object_of.Kinds.r bb.object_of.Reads.Asked bb.object_of.Reads.Post) (λ i x. ofObject x)
+
+abbrev pub followPath : Deed
+followPath = reads (call path.follow_path.Kinds.ps path.follow_path.Kinds.r path.follow_path.Reads.Asked path.follow_path.Reads.Post) (λ i x. ofFollowed x)
+
+abbrev pub bundleQuestions : List Call
+bundleQuestions =
+    call keys.below.Kinds.ps keys.below.Kinds.r keys.below.Reads.Asked keys.below.Reads.Post
+    ∷ call frame.read_header.Kinds.ps frame.read_header.Kinds.r frame.read_header.Reads.Asked frame.read_header.Reads.Post
+    ∷ call frame.frame_at.Kinds.ps frame.frame_at.Kinds.r frame.frame_at.Reads.Asked frame.frame_at.Reads.Post
+    ∷ call frame.find_object.Kinds.ps frame.find_object.Kinds.r frame.find_object.Reads.Asked frame.find_object.Reads.Post
+    ∷ call twice.id_twice.Kinds.ps twice.id_twice.Kinds.r twice.id_twice.Reads.Asked twice.id_twice.Reads.Post
+    ∷ call component.is_path.Kinds.ps component.is_path.Kinds.r component.is_path.Reads.Asked component.is_path.Reads.Post
+    ∷ call component.find_entry.Kinds.ps component.find_entry.Kinds.r component.find_entry.Reads.Asked component.find_entry.Reads.Post
     ∷ []

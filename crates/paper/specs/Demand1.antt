@@ -36,9 +36,27 @@ pub record OfReading : Type 3 where
   pub rule-bounds : Keeps a.ruleBounds (0 ∷ 1 ∷ 2 ∷ 19 ∷ [])
   pub rule-questions : EachOnce a.ruleQuestions
   pub place-entry : Keeps a.placeEntry (0 ∷ [])
+  pub open-entry : Keeps a.openEntry (0 ∷ [])
   pub finish-reading : Keeps a.finishReading (0 ∷ [])
   pub read-tree : Keeps a.readTree (0 ∷ 1 ∷ 2 ∷ 3 ∷ 4 ∷ [])
   pub read-tree-strict : Keeps a.readTreeStrict (0 ∷ 1 ∷ 2 ∷ 3 ∷ 4 ∷ 5 ∷ 6 ∷ 7 ∷ 17 ∷ 18 ∷ 19 ∷ [])
+
+-- a tree mended, and what is asked of each entry
+pub record OfMending : Type 3 where
+  pub mend-questions : EachOnce a.mendQuestions
+  pub mend-tree : Keeps a.mendTree (0 ∷ 1 ∷ 2 ∷ 3 ∷ 4 ∷ 8 ∷ [])
+
+-- the leaves of the check in pieces, and the words of a command line
+pub record OfLeaves : Type 3 where
+  pub piece-questions : EachOnce a.pieceQuestions
+  pub word-questions : EachOnce a.wordQuestions
+
+-- the strict reader's count by itself, the walk of an edit, and the two edits
+pub record OfEdits : Type 3 where
+  pub count-strict : Keeps a.countStrict (0 ∷ 2 ∷ 3 ∷ 5 ∷ 6 ∷ 7 ∷ 17 ∷ 18 ∷ [])
+  pub walk-tree : Keeps a.walkTree (0 ∷ [])
+  pub put-in-tree : Keeps a.putInTree (0 ∷ 1 ∷ 2 ∷ 3 ∷ 5 ∷ 6 ∷ 7 ∷ 8 ∷ 10 ∷ 17 ∷ 18 ∷ 19 ∷ [])
+  pub remove-from-tree : Keeps a.removeFromTree (0 ∷ 1 ∷ 2 ∷ 3 ∷ 5 ∷ 6 ∷ 7 ∷ 8 ∷ 15 ∷ 17 ∷ 18 ∷ 19 ∷ [])
 
 -- lookup, over flat numbers, of one sort or of any, over an array of records, and over a lent slice of them; many in one call; and its steps
 pub record OfLookup : Type 3 where
@@ -72,11 +90,26 @@ pub record OfHex : Type 3 where
   pub id-of-hex : Keeps a.idOfHex (0 ∷ 1 ∷ 2 ∷ 8 ∷ 10 ∷ [])
   pub hex-of-id : Keeps a.hexOfId (0 ∷ 1 ∷ 2 ∷ 8 ∷ [])
 
+-- a strict tree as text
+pub record OfText : Type 3 where
+  pub text-questions : EachOnce a.textQuestions
+  pub export-tree : Keeps a.exportTree (0 ∷ 1 ∷ 2 ∷ 3 ∷ 5 ∷ 6 ∷ 7 ∷ 8 ∷ 17 ∷ 18 ∷ 19 ∷ [])
+
 -- a commit written, its size, and the check before both
 pub record OfCommitWriting : Type 3 where
   pub check-commit : Keeps a.checkCommit (0 ∷ 1 ∷ 2 ∷ 10 ∷ [])
   pub commit-size : Keeps a.commitSize (0 ∷ 1 ∷ 2 ∷ 10 ∷ [])
   pub write-commit : Keeps a.writeCommit (0 ∷ 1 ∷ 2 ∷ 8 ∷ 10 ∷ 13 ∷ 14 ∷ [])
+
+-- bundles and paths, with the sort and the leaves of both
+pub record OfBundles : Type 3 where
+  pub sort-all : Keeps a.sortAll (0 ∷ [])
+  pub sort-front : Keeps a.sortFront (0 ∷ [])
+  pub open-bundle : Keeps a.openBundle (0 ∷ 2 ∷ 24 ∷ 25 ∷ [])
+  pub check-bundle : Keeps a.checkBundle (0 ∷ 2 ∷ 24 ∷ 25 ∷ [])
+  pub object-of : Keeps a.objectOf (0 ∷ 2 ∷ 15 ∷ [])
+  pub follow-path : Keeps a.followPath (0 ∷ 2 ∷ 15 ∷ 24 ∷ 25 ∷ 26 ∷ [])
+  pub bundle-questions : EachOnce a.bundleQuestions
 
 -- the calls under C names
 pub record OfBorder : Type 3 where
@@ -101,6 +134,13 @@ pub record OfBorder : Type 3 where
   pub write-commit : Keeps c.writeCommit (0 ∷ 1 ∷ 2 ∷ 8 ∷ 10 ∷ 13 ∷ 14 ∷ [])
   pub id-of-hex : Keeps c.idOfHex (0 ∷ 1 ∷ 2 ∷ 8 ∷ 10 ∷ [])
   pub hex-of-id : Keeps c.hexOfId (0 ∷ 1 ∷ 2 ∷ 8 ∷ [])
+  pub export-tree : Keeps c.exportTree (0 ∷ 1 ∷ 2 ∷ 3 ∷ 5 ∷ 6 ∷ 7 ∷ 8 ∷ 17 ∷ 18 ∷ 19 ∷ [])
+  pub check-bundle : Keeps c.checkBundle (0 ∷ 2 ∷ 24 ∷ 25 ∷ [])
+  pub bundle-object : Keeps c.bundleObject (0 ∷ 2 ∷ 15 ∷ [])
+  pub follow-path : Keeps c.followPath (0 ∷ 2 ∷ 15 ∷ 24 ∷ 25 ∷ 26 ∷ [])
+  pub put-in-tree : Keeps c.putInTree (0 ∷ 1 ∷ 2 ∷ 3 ∷ 5 ∷ 6 ∷ 7 ∷ 8 ∷ 10 ∷ 17 ∷ 18 ∷ 19 ∷ [])
+  pub remove-from-tree : Keeps c.removeFromTree (0 ∷ 1 ∷ 2 ∷ 3 ∷ 5 ∷ 6 ∷ 7 ∷ 8 ∷ 15 ∷ 17 ∷ 18 ∷ 19 ∷ [])
+  pub mend-tree : Keeps c.mendTree (0 ∷ 1 ∷ 2 ∷ 3 ∷ 4 ∷ 8 ∷ [])
   pub questions : EachOnce c.questions
   -- the functions behind them have the same contracts, so that all this holds of those too
   pub same-contracts : c.behind ≡ c.named
@@ -110,11 +150,16 @@ pub record FirstDemand : Type 3 where
   pub of-modes : OfModes
   pub of-entries : OfEntries
   pub of-reading : OfReading
+  pub of-edits : OfEdits
+  pub of-mending : OfMending
+  pub of-leaves : OfLeaves
   pub of-lookup : OfLookup
   pub of-writing : OfWriting
   pub of-hex : OfHex
+  pub of-text : OfText
   pub of-commits : OfCommits
   pub of-commit-writing : OfCommitWriting
+  pub of-bundles : OfBundles
   pub of-border : OfBorder
   -- and where the places point
   pub places : Places

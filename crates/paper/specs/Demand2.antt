@@ -28,6 +28,10 @@ use Rattle.header.specs.Record.{width}
 use Rattle.commit_read.specs.Read.{commitAnswer, commitParents, commitHeaders}
 use Rattle.grammar.specs.Grammar.{Commit, CommitForm, commitBytes}
 use Rattle.commit_grammar.specs.Named.{named}
+use Rattle.commit_grammar.specs.Claims.{FoldedExactly, UnfoldsToLines}
+use Rattle.commit_grammar.specs.Refused.{RefusedCommits}
+use Rattle.commit_round.specs.Claims as round
+use Rattle.commit_round.specs.Claims.{AcceptedRewrites, FoldLine, FoldLines, FoldGains, FoldUnfolds, UnfoldedFolds}
 use Rattle.paper.specs.Sentences.{CursorSentences, LookupSentences, SizeSentences}
 
 -- ---- modes
@@ -127,9 +131,26 @@ pub record OfCommitBytes : Type 0 where
       → length ps ≤ mostRecords → length hs / width ≤ mostRecords → length (c .parents) ≤ length ps → length (c .headers) ≤ length hs / width
       → let s = commitBytes c in
       (commitAnswer s h ps hs .verdict ≡ fine) × (named h s (commitAnswer s h ps hs) (commitParents s h ps hs) (commitHeaders s h ps hs) ≡ c)
+  -- what is refused, in the grammar's words: the first field that is missing or malformed, and the bytes before it
+  pub refused-commits : RefusedCommits
+  -- a value is folded exactly when it has the folded form, and unfolds to its lines
+  pub folded-exactly : FoldedExactly
+  pub unfolds-to-lines : UnfoldsToLines
+
+pub record OfCommitWriting : Type 0 where
+  -- what was written reads back; what was accepted is written as itself
+  pub reads-back : round.ReadsBack
+  pub accepted-rewrites : AcceptedRewrites
+  -- how a value is folded: one line, several, without a last LF; and back
+  pub fold-line : FoldLine
+  pub fold-lines : FoldLines
+  pub fold-gains : FoldGains
+  pub fold-unfolds : FoldUnfolds
+  pub unfolded-folds : UnfoldedFolds
 
 pub record SecondDemand : Type 0 where
   pub of-mode-texts : OfModeTexts
   pub of-order : OfOrder
   pub of-trees : OfTrees
   pub of-commit-bytes : OfCommitBytes
+  pub of-commit-writing : OfCommitWriting

@@ -9,8 +9,5 @@ pub mod Demand2
 pub mod Demand3
 pub mod Rewriting
 pub mod Many
-pub mod Examples
-pub mod Numbers
-pub mod Bounds
-pub mod Texts
-pub mod Arrays
+pub mod Arrives
+pub mod Editing

@@ -1,1 +1,1 @@
-// The demands and the worked examples, each read in one place: theorems over the layers below, and no code.
+// The demands, each read in one place: theorems over the layers below, and no code.

@@ -5,22 +5,21 @@ use mathlib.Core.List.{List}
 use lib.ListN.{length, drop}
 use Rattle.ground.specs.Scan.{placeFrom}
 use Rattle.ground.specs.declared.Verdict.{Verdict}
-use Rattle.front.specs.Code.{codeAt}
-use Rattle.front.proofs.Laws.{code-bad, code-mode, code-inside}
+use Rattle.mode_code.specs.Code.{codeAt}
+use Rattle.mode_code.proofs.Laws.{code-bad, code-mode, code-inside}
 use Rattle.mode.specs.Read.{readModeAt}
 use Rattle.mode.specs.declared.ModeRead.the-variants.{Mode}
-use Rattle.entry.specs.Decode.{decode}
+use Rattle.entry.specs.Decode.{decode, decodedVerdict}
 use Rattle.entry.specs.declared.Decoded.{Decoded}
 use Rattle.entry.specs.declared.Decoded.the-variants.{Whole, Broken}
 use Rattle.entry.proofs.Laws.{decode-bad, name-within, decode-short, decode-whole}
-use Rattle.reading.specs.Whole.{verdictOf}
 
 -- no entry can be read
 abbrev pub Unread : Decoded → Type 0
-Unread d = d ≡ Broken (verdictOf d)
+Unread d = d ≡ Broken (decodedVerdict d)
 
 unread : {d : Decoded} (v : Verdict) → d ≡ Broken v → Unread d
-unread v e = e ∙ ap (λ (x : Decoded). Broken (verdictOf x)) (sym e)
+unread v e = e ∙ ap (λ (x : Decoded). Broken (decodedVerdict x)) (sym e)
 
 module _ (s : List ℕ) (h at code : ℕ) (q : code ≡ codeAt s at) where
   pub code-none : code ≡ 0 → Unread (decode h at (drop at s))

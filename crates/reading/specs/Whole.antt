@@ -5,22 +5,14 @@ use lib.ListN.{length, take}
 use lib.Seq.{sets}
 use lib.Dec.{leb}
 use Rattle.ground.specs.Basics.{pick}
-use Rattle.ground.specs.Verdict.{verdict, fine, counted, refused, gateOf, stored}
-use Rattle.ground.specs.declared.Verdict.{Verdict}
+use Rattle.ground.specs.Verdict.{verdict, counted, refused, gateOf, stored}
 use Rattle.ground.specs.declared.Answer.{Answer}
 use Rattle.ground.specs.declared.Gate.{Gate}
 use Rattle.ground.specs.declared.Gate.the-variants.{Open, Shut}
 use Rattle.entry.specs.Record.{many}
-use Rattle.entry.specs.declared.Decoded.{Decoded}
-use Rattle.entry.specs.declared.Decoded.the-variants.{Whole, Broken}
 use Rattle.reading.specs.Listing.{Listing, listing, tally, recordsIn, flats}
 use Rattle.reading.specs.declared.Counted.{Counted}
 use Rattle.reading.specs.declared.Counted.the-variants.{Total, Stopped}
-
--- the verdict of decoding: done where an entry was read
-abbrev pub verdictOf : Decoded → Verdict
-verdictOf (Whole e next) = fine
-verdictOf (Broken v) = v
 
 -- 4 with the records needed where the lent list has room for fewer
 abbrev pub inRoom : ℕ → Counted → Answer

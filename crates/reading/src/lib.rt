@@ -4,17 +4,15 @@ ghost use Prim.Native.Nat.{_≤_};
 ghost use lib.ListN.{length, take, drop};
 ghost use lib.Seq.{sets};
 ghost use Rattle.entry.specs.Record.{many};
-ghost use Rattle.entry.specs.Decode.{decode};
-ghost use Rattle.front.specs.Code.{codeAt};
+ghost use Rattle.entry.specs.Decode.{decode, decodedVerdict};
+ghost use Rattle.mode_code.specs.Code.{codeAt};
 ghost use Rattle.reading.specs.Listing.{listing, tally, recordsIn, flats};
-ghost use Rattle.reading.specs.Whole.{verdictOf, inRoom, finished, readAnswer, readRecords};
+ghost use Rattle.reading.specs.Whole.{inRoom, finished, readAnswer, readRecords};
 use entry::Cursor;
 use entry::Decoded;
 use entry::EntryRecord;
 use entry::WIDTH;
 use entry::put_entry;
-use front::code_at;
-use front::quick_code;
 use ground::Answer;
 use ground::BOUND;
 use ground::FEW_RECORDS;
@@ -23,6 +21,8 @@ use ground::Gate;
 use ground::MOST_RECORDS;
 use ground::Verdict;
 use ground::bounds;
+use mode_code::code_at;
+use mode_code::quick_code;
 use scan::find_nul;
 
 // How many entries an object has, or the refusal that reading it met.
@@ -44,7 +44,7 @@ fn mode_code(s: &[u8], at: usize) -> usize
 
 // The verdict on the entry at a place, as decoding gives it: done where it can be read.
 fn verdict_at(s: &[u8], h: usize, at: usize) -> Verdict
-    ensures { λ r. ⌜ r ≡ verdictOf (decode h at (drop at (now (s .entry)))) ⌝ }
+    ensures { λ r. ⌜ r ≡ decodedVerdict (decode h at (drop at (now (s .entry)))) ⌝ }
 {
     let c = Cursor { at };
     match c.decode(s, h) {

@@ -1,4 +1,5 @@
 // The fields of a case, as the lists have them (oracle/README.md, "The list format"), and how an answer is held against them.
+use entry::WIDTH;
 use ground::Answer;
 use ground::byte_at;
 use output::put;
@@ -9,10 +10,13 @@ pub const BYTE: u8 = 165;
 
 pub const NUMBER: usize = 11936128518282651045;
 
-// The most bytes and the most numbers of a field, and of what is lent.
+// The most bytes of a field, and of what is lent.
 pub const BYTES: usize = 8192;
 
-pub const NUMBERS: usize = 1024;
+// The most records of a list, and the numbers that they have: an entry's record is as wide as a header's, and no record is wider.
+pub const RECORDS: usize = 205;
+
+pub const NUMBERS: usize = RECORDS * WIDTH;
 
 // A number, and the place after it.
 pub struct Number {

@@ -9,7 +9,7 @@ use Rattle.ground.specs.Scan.{countTo}
 use Rattle.ground.specs.Verdict.{mostRecords}
 use Rattle.ground.proofs.Laws.{id-small}
 use Rattle.mode.specs.Read.{readMode}
-use Rattle.mode.specs.Write.{writeMode, again}
+use Rattle.mode_text.specs.Write.{writeMode, again}
 use Rattle.mode.specs.declared.ModeRead.the-variants.{Mode}
 use Rattle.mode.proofs.Again.{written-reads}
 use Rattle.mode.proofs.Space.{read-count, read-small, mode-space}

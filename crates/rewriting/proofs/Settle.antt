@@ -10,7 +10,7 @@ use lib.ListN.{length, length-append, length-map}
 use borrow.Author.Tests.{eq-eqb, ne-eqb, ltb-true, ltb-false}
 use Rattle.ground.specs.Verdict.{mostBytes, mostRecords}
 use Rattle.ground.proofs.Laws.{gate-fine}
-use Rattle.mode.specs.Write.{writeMode, trimmed, again}
+use Rattle.mode_text.specs.Write.{writeMode, trimmed, again}
 use Rattle.mode.proofs.Again.{again-same, again-less}
 use Rattle.entry.specs.Record.{many}
 use Rattle.entry.specs.Entry.{Entry, entryBytes, asWritten, entryOf, entriesOf}

@@ -6,7 +6,7 @@ use mathlib.Core.Logic.{_↔_}
 use lib.ListN.{length, take}
 use Rattle.ground.specs.Basics.{part}
 use Rattle.ground.specs.Verdict.{counted, mostBytes}
-use Rattle.mode.specs.Write.{writeMode}
+use Rattle.mode_text.specs.Write.{writeMode}
 use Rattle.entry.specs.Record.{width, recordsOf}
 use Rattle.entry.specs.declared.EntryRecord.{EntryRecord}
 use Rattle.reading.specs.Listing.{listing, recordsIn}

@@ -6,8 +6,9 @@ use mathlib.Core.List.{List, [], _∷_, _++_, map}
 use lib.ListN.{replicate}
 use Rattle.ground.specs.Basics.{ascii}
 use Rattle.ground.specs.Verdict.{broken}
-use Rattle.mode.specs.Read.{octalFrom, hasSix, textLen, settle, restAt, readMode}
-use Rattle.mode.specs.Write.{trimmed, writeMode}
+use Rattle.mode.specs.Read.{readMode}
+use Rattle.mode_text.specs.Read.{octalFrom, hasSix, textLen, settle, restAt, readText}
+use Rattle.mode_text.specs.Write.{trimmed, writeMode}
 use Rattle.entry.specs.Record.{nameOf, idOf}
 use Rattle.entry.specs.Entry.{entryBytes, asWritten, entryOf}
 use Rattle.entry.specs.Decode.{decodeName, decodeMode, decode}
@@ -56,17 +57,17 @@ abbrev pub told : Example → List (List ℕ)
 told e = (e .mode ∷ []) ∷ object (e .first) ∷ object (e .second) ∷ object (e .third) ∷ []
 
 pub examples-hold : map seen examples ≡ map told examples
-unfolding rewrite times octalFrom hasSix textLen settle restAt readMode trimmed writeMode nameOf idOf entryBytes asWritten entryOf
+unfolding rewrite times octalFrom hasSix textLen settle restAt readText readMode trimmed writeMode nameOf idOf entryBytes asWritten entryOf
     decodeName decodeMode decode follow plain recordsIn
 examples-hold = refl
 
 -- each of them is accepted at last
 pub accepted-hold : map (λ (e : Example). tally 0 (listing 20 (object (e .third)))) examples ≡ map (λ (e : Example). Total 1) examples
-unfolding octalFrom hasSix textLen settle restAt readMode decodeName decodeMode decode follow plain tally
+unfolding octalFrom hasSix textLen settle restAt readText readMode decodeName decodeMode decode follow plain tally
 accepted-hold = refl
 
 -- P14: mode 0 is written as `0`, and with this name and this id that is refused 3
 pub zero-lost : (times 20 1 (object "000000") ≡ object "0") × (tally 0 (listing 20 (object "0")) ≡ Stopped (broken 0 1))
-unfolding rewrite times octalFrom hasSix textLen settle restAt readMode trimmed writeMode nameOf idOf entryBytes asWritten entryOf
+unfolding rewrite times octalFrom hasSix textLen settle restAt readText readMode trimmed writeMode nameOf idOf entryBytes asWritten entryOf
     decodeName decodeMode decode follow plain recordsIn tally
 zero-lost = (refl, refl)

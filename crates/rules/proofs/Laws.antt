@@ -15,11 +15,12 @@ use Rattle.ground.specs.declared.Verdict.{Verdict}
 use Rattle.ground.specs.declared.Gate.the-variants.{Open, Shut}
 use Rattle.ground.proofs.Laws.{is-false, and-left, and-right, whole-free, free-whole, same-length, gate-open}
 use Rattle.mode.specs.Mode.{valueOf, sortOf, executes, kindOf}
-use Rattle.mode.specs.Table.{rows, rowAt, writtenOf, wordOf, shown, findText}
-use Rattle.mode.specs.Write.{trimmed, writeMode, modeText}
-use Rattle.mode.specs.declared.EntryMode.{EntryMode}
-use Rattle.mode.specs.declared.Written.{Written}
-use Rattle.mode.specs.declared.ModeFound.the-variants as found
+use Rattle.mode.specs.Mode.{wordOf}
+use Rattle.mode_table.specs.Table.{rows, rowAt, writtenOf, findText}
+use Rattle.mode_text.specs.Write.{shown}
+use Rattle.mode_text.specs.Write.{trimmed, writeMode, modeText}
+use Rattle.mode_table.specs.declared.Written.{Written}
+use Rattle.mode_table.specs.declared.ModeFound.the-variants as found
 use Rattle.rules.specs.Rules.{isText, groupRow, modesOf, isPlain, permitted, lower, isDotGit, nameNumber, bareNumber}
 use Rattle.rules.specs.Gate.{isSet, ruleGate}
 use Rattle.rules.specs.Code.{isGroup}
@@ -34,11 +35,11 @@ or-none : (a : Bool) → (a || false) ≡ a
 or-none true = refl
 or-none false = refl
 
-text-found : (t : List ℕ) (rs : List Written) (m : EntryMode) → findText t rs ≡ found.Mode m → isText rs t ≡ true
+text-found : (t : List ℕ) (rs : List Written) (m : ℕ) → findText t rs ≡ found.Mode m → isText rs t ≡ true
 text-found t [] m e = let z : _≡_ {A = ℕ} 0 1 = cc in absurd (omega arith)
 text-found t (r ∷ rs) m e = go (text-found t rs m) (sameBytes t (shown (r .text))) e
   where
-    go : (findText t rs ≡ found.Mode m → isText rs t ≡ true) → (v : Bool) → pick v (found.Mode (record { internal = r .mode })) (findText t rs) ≡ found.Mode m
+    go : (findText t rs ≡ found.Mode m → isText rs t ≡ true) → (v : Bool) → pick v (found.Mode (r .mode)) (findText t rs) ≡ found.Mode m
         → (v || isText rs t) ≡ true
     go ih true e = refl
     go ih false e = ih e
@@ -47,7 +48,7 @@ text-none : (t : List ℕ) (rs : List Written) → findText t rs ≡ found.None 
 text-none t [] e = refl
 text-none t (r ∷ rs) e = go (text-none t rs) (sameBytes t (shown (r .text))) e
   where
-    go : (findText t rs ≡ found.None → isText rs t ≡ false) → (v : Bool) → pick v (found.Mode (record { internal = r .mode })) (findText t rs) ≡ found.None
+    go : (findText t rs ≡ found.None → isText rs t ≡ false) → (v : Bool) → pick v (found.Mode (r .mode)) (findText t rs) ≡ found.None
         → (v || isText rs t) ≡ false
     go ih true e = let z : _≡_ {A = ℕ} 0 1 = cc in absurd (omega arith)
     go ih false e = ih e
@@ -74,7 +75,7 @@ module _ (k : ℕ) (t : List ℕ) where
       go true = rw e (or-none (sameBytes t (shown (groupRow .text))))
       go false = e
 
-  pub mode-found : (m : EntryMode) → findText t rows ≡ found.Mode m → isText (modesOf k) t ≡ true
+  pub mode-found : (m : ℕ) → findText t rows ≡ found.Mode m → isText (modesOf k) t ≡ true
   mode-found m e = texts-five (text-found t rows m e)
 
   pub mode-none : findText t rows ≡ found.None → isText (modesOf k) t ≡ isGroup k t

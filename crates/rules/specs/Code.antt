@@ -5,7 +5,7 @@ use mathlib.Core.List.{List}
 use lib.Dec.{eqb}
 use Rattle.ground.specs.Basics.{pick}
 use Rattle.ground.specs.Scan.{sameBytes}
-use Rattle.mode.specs.Table.{shown}
+use Rattle.mode_text.specs.Write.{shown}
 use Rattle.rules.specs.Rules.{groupRow}
 
 -- a mode text that a rule set has besides the five

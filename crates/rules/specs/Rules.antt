@@ -7,10 +7,11 @@ use lib.Dec.{eqb, leb}
 use Rattle.ground.specs.Basics.{pick, ascii}
 use Rattle.ground.specs.Scan.{sameBytes, freeOf}
 use Rattle.mode.specs.Mode.{isTree}
-use Rattle.mode.specs.Table.{rows, shown}
-use Rattle.mode.specs.Write.{short}
-use Rattle.mode.specs.declared.EntryKind.the-variants.{Blob}
-use Rattle.mode.specs.declared.Written.{Written}
+use Rattle.mode_table.specs.Table.{rows}
+use Rattle.mode_text.specs.Write.{shown}
+use Rattle.mode_text.specs.Write.{short}
+use Rattle.mode_table.specs.declared.EntryKind.the-variants.{Blob}
+use Rattle.mode_table.specs.declared.Written.{Written}
 use Rattle.order.specs.Order.{nameOrder}
 use Rattle.order.specs.declared.Order.{Order}
 use Rattle.order.specs.declared.Order.the-variants.{Below, Same, Above}

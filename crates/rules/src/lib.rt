@@ -12,8 +12,8 @@ use ground::NAME;
 use ground::RULE_SET;
 use ground::Verdict;
 use ground::bounds;
-use mode::ModeFound;
-use mode::written_mode;
+use mode_table::ModeFound;
+use mode_table::written_mode;
 use scan::count_to;
 use scan::same_bytes;
 

@@ -22,8 +22,16 @@ ghost use Rattle.lookups.specs.Many.{answersAfter};
 ghost use Rattle.border_lookup.specs.Border.{lookupAmong, anyAmong, manyAnswered, lookedNumbers};
 ghost use Rattle.border_hex.specs.Border.{idAnswered, idOutput, hexAnswered, hexOutput};
 ghost use Rattle.border_tree_write.specs.Border.{treeAnswered, treeOutput, headerAnswered, headerOutput};
+ghost use Rattle.border_text.specs.Border.{exportAnswered, exportOutput};
+ghost use Rattle.border_mend.specs.Border.{mendAnswered, mendNumbers, mendFates, mendOutput};
 ghost use Rattle.border_commit.specs.Border.{commitNumbers};
 ghost use Rattle.border_commit_write.specs.Border.{sizeSaid, answerSaid, outputSaid};
+ghost use Rattle.bundle.specs.Bundle.{checkOf};
+ghost use Rattle.path.specs.Path.{follow};
+ghost use Rattle.border_bundle.specs.Border.{objectAsked, checkedNumbers, objectNumbers, followedNumbers};
+ghost use Rattle.edit_walk.specs.Walk.{newEntry};
+ghost use Rattle.edit.specs.Edit.{putOutput, removeOutput};
+ghost use Rattle.border_edit.specs.Border.{putAnswered, removeAnswered};
 
 // A mode text that stands alone.
 #[no_mangle]
@@ -225,6 +233,23 @@ pub extern "C" fn sarpukten_write_tree(
     border_tree_write::write_tree(bytes, h, records, out, answer)
 }
 
+// An object mended, with what was done to each entry.
+#[no_mangle]
+pub extern "C" fn sarpukten_mend_tree(
+    bytes: &[u8],
+    h: usize,
+    fates: &mut [usize],
+    out: &mut [u8],
+    answer: &mut [usize; 5],
+) -> usize
+    ensures { λ r. ⌜ r ≡ mendAnswered h (now (bytes .entry)) (now (fates .entry)) (now (out .entry)) .verdict .number ⌝ }
+    ensures { λ _. ⌜ now (answer .exit) ≡ mendNumbers (mendAnswered h (now (bytes .entry)) (now (fates .entry)) (now (out .entry))) ⌝ }
+    ensures { λ _. ⌜ now (fates .exit) ≡ mendFates h (now (bytes .entry)) (now (fates .entry)) (now (out .entry)) ⌝ }
+    ensures { λ _. ⌜ now (out .exit) ≡ mendOutput h (now (bytes .entry)) (now (fates .entry)) (now (out .entry)) ⌝ }
+{
+    border_mend::mend_tree(bytes, h, fates, out, answer)
+}
+
 // The header of a loose object.
 #[no_mangle]
 pub extern "C" fn sarpukten_loose_header(
@@ -331,4 +356,94 @@ pub extern "C" fn sarpukten_hex_of_id(id: &[u8], out: &mut [u8], answer: &mut [u
     ensures { λ _. ⌜ now (out .exit) ≡ hexOutput (now (id .entry)) (now (out .entry)) ⌝ }
 {
     border_hex::hex_of_id(id, out, answer)
+}
+
+// The text of a strict object's entries.
+#[no_mangle]
+pub extern "C" fn sarpukten_export_tree(
+    bytes: &[u8],
+    h: usize,
+    rules: u16,
+    out: &mut [u8],
+    answer: &mut [usize; 4],
+) -> usize
+    ensures { λ r. ⌜ r ≡ exportAnswered rules h (now (bytes .entry)) (now (out .entry)) .verdict .number ⌝ }
+    ensures { λ _. ⌜ now (answer .exit) ≡ answerNumbers (exportAnswered rules h (now (bytes .entry)) (now (out .entry))) ⌝ }
+    ensures { λ _. ⌜ now (out .exit) ≡ exportOutput rules h (now (bytes .entry)) (now (out .entry)) ⌝ }
+{
+    border_text::export_tree(bytes, h, rules, out, answer)
+}
+
+// A bundle checked whole.
+#[no_mangle]
+pub extern "C" fn sarpukten_check_bundle(bundle: &[u8], answer: &mut [usize; 6]) -> usize
+    ensures { λ r. ⌜ r ≡ checkOf (now (bundle .entry)) .verdict .number ⌝ }
+    ensures { λ _. ⌜ now (answer .exit) ≡ checkedNumbers (checkOf (now (bundle .entry))) ⌝ }
+{
+    border_bundle::check_bundle(bundle, answer)
+}
+
+// The object of an id in a bundle.
+#[no_mangle]
+pub extern "C" fn sarpukten_bundle_object(
+    bundle: &[u8],
+    id: &[u8],
+    answer: &mut [usize; 6],
+) -> usize
+    ensures { λ r. ⌜ r ≡ objectAsked (now (bundle .entry)) (now (id .entry)) .verdict .number ⌝ }
+    ensures { λ _. ⌜ now (answer .exit) ≡ objectNumbers (objectAsked (now (bundle .entry)) (now (id .entry))) ⌝ }
+{
+    border_bundle::bundle_object(bundle, id, answer)
+}
+
+// A path followed through the trees of a bundle from a root id; the id that it leads to by value.
+#[no_mangle]
+pub extern "C" fn sarpukten_follow_path(
+    bundle: &[u8],
+    root: &[u8],
+    path: &[u8],
+    answer: &mut [usize; 5],
+    id: &mut [u8; 32],
+) -> usize
+    ensures { λ r. ⌜ r ≡ follow (now (bundle .entry)) (now (root .entry)) (now (path .entry)) .verdict .number ⌝ }
+    ensures { λ _. ⌜ now (answer .exit) ≡ followedNumbers (follow (now (bundle .entry)) (now (root .entry)) (now (path .entry))) ⌝ }
+    ensures { λ _. ⌜ now (id .exit) ≡ follow (now (bundle .entry)) (now (root .entry)) (now (path .entry)) .id ⌝ }
+{
+    border_bundle::follow_path(bundle, root, path, answer, id)
+}
+
+// A name put into a tree object with its mode and id.
+#[no_mangle]
+pub extern "C" fn sarpukten_put_in_tree(
+    bytes: &[u8],
+    h: usize,
+    rules: u16,
+    mode: usize,
+    name: &[u8],
+    id: &[u8],
+    out: &mut [u8],
+    answer: &mut [usize; 4],
+) -> usize
+    ensures { λ r. ⌜ r ≡ putAnswered rules h (now (bytes .entry)) (newEntry mode (now (name .entry)) (now (id .entry))) (now (out .entry)) .verdict .number ⌝ }
+    ensures { λ _. ⌜ now (answer .exit) ≡ answerNumbers (putAnswered rules h (now (bytes .entry)) (newEntry mode (now (name .entry)) (now (id .entry))) (now (out .entry))) ⌝ }
+    ensures { λ _. ⌜ now (out .exit) ≡ putOutput rules h (now (bytes .entry)) (newEntry mode (now (name .entry)) (now (id .entry))) (now (out .entry)) ⌝ }
+{
+    border_edit::put_in_tree(bytes, h, rules, mode, name, id, out, answer)
+}
+
+// A name removed from a tree object.
+#[no_mangle]
+pub extern "C" fn sarpukten_remove_from_tree(
+    bytes: &[u8],
+    h: usize,
+    rules: u16,
+    name: &[u8],
+    out: &mut [u8],
+    answer: &mut [usize; 4],
+) -> usize
+    ensures { λ r. ⌜ r ≡ removeAnswered rules h (now (bytes .entry)) (now (name .entry)) (now (out .entry)) .verdict .number ⌝ }
+    ensures { λ _. ⌜ now (answer .exit) ≡ answerNumbers (removeAnswered rules h (now (bytes .entry)) (now (name .entry)) (now (out .entry))) ⌝ }
+    ensures { λ _. ⌜ now (out .exit) ≡ removeOutput rules h (now (bytes .entry)) (now (name .entry)) (now (out .entry)) ⌝ }
+{
+    border_edit::remove_from_tree(bytes, h, rules, name, out, answer)
 }

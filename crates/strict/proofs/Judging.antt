@@ -12,10 +12,11 @@ use Rattle.ground.specs.Basics.{pick, part}
 use Rattle.ground.specs.Scan.{sameBytes, freeOf}
 use Rattle.ground.proofs.Laws.{same-refl, same-true}
 use Rattle.ground.proofs.Table.{rows-agree}
-use Rattle.front.specs.Code.{coded, codeAt, spaced, codeIn, quickAt}
-use Rattle.front.proofs.Laws.{quick-is-code}
-use Rattle.mode.specs.Table.{rows, noRow, shown}
-use Rattle.mode.specs.declared.Written.{Written}
+use Rattle.mode_code.specs.Code.{coded, codeAt, spaced, codeIn, quickAt}
+use Rattle.mode_code.proofs.Laws.{quick-is-code}
+use Rattle.mode_table.specs.Table.{rows, noRow}
+use Rattle.mode_text.specs.Write.{shown}
+use Rattle.mode_table.specs.declared.Written.{Written}
 use Rattle.order.specs.declared.Order.{Order}
 use Rattle.order.specs.declared.Order.the-variants.{Below, Same, Above}
 use Rattle.entry.specs.Record.{nameOf, folderOf}

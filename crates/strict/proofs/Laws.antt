@@ -1,5 +1,5 @@
 -- Laws of a listing that rules cut: what it stops with, what keeps them to its end, and what reading it answers. Assumes nothing.
-use Prim.Native.Nat.{ℕ, _+_}
+use Prim.Native.Nat.{ℕ, _+_, _≤_, _<_}
 use native.Mathlib.Omega.{arith}
 use mathlib.Core.Path.{_≡_, refl, ap}
 use mathlib.Core.Bool.{Bool, true, false}
@@ -7,9 +7,9 @@ use mathlib.Core.List.{List, [], _∷_}
 use mathlib.Core.Logic.{_⊎_}
 use lib.Dec.{eqb}
 use lib.ListN.{length}
-use borrow.Author.Tests.{eq-eqb, ne-eqb, eqb-false}
+use borrow.Author.Tests.{eq-eqb, ne-eqb, eqb-false, le-leb, lt-leb}
 use Rattle.ground.specs.Basics.{pick}
-use Rattle.ground.specs.Verdict.{verdict, counted, stored}
+use Rattle.ground.specs.Verdict.{verdict, counted, stored, mostBytes}
 use Rattle.ground.specs.declared.Verdict.{Verdict}
 use Rattle.ground.specs.declared.Answer.{Answer}
 use Rattle.ground.specs.declared.Gate.{Gate}
@@ -22,9 +22,9 @@ use Rattle.rules.specs.Gate.{ruleGate}
 use Rattle.rules.proofs.Laws.{rule-known, rule-shut, rule-open}
 use Rattle.reading.specs.Listing.{Listing, done, stop, entry, listing, recordsIn, flats, tally}
 use Rattle.reading.specs.Whole.{answerOf, readAnswer, readRecords}
-use Rattle.reading.specs.declared.Counted.the-variants.{Total}
+use Rattle.reading.specs.declared.Counted.the-variants.{Total, Stopped}
 use Rattle.reading.proofs.Laws.{Stops, Refusal, plain-refuses}
-use Rattle.strict.specs.Strict.{textOf, cut, strictly, strictAnswer, strictRecords}
+use Rattle.strict.specs.Strict.{textOf, cut, strictly, strictCount, strictAnswer, strictRecords}
 
 -- ---- what it stops with
 
@@ -101,3 +101,14 @@ module _ (k h : ℕ) (s lent : List ℕ) where
           → answerOf g (strictly (gitRules k) h s) (many (length lent)) ≡ counted n → (k ≡ 1) ⊎ (k ≡ 2)
       go Open q e = rule-open k h (length s) (many (length lent)) q
       go (Shut v) q e = absurd (strict-refuses k h (length s) (many (length lent)) v q (ap (λ (a : Answer). a .verdict .number) e))
+
+-- ---- the count by itself
+
+module _ (k h : ℕ) (s : List ℕ) where
+  pub count-over : mostBytes < length s → strictCount k h s ≡ Stopped (verdict 2 0)
+  unfolding strictCount
+  count-over p = rw (lt-leb (length s) mostBytes p)
+
+  pub count-within : length s ≤ mostBytes → strictCount k h s ≡ tally 0 (strictly (gitRules k) h s)
+  unfolding strictCount
+  count-within p = rw (le-leb (length s) mostBytes p)

@@ -10,8 +10,8 @@ use Rattle.ground.specs.Scan.{countTo, freeOf}
 use Rattle.ground.specs.Verdict.{verdict, mostRecords}
 use Rattle.ground.specs.declared.Verdict.{Verdict}
 use Rattle.ground.proofs.Laws.{free-count}
-use Rattle.front.specs.Code.{codeAt}
-use Rattle.front.proofs.Laws.{code-of-mode}
+use Rattle.mode_code.specs.Code.{codeAt}
+use Rattle.mode_code.proofs.Laws.{code-of-mode}
 use Rattle.mode.specs.Read.{readModeAt, moved}
 use Rattle.mode.proofs.Laws.{read-next}
 use Rattle.entry.specs.Record.{nameOf}

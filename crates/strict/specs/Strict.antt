@@ -2,17 +2,19 @@
 use Prim.Native.Nat.{ℕ, _-_}
 use mathlib.Core.List.{List, [], _∷_}
 use lib.ListN.{length}
-use lib.Dec.{eqb}
+use lib.Dec.{eqb, leb}
 use Rattle.ground.specs.Basics.{pick, part}
-use Rattle.ground.specs.Verdict.{verdict, stored}
+use Rattle.ground.specs.Verdict.{verdict, stored, mostBytes}
 use Rattle.ground.specs.declared.Answer.{Answer}
 use Rattle.entry.specs.Record.{many}
 use Rattle.entry.specs.Entry.{Entry, entryOf}
 use Rattle.entry.specs.declared.EntryRecord.{EntryRecord}
 use Rattle.rules.specs.Rules.{Rules, judge, gitRules}
 use Rattle.rules.specs.Gate.{ruleGate}
-use Rattle.reading.specs.Listing.{Listing, done, stop, entry, listing, recordsIn, flats}
+use Rattle.reading.specs.Listing.{Listing, done, stop, entry, listing, recordsIn, flats, tally}
 use Rattle.reading.specs.Whole.{answerOf}
+use Rattle.reading.specs.declared.Counted.{Counted}
+use Rattle.reading.specs.declared.Counted.the-variants.{Stopped}
 
 -- the mode text of an entry at a place: all that stands before the space ahead of its name
 unfoldable pub textOf : List ℕ → ℕ → EntryRecord → List ℕ
@@ -29,6 +31,10 @@ cut R h s before (entry at e l) =
 -- the strict reading of a whole object
 abbrev pub strictly : Rules → ℕ → List ℕ → Listing
 strictly R h s = cut R h s [] (listing h s)
+
+-- how many entries are counted by a rule set, or the refusal; 2 for an object over its bound
+unfoldable pub strictCount : ℕ → ℕ → List ℕ → Counted
+strictCount k h s = pick (leb (length s) mostBytes) (tally 0 (strictly (gitRules k) h s)) (Stopped (verdict 2 0))
 
 -- ---- by a rule set, into a lent list
 

@@ -2,14 +2,15 @@
 ghost use mathlib.Core.Path.{_≡_};
 ghost use mathlib.Core.Bool.{true};
 ghost use Prim.Native.Nat.{_+_, _%_, _≤_};
-ghost use lib.ListN.{length};
+ghost use lib.ListN.{length, drop};
 ghost use Rattle.ground.specs.Scan.{freeOf};
 ghost use Rattle.ground.specs.Verdict.{mostBytes};
 ghost use Rattle.entry.specs.Record.{nameOf};
-ghost use Rattle.front.specs.Code.{codeAt};
+ghost use Rattle.entry.specs.Decode.{decode};
+ghost use Rattle.mode_code.specs.Code.{codeAt};
 ghost use Rattle.rules.specs.Rules.{isText, modesOf, gitRules};
 ghost use Rattle.reading.specs.Listing.{tally};
-ghost use Rattle.strict.specs.Strict.{textOf, strictly, strictAnswer, strictRecords};
+ghost use Rattle.strict.specs.Strict.{textOf, strictly, strictCount, strictAnswer, strictRecords};
 ghost use Rattle.strict.specs.Code.{Within, LastWithin, entryNo, afterAt, marksAfter, Roomy};
 use doubles::Placed;
 use doubles::place_entry;
@@ -18,7 +19,6 @@ use entry::Decoded;
 use entry::EntryRecord;
 use entry::WIDTH;
 use entry::is_folder;
-use front::quick_code;
 use ground::Answer;
 use ground::BOUND;
 use ground::DONE;
@@ -30,16 +30,48 @@ use ground::MOST_RECORDS;
 use ground::ORDER;
 use ground::SAME_NAME;
 use ground::Verdict;
+use mode_code::quick_code;
 use reading::Counted;
 use reading::finish;
 use rules::mode_permitted;
 use rules::name_number;
 use rules::rule_bounds;
+use scan::find_nul;
 
 // The entry before the one that is read.
 enum Last {
     Nothing,
     After(EntryRecord),
+}
+
+// One entry at a place as its cursor decodes it, the written modes tried first.
+fn decode_at(s: &[u8], h: usize, at: usize) -> Decoded
+    ensures { λ r. ⌜ r ≡ decode h at (drop at (now (s .entry))) ⌝ }
+{
+    let c = Cursor { at };
+    let code = quick_code(s, at);
+    if code == 0 {
+        return c.decode(s, h);
+    }
+    let mode = code / 16;
+    let name_start = at + code % 16;
+    let name_end = find_nul(s, name_start);
+    let left = s.len() - name_end;
+    if left <= h {
+        return c.decode(s, h);
+    }
+    let id_start = name_end + 1;
+    let next = id_start + h;
+    Decoded::Whole(
+        EntryRecord {
+            mode,
+            name_start,
+            name_end,
+            id_start,
+            text_start: at,
+        },
+        Cursor { at: next },
+    )
 }
 
 // Where an entry stands after the one before, with n names open among the marks.
@@ -113,7 +145,7 @@ fn count_marked(rules: u16, s: &[u8], h: usize, marks: &mut [u32]) -> Counted
                 ..FINE
             });
         }
-        match c.decode(s, h) {
+        match decode_at(s, h, c.at) {
             Decoded::Whole(e, next) => {
                 let at = c.at;
                 let number = entry_number(rules, s, at, e);
@@ -213,6 +245,19 @@ fn count_strict(rules: u16, s: &[u8], h: usize) -> Counted
         return count_medium(rules, s, h);
     }
     count_large(rules, s, h)
+}
+
+// How many entries an object has that keeps the strict rules by a rule set, or its refusal; 2 for an object over its bound.
+pub fn strict_count(bytes: &[u8], h: usize, rules: u16) -> Counted
+    ensures { λ r. ⌜ r ≡ strictCount rules h (now (bytes .entry)) ⌝ }
+{
+    if MOST_BYTES < bytes.len() {
+        return Counted::Stopped(Verdict {
+            number: BOUND,
+            ..FINE
+        });
+    }
+    count_strict(rules, bytes, h)
 }
 
 // The object's entries as records, where they keep the strict rules by rule set 1 or 2; a refusal changes none of the numbers lent.

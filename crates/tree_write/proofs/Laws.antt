@@ -19,8 +19,8 @@ use Rattle.ground.specs.declared.Answer.{Answer}
 use Rattle.ground.specs.declared.Gate.the-variants.{Open, Shut}
 use Rattle.output.specs.Output.{fitted}
 use Rattle.output.proofs.Laws.{gated-shut, gated-open}
-use Rattle.mode.specs.Write.{writeMode}
-use Rattle.mode.proofs.Laws.{mode-le}
+use Rattle.mode_text.specs.Write.{writeMode}
+use Rattle.mode_text.proofs.Laws.{mode-le}
 use Rattle.entry.specs.Record.{many, noRecord, recordsOf, wellFormed, nameOf, idOf}
 use Rattle.entry.specs.Entry.{entryBytes, asWritten, entryOf}
 use Rattle.entry.proofs.Laws.{records-many, well-parts}

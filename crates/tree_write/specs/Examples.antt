@@ -7,7 +7,7 @@ use Rattle.ground.specs.Basics.{ascii}
 use Rattle.ground.specs.Verdict.{verdict, counted, refused, idLength, sizeGate, gateOf, stored}
 use Rattle.ground.specs.declared.Answer.{Answer}
 use Rattle.output.specs.Output.{fitted, gated}
-use Rattle.mode.specs.Write.{writeMode, trimmed}
+use Rattle.mode_text.specs.Write.{writeMode, trimmed}
 use Rattle.entry.specs.Record.{recordsOf, wellFormed, nameOf, idOf}
 use Rattle.entry.specs.Entry.{entryBytes, asWritten, entryOf}
 use Rattle.tree_write.specs.Write.{written, refusal, judged, measured, treeSize, treeAnswer}

@@ -10,7 +10,7 @@ use Rattle.ground.specs.Verdict.{verdict, fine, counted, refused, gateOf}
 use Rattle.ground.specs.declared.Verdict.{Verdict}
 use Rattle.ground.specs.declared.Answer.{Answer}
 use Rattle.output.specs.Output.{gated, fitted}
-use Rattle.mode.specs.Write.{writeMode}
+use Rattle.mode_text.specs.Write.{writeMode}
 use Rattle.entry.specs.Record.{recordsOf, wellFormed, nameOf}
 use Rattle.entry.specs.Entry.{asWritten, entriesOf}
 use Rattle.entry.specs.declared.EntryRecord.{EntryRecord}

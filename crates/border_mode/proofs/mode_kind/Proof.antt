@@ -3,7 +3,7 @@ use borrow.Author.Needs.{needs}
 use Rattle.border_mode.proofs.mode_kind.Statement.{statement}
 use Rattle.border_mode.proofs.mode_kind.Tie as tie
 use mathlib.Core.Path.{ap, _∙_}
-use Rattle.mode.specs.Table.{writtenOf}
+use Rattle.mode_table.specs.Table.{writtenOf}
 
 kind-requires : tie.Need-kind-requires
 kind-requires c κs = search needs

@@ -2,22 +2,34 @@
 use borrow.Author.Needs.{needs}
 use Rattle.commit_write.proofs.put_line.Statement.{statement}
 use Rattle.commit_write.proofs.put_line.Tie as tie
-use Rattle.commit_write.proofs.Laws.{line-put}
-use mathlib.Core.Path.{refl}
+use Rattle.commit_write.proofs.Laws.{range-put}
 use lib.ListN.{length}
-use Prim.Native.Nat.{_+_}
+use Prim.Native.Nat.{_+_, _-_}
+use mathlib.Core.Path.{refl}
 
-add-from : tie.Need-add-from
-add-from c = search needs
+add-value : tie.Need-add-value
+add-value c = search needs
 
-add-from-2 : tie.Need-add-from-2
-add-from-2 c = search needs
+add-value-2 : tie.Need-add-value-2
+add-value-2 c = search needs
+
+sub-end : tie.Need-sub-end
+sub-end c = search needs
 
 add-end : tie.Need-add-end
 add-end c = search needs
 
 put-ended-requires : tie.Need-put-ended-requires
 put-ended-requires c κs = search needs
+
+sub-put-ended : tie.Need-sub-put-ended
+sub-put-ended c = search needs
+
+part-put-ended-start : tie.Need-part-put-ended-start
+part-put-ended-start c = search needs
+
+part-put-ended-end : tie.Need-part-put-ended-end
+part-put-ended-end c = search needs
 
 put-ended-requires-2 : tie.Need-put-ended-requires-2
 put-ended-requires-2 c κs = search needs
@@ -30,22 +42,27 @@ same-length c = search needs
 
 returns : tie.Need-returns
 returns c =
-    let at-put-ended = c .before .before .before .before .before .before in
-    let put-ended = at-put-ended .put-ended in
-    let at-args = at-put-ended .before .before .before .before .before in
-    let args = at-args .args in
-    let from = args .at + length (args .word .now) + 1 in
-    let k = line-put _ _ _ (args .word .now) (args .value .now) (args .at) from (from + length (args .value .now) + 1) refl refl (put-ended .ensures) (c .before .before .put-ended2 .ensures) in
-    (k .past, k .holds)
+    let at-put-ended2 = c .before .before in
+    let at-put-ended = at-put-ended2 .before .before .before .before .before in
+    let start = at-put-ended .before .before .before .before .before in
+    let args = start .args in
+    let value = args .at + length (args .word .now) + 1 in
+    let w = range-put _ _ _ (args .word .now) (args .bytes .now) (args .at) value (value + (args .to - args .from) + 1) (args .from) (args .to)
+    (start .pre .0 .0) (start .pre .0 .1) refl refl (at-put-ended .put-ended .ensures) (at-put-ended2 .put-ended2 .ensures) in
+    (w .past, w .holds)
 
 pub put-line-spec : {M : Type 1} → statement M
 put-line-spec =
     tie.close
     (tie.spec
-    add-from
-    add-from-2
+    add-value
+    add-value-2
+    sub-end
     add-end
     put-ended-requires
+    sub-put-ended
+    part-put-ended-start
+    part-put-ended-end
     put-ended-requires-2
     add-result
     same-length

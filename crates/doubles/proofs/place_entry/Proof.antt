@@ -2,10 +2,14 @@
 use borrow.Author.Needs.{needs}
 use Rattle.doubles.proofs.place_entry.Statement.{statement}
 use Rattle.doubles.proofs.place_entry.Tie as tie
-use native.Mathlib.Omega.{arith}
+use Rattle.doubles.proofs.place_entry.Reads as reads
+use Rattle.doubles.proofs.place_entry.Lts as lts
+use Rattle.doubles.proofs.open_entry.Reads as open-entry-reads
+use Rattle.order.proofs.by_next.Reads as by-next-reads
+use Rattle.scan.proofs.common_start.Reads as common-start-reads
 use mathlib.Core.Path.{sym, _∙_}
 use Rattle.order.proofs.Laws.{decided-at}
-use Rattle.doubles.proofs.Stacking.{open-within, went-same, went-above, went-double, went-fine}
+use Rattle.doubles.proofs.Stacking.{went-same, went-above, went-below}
 
 common-start-requires : tie.Need-common-start-requires
 common-start-requires c κs = search needs
@@ -16,34 +20,8 @@ by-next-requires c κs = search needs
 enum-told : tie.Need-enum-told
 enum-told c = search needs
 
-shorter-requires : tie.Need-shorter-requires
-shorter-requires c κs = search needs
-
-open-next-requires : tie.Need-open-next-requires
-open-next-requires c κs = omega (arith, c .before .shorter .ensures)
-
-is-double-requires : tie.Need-is-double-requires
-is-double-requires c κs =
-    let open-next = c .before .before .before .open-next in
-    let shorter = c .before .before .before .before .before .shorter in
-    let common-start = c .before .before .before .before .before .before .before .before .before .common-start in
-    let args = c .before .before .before .before .before .before .before .before .before .before .before .before .before .args in
-    rw (open-next .ensures .0, open-next .ensures .1) (open-within (args .marks .now) (shorter .result) (common-start .result) _ (args .was) (omega (arith, shorter .ensures)))
-
-same-length : tie.Need-same-length
-same-length c = search needs
-
-returns : tie.Need-returns
-returns c =
-    let open-next = c .before .before .before .before .before .open-next in
-    let shorter = c .before .before .before .before .before .before .before .shorter in
-    let enum-told = c .before .before .before .before .before .before .before .before .enum-told in
-    let by-next = c .before .before .before .before .before .before .before .before .before .before .by-next in
-    let common-start = c .before .before .before .before .before .before .before .before .before .before .before .common-start in
-    let args = c .before .before .before .before .before .before .before .before .before .before .before .before .before .before .before .args in
-    went-double (args .marks .now) (args .n) (args .last .now) (args .was) (args .name .now) (args .folder)
-    (decided-at _ _ _ _ _ (common-start .ensures) ∙ sym (by-next .ensures) ∙ enum-told .given .1) (shorter .result) (common-start .result) (open-next .result) (open-next .last .0)
-    (shorter .ensures) (common-start .ensures) (open-next .ensures) (sym (c .before .is-double .ensures) ∙ c .if1 .taken)
+open-entry-requires : tie.Need-open-entry-requires
+open-entry-requires c κs = search needs
 
 enum-told-2 : tie.Need-enum-told-2
 enum-told-2 c = search needs
@@ -51,36 +29,17 @@ enum-told-2 c = search needs
 enum-told-3 : tie.Need-enum-told-3
 enum-told-3 c = search needs
 
-same-length-2 : tie.Need-same-length-2
-same-length-2 c = search needs
+same-length : tie.Need-same-length
+same-length c = search needs
+
+returns : tie.Need-returns
+returns c = went-below (c .before .before .before .before .before .before .before .before .before .before .before .args .marks .now) (c .before .before .before .before .before .before .before .before .before .before .before .args .n) (c .before .before .before .before .before .before .before .before .before .before .before .args .last .now) (c .before .before .before .before .before .before .before .before .before .before .before .args .was) (c .before .before .before .before .before .before .before .before .before .before .before .args .name .now) (c .before .before .before .before .before .before .before .before .before .before .before .args .folder) (decided-at _ _ _ _ _ (c .before .before .before .before .before .before .before .common-start .ensures) ∙ sym (c .before .before .before .before .before .before .by-next .ensures) ∙ c .before .before .before .before .enum-told .given .1) (c .before .before .before .before .before .before .before .common-start .result) (c .before .before .before .before .before .before .before .common-start .ensures) (c .before .before .open-entry .ensures)
 
 returns-2 : tie.Need-returns-2
-returns-2 c =
-    let open-next = c .before .before .before .before .before .open-next in
-    let shorter = c .before .before .before .before .before .before .before .shorter in
-    let enum-told = c .before .before .before .before .before .before .before .before .enum-told in
-    let by-next = c .before .before .before .before .before .before .before .before .before .before .by-next in
-    let common-start = c .before .before .before .before .before .before .before .before .before .before .before .common-start in
-    let args = c .before .before .before .before .before .before .before .before .before .before .before .before .before .before .before .args in
-    went-fine (args .marks .now) (args .n) (args .last .now) (args .was) (args .name .now) (args .folder)
-    (decided-at _ _ _ _ _ (common-start .ensures) ∙ sym (by-next .ensures) ∙ enum-told .given .1) (shorter .result) (common-start .result) (open-next .result) (open-next .last .0)
-    (shorter .ensures) (common-start .ensures) (open-next .ensures) (sym (c .before .is-double .ensures) ∙ c .if1 .left)
+returns-2 c = went-same (c .before .before .before .before .before .before .before .args .marks .now) (c .before .before .before .before .before .before .before .args .n) (c .before .before .before .before .before .before .before .args .last .now) (c .before .before .before .before .before .before .before .args .was) (c .before .before .before .before .before .before .before .args .name .now) (c .before .before .before .before .before .before .before .args .folder) (decided-at _ _ _ _ _ (c .before .before .before .common-start .ensures) ∙ sym (c .before .before .by-next .ensures) ∙ c .enum-told2 .given .1)
 
 returns-3 : tie.Need-returns-3
-returns-3 c =
-    let by-next = c .before .before .by-next in
-    let common-start = c .before .before .before .common-start in
-    let args = c .before .before .before .before .before .before .before .args in
-    went-same (args .marks .now) (args .n) (args .last .now) (args .was) (args .name .now) (args .folder)
-    (decided-at _ _ _ _ _ (common-start .ensures) ∙ sym (by-next .ensures) ∙ c .enum-told2 .given .1)
-
-returns-4 : tie.Need-returns-4
-returns-4 c =
-    let by-next = c .before .before .by-next in
-    let common-start = c .before .before .before .common-start in
-    let args = c .before .before .before .before .before .before .before .args in
-    went-above (args .marks .now) (args .n) (args .last .now) (args .was) (args .name .now) (args .folder)
-    (decided-at _ _ _ _ _ (common-start .ensures) ∙ sym (by-next .ensures) ∙ c .enum-told3 .given .1)
+returns-3 c = went-above (c .before .before .before .before .before .before .before .args .marks .now) (c .before .before .before .before .before .before .before .args .n) (c .before .before .before .before .before .before .before .args .last .now) (c .before .before .before .before .before .before .before .args .was) (c .before .before .before .before .before .before .before .args .name .now) (c .before .before .before .before .before .before .before .args .folder) (decided-at _ _ _ _ _ (c .before .before .before .common-start .ensures) ∙ sym (c .before .before .by-next .ensures) ∙ c .enum-told3 .given .1)
 
 pub place-entry-spec : {M : Type 1} → statement M
 place-entry-spec =
@@ -89,14 +48,10 @@ place-entry-spec =
     common-start-requires
     by-next-requires
     enum-told
-    shorter-requires
-    open-next-requires
-    is-double-requires
-    same-length
-    returns
+    open-entry-requires
     enum-told-2
     enum-told-3
-    same-length-2
+    same-length
+    returns
     returns-2
-    returns-3
-    returns-4)
+    returns-3)

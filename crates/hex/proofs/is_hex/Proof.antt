@@ -1,44 +1,65 @@
--- `hex::is_hex` meets its contract. Assumes nothing.
-use borrow.Author.Needs.{needs}
 use Rattle.hex.proofs.is_hex.Statement.{statement}
 use Rattle.hex.proofs.is_hex.Tie as tie
+use Rattle.hex.proofs.is_hex.Reads as reads
+use Rattle.hex.proofs.is_hex.Lts as lts
+use Rattle.hex.proofs.wide.Reads as wide-reads
+use borrow.Author.Needs.{needs}
 use Prim.Native.Nat.{_-_}
-use mathlib.Core.Path.{_≡_, refl, sym, _∙_}
-use lib.ListN.{length, drop}
-use Rattle.hex.specs.Hex.{isHex}
-use Rattle.hex.proofs.Laws.{hex-more, hex-not, hex-end}
+use native.Mathlib.Omega.{arith}
+use mathlib.Core.Path.{_≡_, refl, ap, sym, _∙_}
+use lib.ListN.{length, drop, getD}
+use Rattle.hex.specs.Hex.{hexValue, isHex}
+use Rattle.hex.proofs.Laws.{table-is, hex-more, hex-not, hex-end}
 
 abbrev Inv-loop : tie.InvT-loop
-Inv-loop t i₀ i = isHex t ≡ isHex (drop i t)
+Inv-loop t digits i₀ i = isHex t ≡ isHex (drop i t)
 
 abbrev μ-loop : tie.MeasureT-loop
-μ-loop t i₀ i = length t - i
+μ-loop t digits i₀ i = length t - i
 
+-- src/lib.rt:52:5
 loop-holds : tie.Need-loop-holds Inv-loop μ-loop
 loop-holds c = refl
 
-shared-slice-read-hex-digit : tie.Need-shared-slice-read-hex-digit Inv-loop μ-loop
-shared-slice-read-hex-digit c = search needs
+-- src/lib.rt:53:22
+shared-slice-read-wide : tie.Need-shared-slice-read-wide Inv-loop μ-loop
+shared-slice-read-wide c = search needs
 
-hex-digit-requires : tie.Need-hex-digit-requires Inv-loop μ-loop
-hex-digit-requires c κs = search needs
+-- src/lib.rt:53:13
+wide-requires : tie.Need-wide-requires Inv-loop μ-loop
+wide-requires c κs = search needs
 
+-- src/lib.rt:56:12
+mul-if1 : tie.Need-mul-if1 Inv-loop μ-loop
+mul-if1 c = search needs
+
+-- src/lib.rt:56:12
+index-1-if1 : tie.Need-index-1-if1 Inv-loop μ-loop
+index-1-if1 c = search needs
+
+-- src/lib.rt:56:12
+index-2-if1 : tie.Need-index-2-if1 Inv-loop μ-loop
+index-2-if1 c = search needs
+
+-- src/lib.rt:57:13
 returns : tie.Need-returns Inv-loop μ-loop
-returns c =
-    let loop = c .before .before .before .before .loop in
-    sym (loop .inv ∙ hex-not _ _ (c .before .before .before .loop-test .taken) (sym (c .before .hex-digit .ensures) ∙ c .if1 .taken))
+unfolding hexValue
+returns c = sym (c .before .before .before .before .before .loop .inv ∙ hex-not _ _ (c .before .before .before .before .loop-test .taken) (sym (ap hexValue (c .before .before .wide .ensures .0)) ∙ sym (table-is (c .before .before .wide .result) (c .before .before .wide .ensures .1)) ∙ c .if1 .taken))
 
+-- src/lib.rt:59:9
 add-i : tie.Need-add-i Inv-loop μ-loop
 add-i c = search needs
 
+-- src/lib.rt:52:5
 loop-less : tie.Need-loop-less Inv-loop μ-loop
 loop-less c = search needs
 
+-- src/lib.rt:52:5
 loop-again : tie.Need-loop-again Inv-loop μ-loop
-loop-again c =
-    let loop = c .before .before .before .before .loop in
-    loop .inv ∙ hex-more _ _ (c .before .before .before .loop-test .taken) (λ e. c .if1 .left (c .before .hex-digit .ensures ∙ e))
+unfolding hexValue
+loop-again c = c .before .before .before .before .before .loop .inv ∙ hex-more _ _ (c .before .before .before .before .loop-test .taken) (λ e. c .if1 .left (table-is (c .before .before .wide .result) (c .before .before .wide .ensures .1) ∙ ap hexValue (c .before .before .wide .ensures .0) ∙ e))
 
+-- src/lib.rt:47:1
 returns-2 : tie.Need-returns-2 Inv-loop μ-loop
 returns-2 c = sym (c .before .loop .inv ∙ hex-end _ _ (c .loop-test .left))
 
@@ -49,8 +70,11 @@ is-hex-spec =
     Inv-loop
     μ-loop
     loop-holds
-    shared-slice-read-hex-digit
-    hex-digit-requires
+    shared-slice-read-wide
+    wide-requires
+    mul-if1
+    index-1-if1
+    index-2-if1
     returns
     add-i
     loop-less

@@ -52,10 +52,10 @@ returns c =
     let at-args = at-above .before .before .before in
     let a = at-args .args in
     let s = a .s .now in
-    let w = line-said s (a .e) _ _ _ (at-above .above .ensures) (at-piece .piece .ensures .0) (at-piece2 .piece2 .ensures .0) in
+    let w = line-said (a .h) s (a .e) _ _ _ (at-above .above .ensures) (at-piece .piece .ensures .0) (at-piece2 .piece2 .ensures .0) in
     let x = added-then (added-then (at-add-mode .add-mode .ensures .0) (at-add-hex .add-hex .ensures .0)) (at-add .add .ensures) in
-    let e = added-is (line s (a .e)) w (added-then (added-then x (at-add2 .add2 .ensures)) (at-add3 .add3 .ensures)) in
-    (e, omega (arith, e .place, line-most s (a .e), at-args .pre .1))
+    let e = added-is (line (a .h) s (a .e)) w (added-then (added-then x (at-add2 .add2 .ensures)) (at-add3 .add3 .ensures)) in
+    (e, omega (arith, e .place, line-most (a .h) s (a .e), at-args .pre .1, at-args .pre .2))
 
 pub add-line-spec : {M : Type 1} → statement M
 add-line-spec =

@@ -11,12 +11,12 @@ use Rattle.listing_text.specs.Text.{lines}
 use Rattle.listing_text.proofs.Laws.{Rest, rest-all, rest-none, lines-turn, lines-end}
 
 abbrev Inv-loop : tie.InvT-loop
-Inv-loop out₀ at s records n p₀ i₀ out p i =
-    (length out ≡ length out₀) × (n ≡ many (length records)) × (i ≤ n) × (p ≤ at + i * 65600) × Rest out₀ at (lines s (recordsOf records)) out p
-    (lines s (drop i (recordsOf records)))
+Inv-loop out₀ at h s records n p₀ i₀ out p i =
+    (length out ≡ length out₀) × (n ≡ many (length records)) × (i ≤ n) × (p ≤ at + i * 65664) × Rest out₀ at (lines h s (recordsOf records)) out p
+    (lines h s (drop i (recordsOf records)))
 
 abbrev μ-loop : tie.MeasureT-loop
-μ-loop out₀ at s records n p₀ i₀ out p i = n - i
+μ-loop out₀ at h s records n p₀ i₀ out p i = n - i
 
 loop-holds : tie.Need-loop-holds Inv-loop μ-loop
 loop-holds c = (refl, refl, omega arith, omega arith, rest-all _ _ _)
@@ -29,7 +29,7 @@ add-line-requires c κs =
     let at-loop-test = c .before .before in
     let at-loop = at-loop-test .before in
     let at-args = at-loop .before .before .before .before in
-    (omega (arith, at-loop .loop .inv .1, at-loop .loop .inv .3, at-loop-test .loop-test .taken, at-args .pre .0, at-args .pre .2), at-args .pre .1)
+    (omega (arith, at-loop .loop .inv .1, at-loop .loop .inv .3, at-loop-test .loop-test .taken, at-args .pre .0, at-args .pre .3), at-args .pre .1, at-args .pre .2)
 
 add-i : tie.Need-add-i Inv-loop μ-loop
 add-i c = search needs
@@ -50,7 +50,7 @@ loop-again c =
       l .inv .1,
       omega arith,
       omega (arith, e .1, l .inv .3),
-      lines-turn (at-args .args .s .now) (at-args .args .records .now) (l .i)
+      lines-turn (at-args .args .h) (at-args .args .s .now) (at-args .args .records .now) (l .i)
           (omega (arith, l .inv .1, at-loop-test .loop-test .taken)) (at-entry-at .entry-at .ensures) (l .inv .4) (e .0),
     )
 
@@ -62,7 +62,7 @@ returns c =
     let at-loop = c .before in
     let at-args = at-loop .before .before .before .before in
     let l = at-loop .loop in
-    rest-none (l .inv .4) (lines-end (at-args .args .s .now) (at-args .args .records .now) (l .i) (omega (arith, l .inv .1, c .loop-test .left)))
+    rest-none (l .inv .4) (lines-end (at-args .args .h) (at-args .args .s .now) (at-args .args .records .now) (l .i) (omega (arith, l .inv .1, c .loop-test .left)))
 
 pub add-lines-spec : {M : Type 1} → statement M
 add-lines-spec =

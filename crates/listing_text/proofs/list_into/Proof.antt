@@ -5,6 +5,7 @@ use Rattle.listing_text.proofs.list_into.Tie as tie
 use native.Mathlib.Omega.{arith}
 use mathlib.Core.Path.{_≡_, refl, sym, _∙_}
 use Prim.Native.Nat.{_*_}
+use Rattle.ground.proofs.Laws.{id-is, id-small}
 use Rattle.entry.specs.Record.{width}
 use Rattle.listing_text.specs.Code.{room}
 use Rattle.listing_text.proofs.Room.{read-all, front-count, front-most, told-refused, told-all}
@@ -31,7 +32,7 @@ returns c =
     let p = at-args .pre in
     let t = at-read-tree .read-tree in
     let e = at-add-refusal .add-refusal .ensures in
-    told-refused (a .object .now) (a .records .now) _ _ (t .result) _ (p .0) (p .1) (t .ensures .0) (at-if1 .if1 .taken) e
+    told-refused (a .h) (p .0) (a .object .now) (a .records .now) _ _ (t .result) _ (p .1) (p .2) (t .ensures .0) (at-if1 .if1 .taken) e
 
 mul-all : tie.Need-mul-all
 mul-all c =
@@ -40,7 +41,7 @@ mul-all c =
     let a = at-args .args in
     let p = at-args .pre in
     let t = at-read-tree .read-tree in
-    let n = read-all (a .object .now) (a .records .now) (t .result) (p .0) (p .1) (t .ensures .0) (c .if1 .left) .2 in
+    let n = read-all (a .h) (p .0) (a .object .now) (a .records .now) (t .result) (p .1) (p .2) (t .ensures .0) (c .if1 .left) .2 in
     omega (arith, n)
 
 add-head-requires : tie.Need-add-head-requires
@@ -54,8 +55,8 @@ slice-reshare-prefix-add-lines c =
     let a = at-args .args in
     let p = at-args .pre in
     let t = at-read-tree .read-tree in
-    let n = read-all (a .object .now) (a .records .now) (t .result) (p .0) (p .1) (t .ensures .0) (at-if1 .if1 .left) .2 in
-    omega (arith, n, t .kept .1, p .1)
+    let n = read-all (a .h) (p .0) (a .object .now) (a .records .now) (t .result) (p .1) (p .2) (t .ensures .0) (at-if1 .if1 .left) .2 in
+    omega (arith, n, t .kept .1, p .2)
 
 slice-aggregate-add-lines : tie.Need-slice-aggregate-add-lines
 slice-aggregate-add-lines c =
@@ -65,8 +66,8 @@ slice-aggregate-add-lines c =
     let a = at-args .args in
     let p = at-args .pre in
     let t = at-read-tree .read-tree in
-    let n = read-all (a .object .now) (a .records .now) (t .result) (p .0) (p .1) (t .ensures .0) (at-if1 .if1 .left) .2 in
-    sym (front-count (t .result .count * width) (t .ensures .1) (omega (arith, n, t .kept .1, p .1)))
+    let n = read-all (a .h) (p .0) (a .object .now) (a .records .now) (t .result) (p .1) (p .2) (t .ensures .0) (at-if1 .if1 .left) .2 in
+    sym (front-count (t .result .count * width) (t .ensures .1) (omega (arith, n, t .kept .1, p .2)))
 
 add-lines-requires : tie.Need-add-lines-requires
 add-lines-requires c κs =
@@ -77,8 +78,8 @@ add-lines-requires c κs =
     let a = at-args .args in
     let p = at-args .pre in
     let t = at-read-tree .read-tree in
-    let n = read-all (a .object .now) (a .records .now) (t .result) (p .0) (p .1) (t .ensures .0) (at-if1 .if1 .left) .2 in
-    (omega (arith, at-add-head .add-head .ensures .1), p .0, front-most (t .result .count * width) (room * width) (t .ensures .1) (omega (arith, n)))
+    let n = read-all (a .h) (p .0) (a .object .now) (a .records .now) (t .result) (p .1) (p .2) (t .ensures .0) (at-if1 .if1 .left) .2 in
+    (omega (arith, at-add-head .add-head .ensures .1), id-small (a .h) (id-is (a .h) (p .0)) .1, p .1, front-most (t .result .count * width) (room * width) (t .ensures .1) (omega (arith, n)))
 
 same-length-3 : tie.Need-same-length-3
 same-length-3 c = search needs
@@ -99,7 +100,7 @@ returns-2 c =
     let h = at-add-head .add-head .ensures .0 in
     let e = at-add-lines .add-lines .ensures in
     let z = at-if1 .if1 .left in
-    told-all (a .object .now) (a .records .now) _ _ _ _ (t .result) _ _ (p .0) (p .1) (t .ensures .0) (t .ensures .1) z h e
+    told-all (a .h) (p .0) (a .object .now) (a .records .now) _ _ _ _ (t .result) _ _ (p .1) (p .2) (t .ensures .0) (t .ensures .1) z h e
 
 pub list-into-spec : {M : Type 1} → statement M
 list-into-spec =

@@ -9,7 +9,7 @@ slice-aggregate-list-into : tie.Need-slice-aggregate-list-into
 slice-aggregate-list-into c = search needs
 
 list-into-requires : tie.Need-list-into-requires
-list-into-requires c κs = (c .before .before .before .before .pre, length-replicate {A = ℕ} 14890 0)
+list-into-requires c κs = let p = c .before .before .before .before .pre in (p .0, p .1, length-replicate {A = ℕ} 14890 0)
 
 same-length : tie.Need-same-length
 same-length c = search needs

@@ -2,17 +2,22 @@
 use borrow.Author.Needs.{needs}
 use Rattle.listing_text.proofs.put_listing.Statement.{statement}
 use Rattle.listing_text.proofs.put_listing.Tie as tie
-use mathlib.Core.Path.{refl}
-use Rattle.listing_text.proofs.Room.{text-long, listed-long, told-both}
+use mathlib.Core.Path.{sym, _∙_}
+use Rattle.listing_text.proofs.Room.{told-any, told-other}
 
-list-short-requires : tie.Need-list-short-requires
-list-short-requires c κs = search needs
+is-id-length-requires : tie.Need-is-id-length-requires
+is-id-length-requires c κs = search needs
+
+list-any-requires : tie.Need-list-any-requires
+list-any-requires c κs = sym (c .before .before .is-id-length .ensures) ∙ c .before .if1 .taken
 
 same-length : tie.Need-same-length
 same-length c = search needs
 
 returns : tie.Need-returns
-returns c = search needs
+returns c =
+    let args = c .before .before .before .before .before .before .before .before .args in
+    told-any (args .h) (args .object .now) _ _ _ (sym (c .before .before .before .before .before .is-id-length .ensures) ∙ c .before .before .before .before .if1 .taken) (c .before .before .list-any .ensures .0) (c .before .before .list-any .ensures .1)
 
 add-refusal-requires : tie.Need-add-refusal-requires
 add-refusal-requires c κs = search needs
@@ -22,17 +27,15 @@ same-length-2 c = search needs
 
 returns-2 : tie.Need-returns-2
 returns-2 c =
-    let at-add-refusal = c .before .before in
-    let at-if1 = at-add-refusal .before .before in
-    let at-args = at-if1 .before .before .before in
-    told-both (at-args .args .object .now) (listed-long (at-args .args .object .now) (at-if1 .if1 .left)) refl
-    (text-long (at-args .args .object .now) (at-if1 .if1 .left)) (at-add-refusal .add-refusal .ensures)
+    let args = c .before .before .before .before .before .before .before .before .args in
+    told-other (args .h) (args .object .now) (sym (c .before .before .before .before .before .is-id-length .ensures) ∙ c .before .before .before .before .if1 .left) (c .before .before .add-refusal .ensures)
 
 pub put-listing-spec : {M : Type 1} → statement M
 put-listing-spec =
     tie.close
     (tie.spec
-    list-short-requires
+    is-id-length-requires
+    list-any-requires
     same-length
     returns
     add-refusal-requires

@@ -3,7 +3,7 @@ use borrow.Author.Needs.{needs}
 use Rattle.reading.proofs.mode_code.Statement.{statement}
 use Rattle.reading.proofs.mode_code.Tie as tie
 use mathlib.Core.Path.{sym, _∙_}
-use Rattle.front.proofs.Laws.{quick-is-code}
+use Rattle.mode_code.proofs.Laws.{quick-is-code}
 
 quick-code-requires : tie.Need-quick-code-requires
 quick-code-requires c κs = search needs

@@ -3,7 +3,7 @@ use borrow.Author.Needs.{needs}
 use Rattle.rules.proofs.mode_permitted.Statement.{statement}
 use Rattle.rules.proofs.mode_permitted.Tie as tie
 use mathlib.Core.Path.{sym, _∙_}
-use Rattle.mode.specs.Table.{writtenMode}
+use Rattle.mode_table.specs.Table.{writtenMode}
 use Rattle.rules.proofs.Laws.{mode-found, mode-none}
 
 written-mode-requires : tie.Need-written-mode-requires

@@ -31,16 +31,16 @@ returns c =
     let loop = c .before .before .before .loop in
     reading-full _ _ _ _ _ _ _ _ (loop .inv .0) (c .before .if1 .taken) (c .if2 .taken)
 
-decode-requires : tie.Need-decode-requires Inv-loop μ-loop
-decode-requires c κs = search needs
+decode-at-requires : tie.Need-decode-at-requires Inv-loop μ-loop
+decode-at-requires c κs = search needs
 
 enum-known-e : tie.Need-enum-known-e Inv-loop μ-loop
 enum-known-e c = search needs
 
 entry-number-requires : tie.Need-entry-number-requires Inv-loop μ-loop
 entry-number-requires c κs =
-    let decode = c .before .before .before .decode in
-    let d = sym (decode .ensures) ∙ c .before .e .given .1 in
+    let decode-at = c .before .before .before .decode-at in
+    let d = sym (decode-at .ensures) ∙ c .before .e .given .1 in
     (decoded-within _ _ _ _ _ d, (decoded-free _ _ _ _ _ d, decoded-code _ _ _ _ _ d))
 
 same-length-2 : tie.Need-same-length-2 Inv-loop μ-loop
@@ -51,19 +51,19 @@ same-length-2 c =
 returns-2 : tie.Need-returns-2 Inv-loop μ-loop
 returns-2 c =
     let e = c .before .before .before .e in
-    let decode = c .before .before .before .before .before .decode in
+    let decode-at = c .before .before .before .before .before .decode-at in
     let if2 = c .before .before .before .before .before .before .if2 in
     let if1 = c .before .before .before .before .before .before .before .if1 in
     let loop = c .before .before .before .before .before .before .before .before .before .loop in
-    reading-refused _ _ _ _ _ _ _ _ (loop .inv .0) (if1 .taken) (if2 .left) _ _ _ (sym (decode .ensures) ∙ e .given .1)
+    reading-refused _ _ _ _ _ _ _ _ (loop .inv .0) (if1 .taken) (if2 .left) _ _ _ (sym (decode-at .ensures) ∙ e .given .1)
     (c .before .entry-number .ensures) (c .if3 .taken)
 
 after-entry-requires : tie.Need-after-entry-requires Inv-loop μ-loop
 after-entry-requires c κs =
     let e = c .before .before .before .before .e in
-    let decode = c .before .before .before .before .before .before .decode in
+    let decode-at = c .before .before .before .before .before .before .decode-at in
     let loop = c .before .before .before .before .before .before .before .before .before .before .loop in
-    let w = decoded-within _ _ _ _ _ (sym (decode .ensures) ∙ e .given .1) in
+    let w = decoded-within _ _ _ _ _ (sym (decode-at .ensures) ∙ e .given .1) in
     (loop .inv .0 .inside, (w .1, w .2))
 
 enum-told : tie.Need-enum-told Inv-loop μ-loop
@@ -81,11 +81,11 @@ returns-3 c =
     let if3 = c .before .before .before .before .before .before .if3 in
     let entry-number = c .before .before .before .before .before .before .before .entry-number in
     let e = c .before .before .before .before .before .before .before .before .before .e in
-    let decode = c .before .before .before .before .before .before .before .before .before .before .before .decode in
+    let decode-at = c .before .before .before .before .before .before .before .before .before .before .before .decode-at in
     let if2 = c .before .before .before .before .before .before .before .before .before .before .before .before .if2 in
     let if1 = c .before .before .before .before .before .before .before .before .before .before .before .before .before .if1 in
     let loop = c .before .before .before .before .before .before .before .before .before .before .before .before .before .before .before .loop in
-    reading-low _ _ _ _ _ _ _ _ (loop .inv .0) (if1 .taken) (if2 .left) _ _ _ (sym (decode .ensures) ∙ e .given .1)
+    reading-low _ _ _ _ _ _ _ _ (loop .inv .0) (if1 .taken) (if2 .left) _ _ _ (sym (decode-at .ensures) ∙ e .given .1)
     (entry-number .ensures) (if3 .left) _ (after-entry .ensures .0) (c .enum-told .given .1)
 
 enum-told-2 : tie.Need-enum-told-2 Inv-loop μ-loop
@@ -103,11 +103,11 @@ returns-4 c =
     let if3 = c .before .before .before .before .before .before .if3 in
     let entry-number = c .before .before .before .before .before .before .before .entry-number in
     let e = c .before .before .before .before .before .before .before .before .before .e in
-    let decode = c .before .before .before .before .before .before .before .before .before .before .before .decode in
+    let decode-at = c .before .before .before .before .before .before .before .before .before .before .before .decode-at in
     let if2 = c .before .before .before .before .before .before .before .before .before .before .before .before .if2 in
     let if1 = c .before .before .before .before .before .before .before .before .before .before .before .before .before .if1 in
     let loop = c .before .before .before .before .before .before .before .before .before .before .before .before .before .before .before .loop in
-    reading-double _ _ _ _ _ _ _ _ (loop .inv .0) (if1 .taken) (if2 .left) _ _ _ (sym (decode .ensures) ∙ e .given .1)
+    reading-double _ _ _ _ _ _ _ _ (loop .inv .0) (if1 .taken) (if2 .left) _ _ _ (sym (decode-at .ensures) ∙ e .given .1)
     (entry-number .ensures) (if3 .left) _ (after-entry .ensures .0) (c .enum-told2 .given .1)
 
 enum-known-k : tie.Need-enum-known-k Inv-loop μ-loop
@@ -125,11 +125,11 @@ loop-again c =
     let if3 = c .before .before .before .before .before .before .before .if3 in
     let entry-number = c .before .before .before .before .before .before .before .before .entry-number in
     let e = c .before .before .before .before .before .before .before .before .before .before .e in
-    let decode = c .before .before .before .before .before .before .before .before .before .before .before .before .decode in
+    let decode-at = c .before .before .before .before .before .before .before .before .before .before .before .before .decode-at in
     let if2 = c .before .before .before .before .before .before .before .before .before .before .before .before .before .if2 in
     let if1 = c .before .before .before .before .before .before .before .before .before .before .before .before .before .before .if1 in
     let loop = c .before .before .before .before .before .before .before .before .before .before .before .before .before .before .before .before .loop in (
-      reading-kept _ _ _ _ _ _ _ _ (loop .inv .0) (if1 .taken) (if2 .left) _ _ _ (sym (decode .ensures) ∙ e .given .1)
+      reading-kept _ _ _ _ _ _ _ _ (loop .inv .0) (if1 .taken) (if2 .left) _ _ _ (sym (decode-at .ensures) ∙ e .given .1)
           (entry-number .ensures) (if3 .left) _ (after-entry .ensures .0) _ (c .before .k .given .1) _ (after-entry .ensures .1),
       after-same _ _ _ _ _ (after-entry .ensures .1) (loop .inv .1),
     )
@@ -144,11 +144,11 @@ same-length-5 c =
 
 returns-5 : tie.Need-returns-5 Inv-loop μ-loop
 returns-5 c =
-    let decode = c .before .before .before .decode in
+    let decode-at = c .before .before .before .decode-at in
     let if2 = c .before .before .before .before .if2 in
     let if1 = c .before .before .before .before .before .if1 in
     let loop = c .before .before .before .before .before .before .before .loop in
-    reading-broken _ _ _ _ _ _ _ _ (loop .inv .0) (if1 .taken) (if2 .left) (sym (decode .ensures) ∙ c .before .v .given .1)
+    reading-broken _ _ _ _ _ _ _ _ (loop .inv .0) (if1 .taken) (if2 .left) (sym (decode-at .ensures) ∙ c .before .v .given .1)
 
 same-length-6 : tie.Need-same-length-6 Inv-loop μ-loop
 same-length-6 c =
@@ -169,7 +169,7 @@ count-marked-spec =
     loop-holds
     same-length
     returns
-    decode-requires
+    decode-at-requires
     enum-known-e
     entry-number-requires
     same-length-2

@@ -2,7 +2,7 @@
 use borrow.Author.Needs.{needs}
 use Rattle.tree_write.proofs.mode_text.Statement.{statement}
 use Rattle.tree_write.proofs.mode_text.Tie as tie
-use Rattle.mode.proofs.Laws.{mode-le, text-is}
+use Rattle.mode_text.proofs.Laws.{mode-le, text-is}
 use native.Mathlib.Omega.{arith}
 
 cast-t3 : tie.Need-cast-t3

@@ -1,7 +1,8 @@
 -- `mode::EntryMode::as_str` meets its contract. Assumes nothing.
 use mathlib.Core.Path.{ap, _∙_}
-use Rattle.mode.specs.Table.{writtenOf, wordOf}
-use Rattle.mode.specs.declared.Written.{Written}
+use Rattle.mode_table.specs.Table.{writtenOf}
+use Rattle.mode.specs.Mode.{wordOf}
+use Rattle.mode_table.specs.declared.Written.{Written}
 use borrow.Author.Needs.{needs}
 use Rattle.mode.proofs.EntryMode.as_str.Statement.{statement}
 use Rattle.mode.proofs.EntryMode.as_str.Tie as tie

@@ -1,72 +1,25 @@
--- `mode::EntryMode::extract_at` meets its contract: it reads the bytes from the place on, of which eight are enough. Assumes nothing.
+-- `mode::EntryMode::extract_at` meets its contract: the text's bits make the mode. Assumes nothing.
 use borrow.Author.Needs.{needs}
 use Rattle.mode.proofs.EntryMode.extract_at.Statement.{statement}
 use Rattle.mode.proofs.EntryMode.extract_at.Tie as tie
 use mathlib.Core.Path.{sym, ap, _∙_}
-use native.Mathlib.Omega.{arith}
-use lib.ListN.{drop, length-drop}
-use Rattle.mode.specs.Read.{readModeAt, moved}
-use Rattle.mode.proofs.Laws.{past-reads, window-reads, read-next}
+use Rattle.mode.specs.Read.{made}
+use Rattle.mode.proofs.Laws.{made-at}
 
-returns : tie.Need-returns
-returns c = sym (past-reads _ _ (c .if1 .taken))
-
-eight-on-requires : tie.Need-eight-on-requires
-eight-on-requires c κs = search needs
-
-sub-extract : tie.Need-sub-extract
-sub-extract c = search needs
-
-part-extract-start : tie.Need-part-extract-start
-part-extract-start c = search needs
-
-part-extract-end : tie.Need-part-extract-end
-part-extract-end c = search needs
-
-extract-requires : tie.Need-extract-requires
-extract-requires c κs = search needs
+read-at-requires : tie.Need-read-at-requires
+read-at-requires c κs = search needs
 
 enum-known-m : tie.Need-enum-known-m
 enum-known-m c = search needs
 
-add-t13 : tie.Need-add-t13
-add-t13 c =
-    let q = c .before .before .before in
-    let p = q .before .before .before in
-    let s = p .before .before .args .s .now in
-    let at = p .before .before .args .at in
-    let e = sym (window-reads s at (p .if1 .left) _ (q .before .before .eight-on .ensures)) ∙ sym (q .extract .ensures) ∙ c .before .m .given .1 in
-    omega (arith, read-next (drop at s) _ _ e, length-drop at s, p .if1 .left)
-
 enum-told : tie.Need-enum-told
 enum-told c = search needs
 
-returns-2 : tie.Need-returns-2
-unfolding readModeAt
-returns-2 c =
-    let q = c .before .before .before in
-    let p = q .before .before .before in
-    ap (moved _) (sym (c .before .m .given .1) ∙ q .extract .ensures ∙ window-reads _ _ (p .if1 .left) _ (q .before .before .eight-on .ensures))
+returns : tie.Need-returns
+returns c = ap made (sym (c .before .m .given .1) ∙ c .before .before .before .read-at .ensures) ∙ made-at _ _
 
-returns-3 : tie.Need-returns-3
-unfolding readModeAt
-returns-3 c =
-    let q = c .before .before in
-    let p = q .before .before .before in
-    ap (moved _) (sym (c .enum-told .given .1) ∙ q .extract .ensures ∙ window-reads _ _ (p .if1 .left) _ (q .before .before .eight-on .ensures))
+returns-2 : tie.Need-returns-2
+returns-2 c = ap made (sym (c .enum-told .given .1) ∙ c .before .before .read-at .ensures) ∙ made-at _ _
 
 pub extract-at-spec : {M : Type 1} → statement M
-extract-at-spec =
-    tie.close
-    (tie.spec
-    returns
-    eight-on-requires
-    sub-extract
-    part-extract-start
-    part-extract-end
-    extract-requires
-    enum-known-m
-    add-t13
-    enum-told
-    returns-2
-    returns-3)
+extract-at-spec = tie.close (tie.spec read-at-requires enum-known-m enum-told returns returns-2)

@@ -1,7 +1,7 @@
 -- `mode::EntryMode::is_blob_or_symlink` meets its contract. Assumes nothing.
 use borrow.Author.Needs.{needs}
 use mathlib.Core.Path.{ap, _∙_}
-use Rattle.mode.specs.Mode.{isFileOrLink}
+use Rattle.mode_table.specs.Kind.{isFileOrLink}
 use Rattle.mode.proofs.EntryMode.is_blob_or_symlink.Statement.{statement}
 use Rattle.mode.proofs.EntryMode.is_blob_or_symlink.Tie as tie
 

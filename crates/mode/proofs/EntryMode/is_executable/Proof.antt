@@ -1,7 +1,7 @@
 -- `mode::EntryMode::is_executable` meets its contract. Assumes nothing.
 use borrow.Author.Needs.{needs}
 use mathlib.Core.Path.{ap, _∙_}
-use Rattle.mode.specs.Mode.{isExecutable}
+use Rattle.mode_table.specs.Kind.{isExecutable}
 use Rattle.mode.proofs.EntryMode.is_executable.Statement.{statement}
 use Rattle.mode.proofs.EntryMode.is_executable.Tie as tie
 

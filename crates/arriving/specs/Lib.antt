@@ -1,0 +1,5 @@
+pub mod Feed
+pub mod Whole
+pub mod Sixteen
+pub mod Bulk
+pub mod Claims

@@ -1,0 +1,2 @@
+pub mod Component
+pub mod Named

@@ -1,0 +1,4 @@
+pub mod Tables
+pub mod Sounds
+pub mod Writing
+pub mod Turns

@@ -1,0 +1,203 @@
+// A bundle's framing: its header, one object at a place, and where the object of an id stands (docs/FORMAT.md, "Bundles").
+ghost use mathlib.Core.Path.{_≡_};
+ghost use Prim.Native.Nat.{_+_, _≤_, _<_};
+ghost use lib.ListN.{length, take, drop};
+ghost use Rattle.frame.specs.Frame.{little, fieldsAt, headOf, frameAt, frames};
+ghost use Rattle.frame.specs.Place.{firstOf, placeOf};
+use ground::MOST_RECORDS;
+use scan::same_bytes;
+
+// What the kind byte of a tree is.
+pub const TREE: usize = 2;
+
+// What a bundle's header says: the length of ids, the rule set, how many objects there are, and where the first begins.
+pub struct Header {
+    pub h: usize,
+    pub rules: u16,
+    pub count: usize,
+    pub from: usize,
+}
+
+// A header, if there is one.
+pub enum Head {
+    Good(Header),
+    Bad,
+}
+
+// An object by its kind and by positions in the bundle: of its id, of its first byte, and past its last.
+pub struct Frame {
+    pub kind: usize,
+    pub id: usize,
+    pub start: usize,
+    pub end: usize,
+}
+
+// The object at a place, if one stands there.
+pub enum Framed {
+    Whole(Frame),
+    Broken,
+}
+
+// Where an object stands, if it is there.
+pub enum Placed {
+    At(Frame),
+    Absent,
+}
+
+// A byte as a number.
+fn wide(x: u8) -> usize
+    ensures same { λ r. ⌜ r ≡ x ⌝ }
+    ensures small { λ r. ⌜ r < 256 ⌝ }
+{
+    x as usize
+}
+
+// The number that two bytes say, the lower first.
+fn two_at(s: &[u8], i: usize) -> usize
+    requires { ⌜ i + 2 ≤ length (now s) ⌝ }
+    ensures { λ r. ⌜ r ≡ little (take 2 (drop i (now (s .entry)))) ⌝ }
+{
+    let a = wide(s[i]);
+    let b = wide(s[i + 1]);
+    a + b * 256
+}
+
+// The number that four bytes say, the lowest first.
+fn four_at(s: &[u8], i: usize) -> usize
+    requires { ⌜ i + 4 ≤ length (now s) ⌝ }
+    ensures made { λ r. ⌜ r ≡ little (take 4 (drop i (now (s .entry)))) ⌝ }
+    ensures small { λ r. ⌜ r < 4294967296 ⌝ }
+{
+    let a = wide(s[i]);
+    let b = wide(s[i + 1]);
+    let c = wide(s[i + 2]);
+    let d = wide(s[i + 3]);
+    a + b * 256 + c * 65536 + d * 16777216
+}
+
+// The header's last fields, from a place on: H and the number of objects.
+fn fields_at(s: &[u8], rules: u16, at: usize) -> Head
+    requires { ⌜ at ≤ length (now s) ⌝ }
+    ensures { λ r. ⌜ r ≡ fieldsAt rules at (now (s .entry)) ⌝ }
+{
+    if s.len() - at < 5 {
+        return Head::Bad;
+    }
+    let h = wide(s[at]);
+    let count = four_at(s, at + 1);
+    let from = at + 5;
+    if MOST_RECORDS < count {
+        return Head::Bad;
+    }
+    if h == 20 {
+        return Head::Good(Header {
+            h,
+            rules,
+            count,
+            from,
+        });
+    }
+    if h == 32 {
+        return Head::Good(Header {
+            h,
+            rules,
+            count,
+            from,
+        });
+    }
+    Head::Bad
+}
+
+// What a bundle begins with: version 1, which means rule set 2, or version 2, which carries its rule set.
+pub fn read_header(s: &[u8]) -> Head
+    ensures { λ r. ⌜ r ≡ headOf (now (s .entry)) ⌝ }
+{
+    if s.len() < 10 {
+        return Head::Bad;
+    }
+    if same_bytes(&s[..3], b"GOB") {
+        let version = two_at(s, 3);
+        if version == 1 {
+            return fields_at(s, 2, 5);
+        }
+        if version == 2 {
+            let rules = two_at(s, 5);
+            if rules == 1 {
+                return fields_at(s, 1, 7);
+            }
+            if rules == 2 {
+                return fields_at(s, 2, 7);
+            }
+        }
+    }
+    Head::Bad
+}
+
+// The object at a place: id, kind, length, bytes.
+pub fn frame_at(s: &[u8], h: usize, at: usize) -> Framed
+    ensures { λ r. ⌜ r ≡ frameAt h at (drop at (now (s .entry))) ⌝ }
+{
+    if s.len() < at {
+        return Framed::Broken;
+    }
+    let left = s.len() - at;
+    if left < h {
+        return Framed::Broken;
+    }
+    if left - h < 5 {
+        return Framed::Broken;
+    }
+    let mark = at + h;
+    let kind = wide(s[mark]);
+    if kind < 1 {
+        return Framed::Broken;
+    }
+    if 4 < kind {
+        return Framed::Broken;
+    }
+    let size = four_at(s, mark + 1);
+    let start = mark + 5;
+    if s.len() - start < size {
+        return Framed::Broken;
+    }
+    let end = start + size;
+    Framed::Whole(Frame {
+        kind,
+        id: at,
+        start,
+        end,
+    })
+}
+
+// The first object of an id among so many from a place on.
+fn find_from(s: &[u8], h: usize, count: usize, from: usize, id: &[u8]) -> Placed
+    ensures { λ r. ⌜ r ≡ firstOf h (now (s .entry)) (now (id .entry)) (frames h (now (s .entry)) count from) ⌝ }
+{
+    let mut at = from;
+    let mut left = count;
+    while 0 < left {
+        match frame_at(s, h, at) {
+            Framed::Broken => return Placed::Absent,
+            Framed::Whole(f) => {
+                let start = f.id;
+                let end = start + h;
+                if same_bytes(&s[start..end], id) {
+                    return Placed::At(f);
+                }
+                at = f.end;
+                left -= 1;
+            }
+        }
+    }
+    Placed::Absent
+}
+
+// Where the object of an id stands: the first, before any fault of the framing. Every run of bytes is taken.
+pub fn find_object(s: &[u8], id: &[u8]) -> Placed
+    ensures { λ r. ⌜ r ≡ placeOf (now (s .entry)) (now (id .entry)) ⌝ }
+{
+    match read_header(s) {
+        Head::Good(k) => find_from(s, k.h, k.count, k.from, id),
+        Head::Bad => Placed::Absent,
+    }
+}

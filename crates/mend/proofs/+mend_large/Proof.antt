@@ -1,0 +1,81 @@
+-- `mend::mend_large` meets its contract: it calls itself only on a way that its `requires` shuts. Assumes nothing.
+use Prim.Native.Nat.{ℕ, _<_, _≤_}
+use native.Mathlib.Omega.{arith}
+use mathlib.Core.Path.{sym, subst}
+use lib.ListN.{length-replicate}
+use borrow.Fn.Kinds.{In}
+use borrow.Fn.PlainCycle.{Measures, is, falls, and}
+use Rattle.ground.specs.Verdict.{mostRecords}
+use Rattle.mend.proofs.Whole.{most-le}
+use Rattle.mend.proofs.mend_large.Reads as mend-large
+use Rattle.mend.proofs.mend_large.Kinds as mend-large-kinds
+use Rattle.mend.proofs.+mend_large.Lts-mend_large as mend-large-lts
+use Rattle.mend.proofs.mend_with.Reads as mend-with-reads
+use Rattle.mend.proofs.+mend_large.{statement}
+use Rattle.mend.proofs.+mend_large.Tie.{close}
+
+abbrev μ-mend-large : Measures 3 mend-large-kinds.ps ℕ
+μ-mend-large κs a = 0
+
+abbrev mend-large-at : ℕ → In 3 mend-large-kinds.ps
+mend-large-at t = and 3 mend-large-kinds.ps (is 3 mend-large-kinds.ps μ-mend-large t) mend-large.Pre
+
+abbrev mend-large-below : ℕ → In 3 mend-large-kinds.ps
+mend-large-below t = and 3 mend-large-kinds.ps (falls 3 mend-large-kinds.ps _<_ μ-mend-large t) mend-large.Pre
+
+abbrev claims : ℕ → mend-large-lts.Claims
+claims t = (mend-large-below t, mend-large.Post, mend-with-reads.Asked, mend-with-reads.Learnt)
+
+mend-large-requires : (t : ℕ) → mend-large-lts.Need-mend-large-requires (claims t) (mend-large-at t) mend-large.Post
+mend-large-requires t c κs = absurd (omega arith)
+
+same-length : (t : ℕ) → mend-large-lts.Need-same-length (claims t) (mend-large-at t) mend-large.Post
+same-length t c = absurd (omega arith)
+
+same-length-2 : (t : ℕ) → mend-large-lts.Need-same-length-2 (claims t) (mend-large-at t) mend-large.Post
+same-length-2 t c = absurd (omega arith)
+
+returns : (t : ℕ) → mend-large-lts.Need-returns (claims t) (mend-large-at t) mend-large.Post
+returns t c = absurd (omega arith)
+
+slice-aggregate-mend-with : (t : ℕ) → mend-large-lts.Need-slice-aggregate-mend-with (claims t) (mend-large-at t) mend-large.Post
+slice-aggregate-mend-with t c = sym (length-replicate {A = ℕ} 1048576 0)
+
+mend-with-requires : (t : ℕ) → mend-large-lts.Need-mend-with-requires (claims t) (mend-large-at t) mend-large.Post
+mend-with-requires t c κs =
+    let pre = c .before .before .before .before .before .before .before .pre .1 in (
+      pre .0,
+      (
+        pre .1 .0,
+        (
+          pre .1 .1 .0,
+          subst (λ (k : ℕ). c .before .before .before .before .before .before .before .args .count ≤ k) (sym (length-replicate {A = ℕ} 1048576 0)) (pre .1 .1 .1),
+          subst (λ (k : ℕ). k ≤ mostRecords) (sym (length-replicate {A = ℕ} 1048576 0)) most-le,
+        ),
+      ),
+    )
+
+same-length-3 : (t : ℕ) → mend-large-lts.Need-same-length-3 (claims t) (mend-large-at t) mend-large.Post
+same-length-3 t c = c .before .before .before .before .before .mend-with .kept .1 .1 .1 .0
+
+same-length-4 : (t : ℕ) → mend-large-lts.Need-same-length-4 (claims t) (mend-large-at t) mend-large.Post
+same-length-4 t c = c .before .before .before .before .before .mend-with .kept .1 .1 .1 .1 .0
+
+returns-2 : (t : ℕ) → mend-large-lts.Need-returns-2 (claims t) (mend-large-at t) mend-large.Post
+returns-2 t c = c .before .before .before .before .before .mend-with .ensures
+
+pub +mend-large-spec : {M : Type 1} → statement M
++mend-large-spec =
+    close μ-mend-large λ t. mend-large-lts.spec
+    (claims t)
+    (mend-large-at t)
+    mend-large.Post
+    (mend-large-requires t)
+    (same-length t)
+    (same-length-2 t)
+    (returns t)
+    (slice-aggregate-mend-with t)
+    (mend-with-requires t)
+    (same-length-3 t)
+    (same-length-4 t)
+    (returns-2 t)

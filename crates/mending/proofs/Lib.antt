@@ -1,0 +1,4 @@
+pub mod Shorter
+pub mod Sound
+pub mod Unchanged
+pub mod Theorem

@@ -1,0 +1,68 @@
+-- `path::step_to` meets its contract. Assumes nothing.
+use borrow.Author.Needs.{needs}
+use Rattle.path.proofs.step_to.Statement.{statement}
+use Rattle.path.proofs.step_to.Tie as tie
+use native.Mathlib.Omega.{arith}
+use mathlib.Core.Path.{refl}
+use Rattle.path.proofs.Laws.{step-inside, step-absent, step-other, step-none, step-within, step-entry}
+
+find-object-requires : tie.Need-find-object-requires
+find-object-requires c κs = search needs
+
+enum-told : tie.Need-enum-told
+enum-told c = search needs
+
+enum-known-f : tie.Need-enum-known-f
+enum-known-f c = search needs
+
+returns : tie.Need-returns
+returns c = step-other _ _ _ _ (c .before .before .before .before .before .before .before .before .before .pre) _ (c .before .before .before .before .before .find-object .ensures) _ (c .before .before .before .f .given .1) (c .if1 .taken)
+
+sub-find-entry : tie.Need-sub-find-entry
+sub-find-entry c = omega (arith, step-inside _ _ _ (c .before .before .before .before .before .before .before .before .before .args .name .now) (c .before .before .before .before .before .before .before .before .before .pre) _ (c .before .before .before .before .before .find-object .ensures) _ (c .before .before .before .f .given .1))
+
+part-find-entry-start : tie.Need-part-find-entry-start
+part-find-entry-start c = omega (arith, step-inside _ _ _ (c .before .before .before .before .before .before .before .before .before .args .name .now) (c .before .before .before .before .before .before .before .before .before .pre) _ (c .before .before .before .before .before .find-object .ensures) _ (c .before .before .before .f .given .1))
+
+part-find-entry-end : tie.Need-part-find-entry-end
+part-find-entry-end c = omega (arith, step-inside _ _ _ (c .before .before .before .before .before .before .before .before .before .args .name .now) (c .before .before .before .before .before .before .before .before .before .pre) _ (c .before .before .before .before .before .find-object .ensures) _ (c .before .before .before .f .given .1))
+
+find-entry-requires : tie.Need-find-entry-requires
+find-entry-requires c κs = search needs
+
+enum-told-2 : tie.Need-enum-told-2
+enum-told-2 c = search needs
+
+enum-known-e : tie.Need-enum-known-e
+enum-known-e c = search needs
+
+add-at : tie.Need-add-at
+add-at c = omega (arith, step-within _ _ _ (c .before .before .before .before .before .before .before .before .before .before .before .before .before .before .before .args .name .now) (c .before .before .before .before .before .before .before .before .before .before .before .before .before .before .before .pre) _ (c .before .before .before .before .before .before .before .before .before .before .before .find-object .ensures) _ (c .before .before .before .before .before .before .before .before .before .f .given .1) (c .before .before .before .before .before .before .if1 .left) _ refl _ (c .before .before .before .before .find-entry .ensures) _ (c .before .before .e .given .1))
+
+returns-2 : tie.Need-returns-2
+returns-2 c = step-absent _ _ _ _ (c .before .before .before .before .before .before .pre) _ (c .before .before .find-object .ensures) (c .enum-told .given .1)
+
+returns-3 : tie.Need-returns-3
+returns-3 c = step-none _ _ _ _ (c .before .before .before .before .before .before .before .before .before .before .before .before .before .pre) _ (c .before .before .before .before .before .before .before .before .before .find-object .ensures) _ (c .before .before .before .before .before .before .before .f .given .1) (c .before .before .before .before .if1 .left) _ refl _ (c .before .before .find-entry .ensures) (c .enum-told2 .given .1)
+
+returns-4 : tie.Need-returns-4
+returns-4 c = step-entry _ _ _ _ (c .before .before .before .before .before .before .before .before .before .before .before .before .before .before .before .pre) _ (c .before .before .before .before .before .before .before .before .before .before .before .find-object .ensures) _ (c .before .before .before .before .before .before .before .before .before .f .given .1) (c .before .before .before .before .before .before .if1 .left) _ refl _ (c .before .before .before .before .find-entry .ensures) _ (c .before .before .e .given .1)
+
+pub step-to-spec : {M : Type 1} → statement M
+step-to-spec =
+    tie.close
+    (tie.spec
+    find-object-requires
+    enum-told
+    enum-known-f
+    returns
+    sub-find-entry
+    part-find-entry-start
+    part-find-entry-end
+    find-entry-requires
+    enum-told-2
+    enum-known-e
+    add-at
+    returns-2
+    returns-3
+    returns-4)

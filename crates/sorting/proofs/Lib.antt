@@ -1,0 +1,3 @@
+pub mod Sorted
+pub mod Heaps
+pub mod Repeats

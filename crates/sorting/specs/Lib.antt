@@ -1,0 +1,3 @@
+pub mod Sort
+pub mod Heap
+pub mod Repeats

@@ -1,0 +1,212 @@
+-- Repeated ids by the neighbours among the sorted ones. Assumes nothing.
+use Prim.Native.Nat.{ℕ, zero, suc, _+_, _-_, _*_, _/_, _%_, _<_, _≤_, min}
+use native.Mathlib.Decide.{decLt}
+use native.Mathlib.Omega.{arith}
+use native.Mathlib.Numerals.{add-one}
+use mathlib.Core.Path.{_≡_, refl, ap, sym, _∙_}
+use mathlib.Core.Bool.{Bool, true, false, _||_}
+use mathlib.Core.List.{List, [], _∷_, _++_, append-nil, List·Memᴰ, List·Memᴰ·head, List·Memᴰ·tail, List·Memᴰ·not-nil, List·Memᴰ·cases-cons}
+use mathlib.Core.Logic.{⊎-elim}
+use lib.Dec.{eqb}
+use lib.ListN.{length, getD, take, drop, set, length-set, length-drop, length-append, drop-of-length-le}
+use lib.Seq.{sets, length-sets, take-at, take-all, take-nil, drop-length, drop-cons, getD-take, length-take-le}
+use borrow.Author.Tests.{eq-eqb, ne-eqb}
+use Rattle.ground.specs.Basics.{pick}
+use Rattle.ground.specs.Scan.{sameBytes}
+use Rattle.ground.proofs.Laws.{same-test, same-true, same-refl, sets-front}
+use Rattle.sorting.specs.Sort.{sortBy}
+use Rattle.keys.specs.Key.{pastMark, cutTo, nameAt, folder, slash, keyAt, belowBy}
+use Rattle.sorting.specs.Repeats as sorting
+use Rattle.sorting.proofs.Sorted.{sort-perm, sort-length}
+use Rattle.sorting.proofs.Repeats.{perm-mem, touches-sorted}
+use Rattle.frame.specs.Frame.{frameAt, Frames, done, fault, frame, onward, frames}
+use Rattle.frame.specs.Place.{idIn}
+use Rattle.twice.specs.Ids.{idsIn, among, repeats}
+use Rattle.twice.specs.Sorted.{elementsIn, sameShort}
+use Rattle.frame.specs.declared.Frame.{Frame}
+use Rattle.frame.specs.declared.Framed.{Framed}
+use Rattle.frame.specs.declared.Framed.the-variants.{Whole, Broken}
+
+-- ---- the elements
+
+pub elements-end : (l : Frames) (b : Bool) → l ≡ pick b done fault → elementsIn l ≡ []
+unfolding elementsIn
+elements-end l true e = rw e
+elements-end l false e = rw e
+
+pub elements-fault : (l : Frames) → l ≡ fault → elementsIn l ≡ []
+unfolding elementsIn
+elements-fault l e = rw e
+
+pub elements-on : (l m : Frames) (f : Frame) → l ≡ frame f m → elementsIn l ≡ f .id * 2 ∷ elementsIn m
+unfolding elementsIn
+elements-on l m f e = rw e
+
+-- the elements are stored from the front on: n of them are, and those of l are still to be
+pub record Storing (start list : List ℕ) (all l : Frames) (n : ℕ) : Type 0 where
+  pub same : sets start 0 (elementsIn all) ≡ sets list n (elementsIn l)
+  pub many : length (elementsIn all) ≡ n + length (elementsIn l)
+  pub size : length list ≡ length start
+
+pub storing-start : (list : List ℕ) (l : Frames) → Storing list list l l 0
+storing-start list l = record { same = refl; many = omega arith; size = refl }
+
+pub storing-turn : (start list new : List ℕ) (all l m : Frames) (n : ℕ) (f : Frame) → Storing start list all l n → l ≡ frame f m → new ≡ set list n (f .id * 2) → length new ≡ length list
+    → Storing start new all m (n + 1)
+storing-turn start list new all l m n f t e w z =
+    let o = elements-on l m f e in
+    record {
+      same = t .same ∙ ap (sets list n) o ∙ ap (λ (q : List ℕ). sets q (suc n) (elementsIn m)) (sym w) ∙ ap (λ (k : ℕ). sets new k (elementsIn m)) (sym (add-one n));
+      many = omega (arith, t .many, ap length o);
+      size = z ∙ t .size;
+    }
+
+pub storing-set : (start list : List ℕ) (all l m : Frames) (n : ℕ) (f : Frame) → Storing start list all l n → l ≡ frame f m → Storing start (set list n (f .id * 2)) all m (n + 1)
+storing-set start list all l m n f t e = storing-turn start list (set list n (f .id * 2)) all l m n f t e refl (length-set list n (f .id * 2))
+
+pub storing-end : (start list : List ℕ) (all l : Frames) (n : ℕ) → Storing start list all l n → elementsIn l ≡ [] → (n ≡ length (elementsIn all)) × (list ≡ sets start 0 (elementsIn all))
+storing-end start list all l n t e = (omega (arith, t .many, ap length e), sym (t .same ∙ rw e))
+
+elements-few : (h : ℕ) (s : List ℕ) (n at : ℕ) → length (elementsIn (frames h s n at)) ≤ n
+unfolding frames onward elementsIn
+elements-few h s zero at = go (eqb at (length s))
+  where
+    go : (b : Bool) → length (elementsIn (pick b done fault)) ≤ 0
+    go true = omega arith
+    go false = omega arith
+elements-few h s (suc n) at = go (λ (b : ℕ). elements-few h s n b) (frameAt h at (drop at s))
+  where
+    go : ((b : ℕ) → length (elementsIn (frames h s n b)) ≤ n) → (r : Framed) → length (elementsIn (onward (frames h s n) r)) ≤ suc n
+    go ih (Whole f) = let i = ih (f .end) in omega arith
+    go ih Broken = omega arith
+
+-- ---- the id of an element
+
+take-min : (h : ℕ) (l : List ℕ) → take (min h (length l)) l ≡ take h l
+take-min h l =
+    elim (decLt h (length l)) [
+      | yes p ↦ (let z : min h (length l) ≡ h = omega arith in ap (λ (n : ℕ). take n l) z)
+      | no p ↦ (let z : min h (length l) ≡ length l = omega arith in ap (λ (n : ℕ). take n l) z ∙ take-all (length l) l (omega arith) ∙ sym (take-all h l (omega arith)))
+    ]
+
+pub short-part : (s : List ℕ) (h p a m b : ℕ) → a ≡ min p (length s) → m ≡ min h (length s - a) → b ≡ a + m → take (b - a) (drop a s) ≡ take h (drop p s)
+short-part s h p a m b x y z =
+    elim (decLt p (length s)) [
+      | yes q ↦ (
+          let e : a ≡ p = omega arith in
+          let n : b - a ≡ min h (length (drop p s)) = omega (arith, length-drop p s) in
+          ap (λ (k : ℕ). take k (drop a s)) n ∙ ap (λ (k : ℕ). take (min h (length (drop p s))) (drop k s)) e ∙ take-min h (drop p s))
+      | no q ↦ (
+          let e : length s ≤ a = omega arith in
+          let f : length s ≤ p = omega arith in
+          ap (take (b - a)) (drop-of-length-le s {i = a} e) ∙ take-nil (b - a) ∙ sym (ap (take h) (drop-of-length-le s {i = p} f) ∙ take-nil h))
+    ]
+
+pub same-both : {a b c d : List ℕ} → a ≡ c → b ≡ d → sameBytes a b ≡ sameBytes c d
+same-both p q = cc
+
+-- ---- neighbours
+
+touch-end : (same : ℕ → ℕ → Bool) (l : List ℕ) → length l ≤ 1 → sorting.touches same l ≡ false
+unfolding sorting.touches
+touch-end same [] p = refl
+touch-end same (x ∷ []) p = refl
+touch-end same (x ∷ y ∷ l) p = absurd (omega arith)
+
+module _ (same : ℕ → ℕ → Bool) (list : List ℕ) (n : ℕ) (p : n ≤ length list) (i : ℕ) (low : 1 ≤ i) where
+  size : length (take n list) ≡ n
+  size = length-take-le n list p
+
+  pub touch-none : n ≤ i → sorting.touches same (drop (i - 1) (take n list)) ≡ false
+  touch-none q = touch-end same (drop (i - 1) (take n list)) (omega (arith, length-drop (i - 1) (take n list), size))
+
+  module _ (q : i < n) where
+    before : drop (i - 1) (take n list) ≡ getD list (i - 1) 0 ∷ drop i (take n list)
+    before =
+        let z : suc (i - 1) ≡ i = omega arith in
+        drop-cons (take n list) (i - 1) 0 (omega (arith, size))
+        ∙ rw (getD-take n list (i - 1) 0 (omega arith), z)
+
+    after : drop i (take n list) ≡ getD list i 0 ∷ drop (suc i) (take n list)
+    after = drop-cons (take n list) i 0 (omega (arith, size)) ∙ rw (getD-take n list i 0 q)
+
+    pub touch-here : same (getD list (i - 1) 0) (getD list i 0) ≡ true → sorting.touches same (drop (i - 1) (take n list)) ≡ true
+    unfolding sorting.touches
+    touch-here t = rw (before, after) (rw t)
+
+    pub touch-on : same (getD list (i - 1) 0) (getD list i 0) ≡ false → sorting.touches same (drop (i - 1) (take n list)) ≡ sorting.touches same (drop (i + 1 - 1) (take n list))
+    unfolding sorting.touches
+    touch-on t =
+        let z : i + 1 - 1 ≡ i = omega arith in
+        rw (z, before, after) (rw t)
+
+-- ---- the sorted elements
+
+same-flip : (a b : List ℕ) → sameBytes a b ≡ sameBytes b a
+same-flip a b = same-test (sameBytes a b) (sameBytes b a) (λ e. rw (same-true a b e) (same-refl b)) (λ e. rw (same-true b a e) (same-refl a))
+
+module _ (s : List ℕ) (h : ℕ) (some : h ≡ 0 → ⊥) where
+  key-even : (p : ℕ) → keyAt s 0 h (p * 2) ≡ take h (drop p s)
+  unfolding keyAt nameAt pastMark cutTo
+  key-even p =
+      let a : p * 2 / 2 ≡ p = omega arith in
+      let b : p * 2 % 2 ≡ 0 = omega arith in
+      rw (a, b, ne-eqb h 0 some) (append-nil (take h (drop p s)))
+
+  element-key : (l : Frames) (x : ℕ) → List·Memᴰ x (elementsIn l) → keyAt s 0 h x ≡ take h (drop (x / 2) s)
+  unfolding elementsIn
+  element-key done x m = absurd (List·Memᴰ·not-nil m)
+  element-key fault x m = absurd (List·Memᴰ·not-nil m)
+  element-key (frame f l) x m =
+      ⊎-elim (λ (e : x ≡ f .id * 2). let a : f .id * 2 / 2 ≡ f .id = omega arith in rw (e, a) (key-even (f .id))) (λ k. element-key l x k) (List·Memᴰ·cases-cons m)
+
+  has-among : (p : ℕ) (l : Frames) → sorting.has (λ x y. sameBytes (keyAt s 0 h x) (keyAt s 0 h y)) (p * 2) (elementsIn l) ≡ among (take h (drop p s)) (idsIn h s l)
+  unfolding elementsIn idsIn among sorting.has idIn
+  has-among p done = refl
+  has-among p fault = refl
+  has-among p (frame f l) = rw (key-even p, key-even (f .id), has-among p l, same-flip (take h (drop p s)) (take h (drop (f .id) s)))
+
+  elements-repeat : (l : Frames) → sorting.repeats (λ x y. sameBytes (keyAt s 0 h x) (keyAt s 0 h y)) (elementsIn l) ≡ repeats (idsIn h s l)
+  unfolding elementsIn idsIn repeats sorting.repeats idIn
+  elements-repeat done = refl
+  elements-repeat fault = refl
+  elements-repeat (frame f l) = rw (has-among (f .id) l, elements-repeat l)
+
+touches-same : (key other : ℕ → List ℕ) (l : List ℕ) → ((x : ℕ) → List·Memᴰ x l → key x ≡ other x)
+    → sorting.touches (λ x y. sameBytes (key x) (key y)) l ≡ sorting.touches (λ x y. sameBytes (other x) (other y)) l
+unfolding sorting.touches
+touches-same key other [] f = refl
+touches-same key other (x ∷ []) f = refl
+touches-same key other (x ∷ y ∷ l) f =
+    rw (f x (List·Memᴰ·head refl), f y (List·Memᴰ·tail (List·Memᴰ·head refl)), touches-same key other (y ∷ l) (λ z m. f z (List·Memᴰ·tail m)))
+
+-- there is room for them after the sort too
+pub sorted-room : (s : List ℕ) (h count from : ℕ) (list stored sorted : List ℕ) (n : ℕ) → count ≤ length list
+    → n ≡ length (elementsIn (frames h s count from)) → stored ≡ sets list 0 (elementsIn (frames h s count from))
+    → sorted ≡ sortBy (belowBy (keyAt s 0 h)) (take n stored) ++ drop n stored → n ≤ length sorted
+sorted-room s h count from list stored sorted n room en es eo =
+    let a = elements-few h s count from in
+    let b : length stored ≡ length list = ap length es ∙ length-sets list 0 (elementsIn (frames h s count from)) in
+    let c = sort-length (belowBy (keyAt s 0 h)) (take n stored) in
+    let d = length-take-le n stored (omega arith) in
+    let e = length-append (sortBy (belowBy (keyAt s 0 h)) (take n stored)) (drop n stored) in
+    let f = ap length eo in
+    omega arith
+
+-- the elements stored, sorted and looked through: an id stands twice exactly where two neighbours are the same
+pub twice-is : (s : List ℕ) (h count from : ℕ) (list stored sorted : List ℕ) (n : ℕ) (r : Bool) → (h ≡ 0 → ⊥) → count ≤ length list
+    → n ≡ length (elementsIn (frames h s count from)) → stored ≡ sets list 0 (elementsIn (frames h s count from))
+    → sorted ≡ sortBy (belowBy (keyAt s 0 h)) (take n stored) ++ drop n stored → r ≡ sorting.touches (sameShort s h) (take n sorted)
+    → r ≡ repeats (idsIn h s (frames h s count from))
+twice-is s h count from list stored sorted n r some room en es eo er =
+    let l : Frames = frames h s count from in
+    let fits : length (elementsIn l) ≤ length list = omega (arith, elements-few h s count from) in
+    let a : take n stored ≡ elementsIn l =
+    ap (take n) (es ∙ sets-front list (elementsIn l) fits) ∙ take-at (elementsIn l) (drop (length (elementsIn l)) list) n (sym en) in
+    let b : take n sorted ≡ sortBy (belowBy (keyAt s 0 h)) (elementsIn l) =
+    ap (take n) (eo ∙ ap (λ (c : List ℕ). sortBy (belowBy (keyAt s 0 h)) c ++ drop n stored) a)
+    ∙ take-at (sortBy (belowBy (keyAt s 0 h)) (elementsIn l)) (drop n stored) n (sort-length (belowBy (keyAt s 0 h)) (elementsIn l) ∙ sym en) in
+    er ∙ ap (sorting.touches (sameShort s h)) b
+    ∙ sym (touches-same (keyAt s 0 h) (λ x. take h (drop (x / 2) s)) (sortBy (belowBy (keyAt s 0 h)) (elementsIn l))
+    (λ x m. element-key s h some l x (perm-mem (sort-perm (belowBy (keyAt s 0 h)) (elementsIn l)) m)))
+    ∙ touches-sorted (keyAt s 0 h) (elementsIn l) ∙ elements-repeat s h some l
