@@ -32,7 +32,7 @@ static size_t ours(const char *path, uint8_t id[32])
     size_t answer[SARPUKTEN_LENGTH_PATH];
     if (sarpukten_follow_path(bundle, bundle_len, root.id, 20, (const uint8_t *)path, strlen(path), answer, id) != SARPUKTEN_DONE)
         return 0;
-    return answer[SARPUKTEN_ANSWER_MODE];
+    return answer[SARPUKTEN_ANSWER_PATH_MODE];
 }
 
 static size_t theirs(const char *path, uint8_t id[32])

@@ -189,7 +189,10 @@ enum {
     /* of a path; both 0 on a refusal */
     SARPUKTEN_ANSWER_PATH_MODE = 3,  /* the mode of the entry that it leads to */
     SARPUKTEN_ANSWER_ID_LENGTH = 4,  /* how many bytes its id has */
-    SARPUKTEN_LENGTH_PATH = 5
+    SARPUKTEN_LENGTH_PATH = 5,
+    /* of mending, behind the bytes written (SARPUKTEN_ANSWER_COUNT) */
+    SARPUKTEN_ANSWER_ENTRIES = 4,    /* how many entries the object has; 0 on a refusal */
+    SARPUKTEN_LENGTH_MEND = 5
 };
 
 /* ---- Bounds, lengths and rule sets ---- */
@@ -382,12 +385,11 @@ SARPUKTEN_CHECKED size_t sarpukten_follow_path(
 
 /* Mends an object: puts to the front of out one that rule set 2 accepts, and into fates at i what was done to entry i: 0 kept, 1 kept with
  * another mode text, 2 dropped for its name, 3 dropped for its mode, 4 dropped because an entry before it that was kept has its name.
- * The answer has two numbers past the verdict: the bytes written, and the entries of the object. Refuses 1, 2, 3, 4 (place: entries of the
- * object), 8. The new object is never longer than the old one. Stack: some 5 KiB up to 1,024 entries, else a little over 4 MiB. */
-#define SARPUKTEN_MEND_ANSWER 5
-size_t sarpukten_mend_tree(
+ * Refuses 1, 2, 3, 4 (place: entries of the object), 8. The new object is never longer than the old one. Stack: some 5 KiB up to 1,024
+ * entries, else a little over 4 MiB. */
+SARPUKTEN_CHECKED size_t sarpukten_mend_tree(
     const uint8_t *bytes, size_t bytes_len, size_t h, size_t *fates, size_t fates_len, uint8_t *out, size_t out_len,
-    size_t answer[SARPUKTEN_LENT(SARPUKTEN_MEND_ANSWER)]);
+    size_t answer[SARPUKTEN_LENT(SARPUKTEN_LENGTH_MEND)]);
 
 /* ---- Commits ---- */
 
