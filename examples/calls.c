@@ -414,6 +414,55 @@ static void edits(void)
     HOLD(memcmp(out + 1, object + 29, 28) == 0 && memcmp(out + 29, folder + 28, 28) == 0);
 }
 
+/* A strict tree as text: two records, and what is refused. */
+static void texts(void)
+{
+    static const char front[] = "100644 blob 1111111111111111111111111111111111111111\ta", back[] = "040000 tree 2222222222222222222222222222222222222222\tb";
+    uint8_t object[57], out[112];
+
+    memcpy(object, "100644 a", 9);
+    memset(object + 9, 0x11, 20);
+    memcpy(object + 29, "40000 b", 8);
+    memset(object + 37, 0x22, 20);
+    memset(out, GUARD, sizeof out);
+    HOLD(three(sarpukten_export_tree(object, 57, 21, 3, out + 1, 110, answer), SARPUKTEN_REFUSED_ID_LENGTH, 0, 0));
+    HOLD(three(sarpukten_export_tree(object, 57, SARPUKTEN_SHA1, 3, out + 1, 110, answer), SARPUKTEN_REFUSED_RULE_SET, 0, 0));
+    HOLD(four(sarpukten_export_tree(object, 56, SARPUKTEN_SHA1, 2, out + 1, 110, answer), SARPUKTEN_REFUSED_BROKEN_ENTRY, 29, 3, 0));
+    HOLD(three(sarpukten_export_tree(object, 57, SARPUKTEN_SHA1, 2, out + 1, 109, answer), SARPUKTEN_REFUSED_SHORT_OUTPUT, 110, 0));
+    HOLD(untouched(out, sizeof out));
+    HOLD(three(sarpukten_export_tree(object, 57, SARPUKTEN_SHA1, 2, out + 1, 110, answer), SARPUKTEN_DONE, 0, 110));
+    HOLD(memcmp(out + 1, front, 55) == 0 && memcmp(out + 56, back, 55) == 0 && out[0] == GUARD && out[111] == GUARD);
+}
+
+/* A tree mended: a padded mode, a name that is not permitted, a name twice; and out of order. */
+static void mending(void)
+{
+    static const size_t mended[SARPUKTEN_LENGTH_MEND] = {0, 0, 0, 57, 4}, few[SARPUKTEN_LENGTH_MEND] = {SARPUKTEN_REFUSED_FEW_RECORDS, 4};
+    static const size_t no_room[SARPUKTEN_LENGTH_MEND] = {SARPUKTEN_REFUSED_SHORT_OUTPUT, 57}, unread[SARPUKTEN_LENGTH_MEND] = {SARPUKTEN_REFUSED_BROKEN_ENTRY, 86, 3};
+    uint8_t object[115], want[57], out[60];
+    size_t fates[6] = {7, 7, 7, 7, 7, 7};
+
+    memcpy(object, "040000 b", 9);
+    memset(object + 9, 0x22, 20);
+    memcpy(object + 29, "100644 .", 9);
+    memset(object + 38, 0x33, 20);
+    memcpy(object + 58, "40000 b", 8);
+    memset(object + 66, 0x44, 20);
+    memcpy(object + 86, "100644 a", 9);
+    memset(object + 95, 0x11, 20);
+    memcpy(want, object + 86, 29);
+    memcpy(want + 29, "40000 b", 8);
+    memset(want + 37, 0x22, 20);
+    memset(out, GUARD, sizeof out);
+    HOLD(answers(sarpukten_mend_tree(object, 115, SARPUKTEN_SHA1, fates, 3, out + 1, 58, answer), SARPUKTEN_LENGTH_MEND, few));
+    HOLD(answers(sarpukten_mend_tree(object, 115, SARPUKTEN_SHA1, fates, 4, out + 1, 56, answer), SARPUKTEN_LENGTH_MEND, no_room));
+    HOLD(answers(sarpukten_mend_tree(object, 114, SARPUKTEN_SHA1, fates, 4, out + 1, 58, answer), SARPUKTEN_LENGTH_MEND, unread));
+    HOLD(untouched(out, sizeof out) && fates[0] == 7 && fates[3] == 7);
+    HOLD(answers(sarpukten_mend_tree(object, 115, SARPUKTEN_SHA1, fates, 5, out + 1, 58, answer), SARPUKTEN_LENGTH_MEND, mended));
+    HOLD(out[0] == GUARD && memcmp(out + 1, want, 57) == 0 && untouched(out + 58, 2));
+    HOLD(fates[0] == 1 && fates[1] == 2 && fates[2] == 4 && fates[3] == 0 && fates[4] == 7 && fates[5] == 7);
+}
+
 /* The same entries as structs, and their number in records. */
 static void entries(void)
 {
@@ -521,6 +570,8 @@ int main(void)
     many_lookups();
     ids();
     bundles();
+    texts();
+    mending();
     edits();
     free(big);
     printf("calls.c: %d answers held\n", held);

@@ -2,10 +2,14 @@
  * several folders a line each, in the order of their names.
  *
  *     loader FILE FOLDER.. [sha256]
+ *     loader BUNDLE ROOT PATH..
  *
- * FILE has the object's bytes, as `git cat-file tree` writes them. Exit status 0: the ids are printed. 1: one line `refused N at P`, where
- * N is 15 if there is no such folder (docs/FORMAT.md, "Numbers"); of several, this line stands for each that is not there. 2: the file
- * cannot be read, or wrong arguments.
+ * FILE has the object's bytes, as `git cat-file tree` writes them. A file that begins with `GOB` is a bundle (./bundle writes one): each path
+ * is followed from the root tree, whose id is given in hex, and the id that it leads to is printed with the kind and the length of the object,
+ * both 0 where the bundle does not hold it.
+ *
+ * Exit status 0: the ids are printed. 1: one line `refused N at P`, where N is 15 if there is no such folder or path (docs/FORMAT.md,
+ * "Numbers"); of several, this line stands for each that is not there. 2: the file cannot be read, or wrong arguments.
  */
 #include <stdio.h>
 #include <stdlib.h>
@@ -46,13 +50,19 @@ static uint8_t *read_file(const char *path, size_t *len)
 }
 
 /* Prints an id as hex digits. */
-static void print_id(const uint8_t *id, size_t h)
+static void print_digits(const uint8_t *id, size_t h)
 {
     uint8_t digits[SARPUKTEN_ROOM_HEX] = {0};
     size_t answer[SARPUKTEN_LENGTH_COUNT] = {0};
 
     if (sarpukten_hex_of_id(id, h, digits, sizeof digits, answer) == SARPUKTEN_DONE)
-        printf("%.*s\n", (int)answer[SARPUKTEN_ANSWER_COUNT], (const char *)digits);
+        printf("%.*s", (int)answer[SARPUKTEN_ANSWER_COUNT], (const char *)digits);
+}
+
+static void print_id(const uint8_t *id, size_t h)
+{
+    print_digits(id, h);
+    printf("\n");
 }
 
 static void print_refusal(size_t number, size_t place)
@@ -118,6 +128,33 @@ static int several(
     return status;
 }
 
+/* Paths through the trees of a bundle: a line each. */
+static int paths(const uint8_t *bundle, size_t len, const char *hex, char **ways, size_t n)
+{
+    uint8_t root[SARPUKTEN_ROOM_ID] = {0}, id[SARPUKTEN_ROOM_ID] = {0};
+    size_t read[SARPUKTEN_LENGTH_COUNT] = {0}, answer[SARPUKTEN_LENGTH_PATH] = {0}, object[SARPUKTEN_LENGTH_OBJECT] = {0}, i;
+    int status = 0;
+
+    if (sarpukten_id_of_hex((const uint8_t *)hex, strlen(hex), root, sizeof root, read) != SARPUKTEN_DONE) {
+        fprintf(stderr, "loader: the root is no id\n");
+        return 2;
+    }
+    for (i = 0; i < n; i++) {
+        const uint8_t *way = (const uint8_t *)ways[i];
+        if (sarpukten_follow_path(bundle, len, root, read[SARPUKTEN_ANSWER_COUNT], way, strlen(ways[i]), answer, id) != SARPUKTEN_DONE) {
+            print_refusal(answer[SARPUKTEN_ANSWER_NUMBER], answer[SARPUKTEN_ANSWER_PLACE]);
+            status = 1;
+            continue;
+        }
+        print_digits(id, answer[SARPUKTEN_ANSWER_ID_LENGTH]);
+        if (sarpukten_bundle_object(bundle, len, id, answer[SARPUKTEN_ANSWER_ID_LENGTH], object) == SARPUKTEN_DONE)
+            printf(" %zu %zu\n", object[SARPUKTEN_ANSWER_KIND], object[SARPUKTEN_ANSWER_END] - object[SARPUKTEN_ANSWER_START]);
+        else
+            printf(" 0 0\n");
+    }
+    return status;
+}
+
 int main(int argc, char **argv)
 {
     size_t h = SARPUKTEN_SHA1, len, lent, answer[SARPUKTEN_LENGTH_COUNT] = {0};
@@ -130,20 +167,26 @@ int main(int argc, char **argv)
         argc--;
     }
     if (argc < 3) {
-        fprintf(stderr, "usage: loader FILE FOLDER.. [sha256]\n");
+        fprintf(stderr, "usage: loader FILE FOLDER.. [sha256], or loader BUNDLE ROOT PATH..\n");
         return 2;
-    }
-    /* A lookup answers `guest/file` as it answers `guest`. */
-    for (i = 2; i < argc; i++) {
-        if (strchr(argv[i], '/') != NULL) {
-            fprintf(stderr, "loader: a folder's name has no slash\n");
-            return 2;
-        }
     }
     object = read_file(argv[1], &len);
     if (object == NULL) {
         fprintf(stderr, "loader: cannot read %s\n", argv[1]);
         return 2;
+    }
+    if (len >= 3 && memcmp(object, "GOB", 3) == 0) {
+        status = paths(object, len, argv[2], argv + 3, (size_t)argc - 3);
+        free(object);
+        return status;
+    }
+    /* A lookup answers `guest/file` as it answers `guest`. */
+    for (i = 2; i < argc; i++) {
+        if (strchr(argv[i], '/') != NULL) {
+            fprintf(stderr, "loader: a folder's name has no slash\n");
+            free(object);
+            return 2;
+        }
     }
 
     /* Enough records for any object of this length that is read strictly. */

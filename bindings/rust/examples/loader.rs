@@ -2,10 +2,14 @@
 //! of several folders a line each, in the order of their names.
 //!
 //!     loader FILE FOLDER.. [sha256]
+//!     loader BUNDLE ROOT PATH..
 //!
-//! Exit status 0: the ids are printed. 1: one line `refused N at P`, where N is 15 if there is no such folder; of several, this line stands
-//! for each that is not there. 2: the file cannot be read, or wrong arguments. examples/loader.c does the same.
-use sarpukten::{EntryRef, Error, Kind, ObjectId, Rules, StrictTree, MOST_BYTES};
+//! A file that begins with `GOB` is a bundle: each path is followed from the root tree, and the id that it leads to is printed with the kind
+//! and the length of the object, both 0 where the bundle does not hold it.
+//!
+//! Exit status 0: the ids are printed. 1: one line `refused N at P`, where N is 15 if there is no such folder or path; of several, this line
+//! stands for each that is not there. 2: the file cannot be read, or wrong arguments. examples/loader.c does the same.
+use sarpukten::{Bundle, EntryRef, Error, Kind, ObjectId, Rules, StrictTree, MOST_BYTES};
 use std::env;
 use std::ffi::OsStr;
 use std::fs::File;
@@ -31,22 +35,43 @@ fn folders(object: &[u8], kind: Kind, names: &[&[u8]]) -> Result<Vec<Option<Obje
     Ok(found.into_iter().map(|entry| entry.map(id)).collect())
 }
 
+/// Paths through the trees of a bundle: a line each.
+fn paths(bytes: &[u8], root: &[u8], ways: &[&[u8]]) -> ExitCode {
+    let Some(root) = ObjectId::from_hex(root) else {
+        eprintln!("loader: the root is no id");
+        return ExitCode::from(2);
+    };
+    let mut status = 0;
+    for way in ways {
+        match Bundle::new(bytes).and_then(|bundle| Ok((bundle.follow(&root, way)?, bundle))) {
+            Ok((Some((_, id)), bundle)) => match bundle.object(&id) {
+                Some(object) => println!("{id} {} {}", object.kind as u8, object.data.len()),
+                None => println!("{id} 0 0"),
+            },
+            Ok((None, _)) => {
+                println!("refused 15 at 0");
+                status = 1;
+            }
+            Err(e) => {
+                println!("refused {} at {}", e.number, e.place);
+                status = 1;
+            }
+        }
+    }
+    ExitCode::from(status)
+}
+
 fn main() -> ExitCode {
     let args: Vec<_> = env::args_os().collect();
     let (file, names, kind) = match &args[..] {
         [_, file, names @ .., kind] if !names.is_empty() && kind == "sha256" => (file, names, Kind::Sha256),
         [_, file, names @ ..] if !names.is_empty() => (file, names, Kind::Sha1),
         _ => {
-            eprintln!("usage: loader FILE FOLDER.. [sha256]");
+            eprintln!("usage: loader FILE FOLDER.. [sha256], or loader BUNDLE ROOT PATH..");
             return ExitCode::from(2);
         }
     };
     let names: Vec<_> = names.iter().map(|name| name.as_bytes()).collect();
-    // A lookup answers `guest/file` as it answers `guest`.
-    if names.iter().any(|name| name.contains(&b'/')) {
-        eprintln!("loader: a folder's name has no slash");
-        return ExitCode::from(2);
-    }
     let object = match read_file(file) {
         Ok(object) => object,
         Err(e) => {
@@ -54,6 +79,14 @@ fn main() -> ExitCode {
             return ExitCode::from(2);
         }
     };
+    if object.starts_with(b"GOB") {
+        return paths(&object, names[0], &names[1..]);
+    }
+    // A lookup answers `guest/file` as it answers `guest`.
+    if names.iter().any(|name| name.contains(&b'/')) {
+        eprintln!("loader: a folder's name has no slash");
+        return ExitCode::from(2);
+    }
     match folders(&object, kind, &names) {
         Ok(ids) => {
             for id in &ids {
