@@ -9,7 +9,7 @@ use std::{
 };
 
 use gix_object::{
-    CommitRef, Kind, TreeRef, TreeRefIter, WriteTo,
+    CommitRef, Data, Find, Kind, TreeRef, TreeRefIter, WriteTo,
     bstr::{BStr, ByteSlice},
     encode,
     tree::{self, EntryKind, EntryMode, EntryRef, editor},
@@ -22,6 +22,35 @@ fn main() {
         let line = line.expect("a line of text");
         let mut case = Case(line.split(' '));
         writeln!(out, "{}", answer(&mut case)).expect("standard output");
+    }
+}
+
+/// Objects by their ids: id, kind (1 commit, 2 tree, 3 blob, 4 tag), bytes.
+struct Objects(gix_hash::Kind, Vec<(Vec<u8>, u64, Vec<u8>)>);
+
+impl Objects {
+    fn kind(kind: u64) -> Kind {
+        [Kind::Commit, Kind::Tree, Kind::Blob, Kind::Tag][kind as usize - 1]
+    }
+}
+
+impl Find for &Objects {
+    fn try_find<'a>(&self, id: &gix_hash::oid, buffer: &'a mut Vec<u8>) -> Result<Option<Data<'a>>, gix_object::find::Error> {
+        let Some((_, kind, bytes)) = self.1.iter().find(|(other, _, _)| other == id.as_bytes()) else { return Ok(None) };
+        buffer.clear();
+        buffer.extend_from_slice(bytes);
+        Ok(Some(Data::new(buffer, Objects::kind(*kind), self.0)))
+    }
+}
+
+/// The mode and the id that a path leads to from a root tree.
+fn followed(objects: &Objects, root: &[u8], path: &[u8]) -> String {
+    let Some((_, 2, bytes)) = objects.1.iter().find(|(id, _, _)| id == root) else { return "no".into() };
+    let components: Vec<&[u8]> = if path.is_empty() { Vec::new() } else { path.split(|b| *b == b'/').collect() };
+    match TreeRefIter::from_bytes(bytes, objects.0).lookup_entry(objects, &mut Vec::new(), components) {
+        Ok(Some(entry)) => format!("ok {} {}", editor::bits(entry.mode), entry.oid.as_bytes().iter().map(|b| format!("{b:02x}")).collect::<String>()),
+        Ok(None) => "no".into(),
+        Err(_) => "error".into(),
     }
 }
 
@@ -92,6 +121,11 @@ fn answer(case: &mut Case) -> String {
             let tree = TreeRef { entries: case.entries(&bytes, hash) };
             let (name, is_tree) = (case.bytes(), case.flag());
             found(&bytes, tree.bisect_entry(name.as_bstr(), is_tree))
+        }
+        "path" => {
+            let (hash, root, path, count) = (case.hash(), case.bytes(), case.bytes(), case.number());
+            let objects = Objects(hash, (0..count).map(|_| (case.bytes(), case.number(), case.bytes())).collect());
+            followed(&objects, &root, &path)
         }
         "find-any" => {
             let (hash, bytes) = (case.hash(), case.bytes());

@@ -11,7 +11,7 @@ pub trait WriteTo {
     fn size(&self) -> u64;
 }
 
-// The object database; no case reaches it.
+// The object database; cases of paths reach `Find`.
 pub trait Exists {
     fn exists(&self, id: &gix_hash::oid) -> bool;
 }
