@@ -1,9 +1,12 @@
-/* A plugin of QEMU's user emulator: prints how many guest instructions ran so far at each call of getppid (110), on standard error.
- * The few declarations stand here because Debian has no package with the plugin header. */
+/* A plugin of QEMU's user emulator: prints how many guest instructions ran so far at each call of getppid (110), on standard error, or at each call
+ * of another number: `-plugin count.so,at=231` is where a program ends. The few declarations stand here because Debian has no package with the
+ * plugin header. */
 #include <inttypes.h>
 #include <stdbool.h>
 #include <stddef.h>
 #include <stdio.h>
+#include <stdlib.h>
+#include <string.h>
 
 typedef uint64_t qemu_plugin_id_t;
 struct qemu_plugin_tb;
@@ -19,6 +22,7 @@ void qemu_plugin_register_vcpu_syscall_cb(
 int qemu_plugin_version = 1;
 
 static uint64_t ran;
+static int64_t at = 110;
 
 static void block(qemu_plugin_id_t id, struct qemu_plugin_tb *tb)
 {
@@ -30,13 +34,15 @@ static void called(qemu_plugin_id_t id, unsigned vcpu, int64_t number, uint64_t 
                    uint64_t g, uint64_t h)
 {
     (void)id, (void)vcpu, (void)a, (void)b, (void)c, (void)d, (void)e, (void)f, (void)g, (void)h;
-    if (number == 110)
+    if (number == at)
         fprintf(stderr, "%" PRIu64 "\n", ran);
 }
 
 int qemu_plugin_install(qemu_plugin_id_t id, const void *info, int argc, char **argv)
 {
-    (void)info, (void)argc, (void)argv;
+    (void)info;
+    if (argc == 1 && strncmp(argv[0], "at=", 3) == 0)
+        at = atoi(argv[0] + 3);
     qemu_plugin_register_vcpu_tb_trans_cb(id, block);
     qemu_plugin_register_vcpu_syscall_cb(id, called);
     return 0;

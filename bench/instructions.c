@@ -33,6 +33,18 @@ static size_t make(uint8_t *to, size_t n, size_t len)
     return at;
 }
 
+/* The strict check of an object that arrives in pieces of 512 bytes. */
+static void in_pieces(const uint8_t *object, size_t bytes, size_t *answer)
+{
+    static struct sarpukten_check check;
+    size_t at;
+
+    sarpukten_check_begin(&check, SARPUKTEN_SHA1, SARPUKTEN_RULES_PRESENT);
+    for (at = 0; at < bytes; at += 512)
+        sarpukten_check_feed(&check, object + at, bytes - at < 512 ? bytes - at : 512);
+    sarpukten_check_answer(&check, answer);
+}
+
 /* Forty names of the listing, every sort right: in forty calls, and in one. */
 static int forty(const uint8_t *object, size_t bytes, const size_t *records, size_t n, size_t len)
 {
@@ -120,6 +132,14 @@ int main(int argc, char **argv)
             if (answer[SARPUKTEN_ANSWER_NUMBER] || answer[SARPUKTEN_ANSWER_COUNT] != n)
                 return 3;
             printf("4 strict %zu %zu %zu\n", n, len, n);
+            for (i = 0; i < 2; i++) {
+                mark();
+                in_pieces(object, bytes, answer);
+                mark();
+            }
+            if (answer[SARPUKTEN_ANSWER_NUMBER] || answer[SARPUKTEN_ANSWER_COUNT] != n)
+                return 7;
+            printf("4 pieces-of-512 %zu %zu %zu\n", n, len, n);
             mark();
             for (i = 0; i < n; i++) {
                 const size_t *r = records + i * SARPUKTEN_WIDTH_ENTRY;

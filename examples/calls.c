@@ -384,6 +384,138 @@ static void bundles(void)
     HOLD(answers(sarpukten_check_bundle(bundle, 149, answer), SARPUKTEN_LENGTH_BUNDLE, unframed));
 }
 
+/* A bundle of version 1 with ids of 20 equal bytes, laid object by object, and entry by entry into the last object. */
+static uint8_t laid[512];
+static size_t laid_len, last_object;
+
+static void lay_object(uint8_t id, uint8_t kind)
+{
+    if (laid_len == 0) {
+        memcpy(laid, "GOB\001\000\024\000\000\000\000", 10);
+        laid_len = 10;
+    }
+    last_object = laid_len;
+    memset(laid + laid_len, id, 20);
+    laid[laid_len + 20] = kind;
+    memset(laid + laid_len + 21, 0, 4);
+    laid_len += 25;
+    laid[6]++;
+}
+
+static void lay_entry(const char *mode_and_name, uint8_t id)
+{
+    size_t len = strlen(mode_and_name) + 1;
+
+    memcpy(laid + laid_len, mode_and_name, len);
+    memset(laid + laid_len + len, id, 20);
+    laid_len += len + 20;
+    laid[last_object + 21] = (uint8_t)(laid_len - last_object - 25);
+}
+
+/* Two roots of a bundle compared by ids of 20 bytes, with so much room. */
+#define COMPARED(left, right, many, bytes) \
+    sarpukten_compare_trees_items(laid, laid_len, left, 20, right, 20, items + 1, many, paths + 1, bytes, answer)
+
+/* Two roots compared: `a` changed, `b` only left, `c` only right, the folder `d` with `e` only left, `f` the same on both sides; then what is
+ * refused. */
+static void differences(void)
+{
+    struct sarpukten_item items[7];
+    size_t *all = (size_t *)(void *)big;
+    uint8_t paths[9], left[32], right[32], holds_itself[20], empty[20], broken[20], blob[20];
+    size_t i, at_a, at_b, at_d, at_e, right_a, right_c, inner;
+
+    memset(left, 0x11, sizeof left);
+    memset(right, 0x22, sizeof right);
+    memset(holds_itself, 0x44, sizeof holds_itself);
+    memset(empty, 0x55, sizeof empty);
+    memset(broken, 0x66, sizeof broken);
+    memset(blob, 0x77, sizeof blob);
+    memset(items, GUARD, sizeof items);
+    memset(paths, GUARD, sizeof paths);
+    lay_object(0x11, SARPUKTEN_KIND_TREE);
+    lay_entry("100644 a", 0xa1);
+    at_a = laid_len - 20;
+    lay_entry("100644 b", 0xb1);
+    at_b = laid_len - 20;
+    lay_entry("40000 d", 0x33);
+    at_d = laid_len - 20;
+    lay_entry("100644 f", 0xf1);
+    lay_object(0x22, SARPUKTEN_KIND_TREE);
+    lay_entry("100755 a", 0xa2);
+    right_a = laid_len - 20;
+    lay_entry("100644 c", 0xc2);
+    right_c = laid_len - 20;
+    lay_entry("100644 f", 0xf1);
+    lay_object(0x33, SARPUKTEN_KIND_TREE);
+    inner = last_object;
+    lay_entry("120000 e", 0xe1);
+    at_e = laid_len - 20;
+    lay_object(0x44, SARPUKTEN_KIND_TREE);
+    lay_entry("40000 a", 0x44);
+    lay_object(0x55, SARPUKTEN_KIND_TREE);
+    lay_object(0x77, SARPUKTEN_KIND_BLOB);
+    /* its second entry has an id of 19 bytes */
+    lay_object(0x66, SARPUKTEN_KIND_TREE);
+    lay_entry("100644 a", 0xa1);
+    lay_entry("100644 b", 0xb1);
+    laid_len--;
+    laid[last_object + 21]--;
+
+    HOLD(three(COMPARED(left, right, 5, 7), SARPUKTEN_DONE, 0, 5));
+    {
+        const struct sarpukten_item want[5] = {
+            {0, 1, 0100644, 0100755, at_a, right_a}, {1, 2, 0100644, 0, at_b, 0}, {2, 3, 0, 0100644, 0, right_c},
+            {3, 4, 040000, 0, at_d, 0},              {4, 7, 0120000, 0, at_e, 0},
+        };
+
+        HOLD(memcmp(items + 1, want, sizeof want) == 0 && memcmp(paths + 1, "abcdd/e", 7) == 0);
+    }
+    HOLD(untouched((const uint8_t *)items, sizeof *items) && untouched((const uint8_t *)(items + 6), sizeof *items));
+    HOLD(paths[0] == GUARD && paths[8] == GUARD);
+    /* The other way round each item has its sides exchanged; a root beside itself differs in nothing. */
+    HOLD(three(COMPARED(right, left, 5, 7), SARPUKTEN_DONE, 0, 5));
+    HOLD(items[1].left_id == right_a && items[1].right_id == at_a && items[5].left_mode == 0 && items[5].right_mode == 0120000);
+    HOLD(three(COMPARED(left, left, 0, 0), SARPUKTEN_DONE, 0, 0));
+    memset(items, GUARD, sizeof items);
+    memset(paths, GUARD, sizeof paths);
+
+    /* An item too few, also with five numbers beside the four items; then a byte too few. */
+    HOLD(three(COMPARED(left, right, 4, 7), SARPUKTEN_REFUSED_FEW_RECORDS, 5, 0));
+    HOLD(three(
+        sarpukten_compare_trees(laid, laid_len, left, 20, right, 20, (size_t *)(void *)items, 29, paths, 6, answer), SARPUKTEN_REFUSED_FEW_RECORDS, 5, 0));
+    HOLD(three(COMPARED(left, right, 5, 6), SARPUKTEN_REFUSED_SHORT_OUTPUT, 7, 0));
+    /* Each buffer over its bound, and the list. */
+    HOLD(three(sarpukten_compare_trees_items(big, over, left, 20, right, 20, items + 1, 5, paths + 1, 7, answer), SARPUKTEN_REFUSED_BOUND, 0, 0));
+    HOLD(three(
+        sarpukten_compare_trees_items(laid, laid_len, big, over, right, 20, items + 1, 5, paths + 1, 7, answer), SARPUKTEN_REFUSED_BOUND, 0, 0));
+    HOLD(three(
+        sarpukten_compare_trees_items(laid, laid_len, left, 20, big, over, items + 1, 5, paths + 1, 7, answer), SARPUKTEN_REFUSED_BOUND, 0, 0));
+    HOLD(three(sarpukten_compare_trees_items(laid, laid_len, left, 20, right, 20, items + 1, 5, big, over, answer), SARPUKTEN_REFUSED_BOUND, 0, 0));
+    i = (SARPUKTEN_MOST_RECORDS + 1) * SARPUKTEN_WIDTH_ITEM;
+    HOLD(three(sarpukten_compare_trees(laid, laid_len, left, 20, right, 20, all, i, paths, 7, answer), SARPUKTEN_REFUSED_BOUND, 0, 0));
+    /* A bundle that is cut, a root id of the other length, then both of that length. */
+    HOLD(three(
+        sarpukten_compare_trees_items(laid, laid_len - 1, left, 20, right, 20, items + 1, 5, paths + 1, 7, answer), SARPUKTEN_REFUSED_NOT_FRAMED, 0, 0));
+    HOLD(three(
+        sarpukten_compare_trees_items(laid, laid_len, left, 20, right, 32, items + 1, 5, paths + 1, 7, answer), SARPUKTEN_REFUSED_NOT_FRAMED, 0, 0));
+    HOLD(three(
+        sarpukten_compare_trees_items(laid, laid_len, left, 32, right, 32, items + 1, 5, paths + 1, 7, answer), SARPUKTEN_REFUSED_NOT_FRAMED, 0, 0));
+    /* A folder that holds itself, on one side. */
+    HOLD(three(COMPARED(holds_itself, empty, 5, 7), SARPUKTEN_REFUSED_TOO_DEEP, 0, 0));
+    /* A root that is no tree, one that is missing, and one that cannot be read: the left one is opened first. */
+    HOLD(three(COMPARED(blob, broken, 5, 7), SARPUKTEN_REFUSED_NO_TREE, 0, 0));
+    memset(blob, 0x99, 20);
+    HOLD(three(COMPARED(left, blob, 5, 7), SARPUKTEN_REFUSED_NO_TREE, 0, 0));
+    HOLD(four(COMPARED(broken, blob, 5, 7), SARPUKTEN_REFUSED_BROKEN_ENTRY, 29, SARPUKTEN_BROKEN_CUT_ID, 0));
+    /* The folder's object is missing; an id stands twice. */
+    memset(laid + inner, 0x88, 20);
+    HOLD(three(COMPARED(left, right, 5, 7), SARPUKTEN_REFUSED_NO_TREE, 0, 0));
+    memset(laid + inner, 0x22, 20);
+    HOLD(three(COMPARED(left, right, 5, 7), SARPUKTEN_REFUSED_ID_TWICE, 0, 0));
+    HOLD(untouched((const uint8_t *)items, sizeof items) && untouched(paths, sizeof paths));
+}
+
 /* An entry put and removed, and what an edit refuses. */
 static void edits(void)
 {
@@ -414,11 +546,11 @@ static void edits(void)
     HOLD(memcmp(out + 1, object + 29, 28) == 0 && memcmp(out + 29, folder + 28, 28) == 0);
 }
 
-/* A strict tree as text: two records, and what is refused. */
+/* A strict tree as text and from text: two records, and what is refused. */
 static void texts(void)
 {
     static const char front[] = "100644 blob 1111111111111111111111111111111111111111\ta", back[] = "040000 tree 2222222222222222222222222222222222222222\tb";
-    uint8_t object[57], out[112];
+    uint8_t object[57], text[110], out[112];
 
     memcpy(object, "100644 a", 9);
     memset(object + 9, 0x11, 20);
@@ -432,6 +564,18 @@ static void texts(void)
     HOLD(untouched(out, sizeof out));
     HOLD(three(sarpukten_export_tree(object, 57, SARPUKTEN_SHA1, 2, out + 1, 110, answer), SARPUKTEN_DONE, 0, 110));
     HOLD(memcmp(out + 1, front, 55) == 0 && memcmp(out + 56, back, 55) == 0 && out[0] == GUARD && out[111] == GUARD);
+
+    /* and back, the records in the other order */
+    memcpy(text, back, 55);
+    memcpy(text + 55, front, 55);
+    memset(out, GUARD, sizeof out);
+    HOLD(three(sarpukten_import_tree(text, 110, 21, 3, out + 1, 57, answer), SARPUKTEN_REFUSED_ID_LENGTH, 0, 0));
+    HOLD(three(sarpukten_import_tree(text, 110, SARPUKTEN_SHA1, 3, out + 1, 57, answer), SARPUKTEN_REFUSED_RULE_SET, 0, 0));
+    HOLD(three(sarpukten_import_tree(text, 109, SARPUKTEN_SHA1, 2, out + 1, 57, answer), SARPUKTEN_REFUSED_BAD_TEXT, 55, 0));
+    HOLD(three(sarpukten_import_tree(text, 110, SARPUKTEN_SHA1, 2, out + 1, 56, answer), SARPUKTEN_REFUSED_SHORT_OUTPUT, 57, 0));
+    HOLD(untouched(out, sizeof out));
+    HOLD(three(sarpukten_import_tree(text, 110, SARPUKTEN_SHA1, 2, out + 1, 57, answer), SARPUKTEN_DONE, 0, 57));
+    HOLD(memcmp(out + 1, object, 57) == 0 && out[0] == GUARD && out[58] == GUARD);
 }
 
 /* A tree mended: a padded mode, a name that is not permitted, a name twice; and out of order. */
@@ -461,6 +605,43 @@ static void mending(void)
     HOLD(answers(sarpukten_mend_tree(object, 115, SARPUKTEN_SHA1, fates, 5, out + 1, 58, answer), SARPUKTEN_LENGTH_MEND, mended));
     HOLD(out[0] == GUARD && memcmp(out + 1, want, 57) == 0 && untouched(out + 58, 2));
     HOLD(fates[0] == 1 && fates[1] == 2 && fates[2] == 4 && fates[3] == 0 && fates[4] == 7 && fates[5] == 7);
+}
+
+/* A check in pieces: two entries in pieces of one byte and of three, a third that refuses; a refusal that stays; a state that no call filled. */
+static void pieces(void)
+{
+    static struct sarpukten_check check, was;
+    uint8_t object[86];
+    size_t at;
+
+    memcpy(object, "100644 a", 9);
+    memset(object + 9, 0x11, 20);
+    memcpy(object + 29, "40000 b", 8);
+    memset(object + 37, 0x22, 20);
+    memcpy(object + 57, "100644 a", 9);
+    memset(object + 66, 0x33, 20);
+    memset(&check, GUARD, sizeof check);
+    HOLD(sarpukten_check_begin(&check, 21, 3) == SARPUKTEN_REFUSED_ID_LENGTH && check.name[0] == GUARD && check.ends[0] == 0x9090909);
+    HOLD(four(sarpukten_check_answer(&check, answer), SARPUKTEN_REFUSED_ID_LENGTH, 0, 0, 0));
+    HOLD(sarpukten_check_start(SARPUKTEN_SHA1, 3, check.marks, check.first) == SARPUKTEN_REFUSED_RULE_SET);
+    was = check;
+    HOLD(sarpukten_check_feed(&check, object, 86) == SARPUKTEN_REFUSED_RULE_SET && memcmp(&check, &was, sizeof check) == 0);
+    HOLD(sarpukten_check_begin(&check, SARPUKTEN_SHA1, SARPUKTEN_RULES_PRESENT) == SARPUKTEN_DONE);
+    HOLD(four(sarpukten_check_end(check.marks, check.first, answer), SARPUKTEN_DONE, 0, 0, 0));
+    for (at = 0; at < 57; at++)
+        HOLD(sarpukten_check_feed(&check, object + at, 1) == SARPUKTEN_DONE);
+    HOLD(four(sarpukten_check_answer(&check, answer), SARPUKTEN_DONE, 0, 0, 2));
+    for (; at < 84; at += 3)
+        HOLD(sarpukten_check_piece(check.name, check.ends, check.marks, check.first, object + at, 3) == SARPUKTEN_DONE);
+    HOLD(four(sarpukten_check_answer(&check, answer), SARPUKTEN_REFUSED_BROKEN_ENTRY, 57, SARPUKTEN_BROKEN_CUT_ID, 0));
+    HOLD(sarpukten_check_feed(&check, object + 84, 0) == SARPUKTEN_DONE && sarpukten_check_feed(&check, object + 84, 2) == SARPUKTEN_REFUSED_ORDER);
+    was = check;
+    HOLD(sarpukten_check_feed(&check, object, 86) == SARPUKTEN_REFUSED_ORDER && memcmp(&check, &was, sizeof check) == 0);
+    HOLD(check.marks[SARPUKTEN_MARK_PLACE] == 57 && four(sarpukten_check_answer(&check, answer), SARPUKTEN_REFUSED_ORDER, 57, 0, 0));
+    for (at = 0; at < SARPUKTEN_LENGTH_MARKS; at++)
+        check.marks[at] = at < 3 ? 0 : SIZE_MAX;
+    HOLD(four(sarpukten_check_answer(&check, answer), SARPUKTEN_REFUSED_BROKEN_ENTRY, SIZE_MAX, SARPUKTEN_BROKEN_CUT_ID, 0));
+    HOLD(sarpukten_check_feed(&check, object, 86) == SARPUKTEN_REFUSED_BOUND);
 }
 
 /* The same entries as structs, and their number in records. */
@@ -570,8 +751,10 @@ int main(void)
     many_lookups();
     ids();
     bundles();
+    differences();
     texts();
     mending();
+    pieces();
     edits();
     free(big);
     printf("calls.c: %d answers held\n", held);

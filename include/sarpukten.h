@@ -26,6 +26,9 @@
  *   - sarpukten_check_bundle and sarpukten_follow_path take less than 6 KB of stack, and 4 MiB more where a bundle has more than 1,024 objects
  *     and their ids do not ascend: the places of the ids are then sorted in an array of 1,048,576 numbers of 4 bytes, in a function of its
  *     own, so that no other bundle takes it. Each component of a path takes some 300 bytes more, 64 of them less than 20 KB.
+ *   - sarpukten_compare_trees takes less than 10 KB of stack, some 900 bytes more for each level of folders, 32 of them less than 40 KB in all;
+ *     the marks of a strict read on top of that where a tree has more than 131,072 bytes; and 4 MiB more, for an index, where a bundle has more
+ *     than 1,024 objects, whether or not their ids ascend.
  *
  * What a hypervisor, or whoever has no operating system below, has to know
  *   - The code is for x86-64 in 64-bit mode with SSE2, whose registers (xmm) it uses, and with no later extension: no AVX, no x87. Whoever
@@ -95,13 +98,17 @@ enum {
     SARPUKTEN_REFUSED_EMPTY_ENCODING = 13,   /* writing: the encoding is there and empty; place 0 */
     SARPUKTEN_REFUSED_LF_IN_ENCODING = 14,   /* writing: the encoding has an LF; place 0 */
     SARPUKTEN_REFUSED_NOT_THERE = 15,        /* lookup: no such entry; place 0 */
+    SARPUKTEN_REFUSED_LONG_NAME = 16,        /* a check in pieces: a name has more than 4,096 bytes; place: the entry's first byte */
     SARPUKTEN_REFUSED_SAME_NAME = 17,        /* strict: an entry before has this name; place: the entry's first byte */
     SARPUKTEN_REFUSED_DOT_GIT = 18,          /* strict: the name is .git with letters in upper case; place: the entry's first byte */
     SARPUKTEN_REFUSED_RULE_SET = 19,         /* strict: there is no such rule set; place 0 */
+    SARPUKTEN_REFUSED_BAD_TEXT = 20,         /* a record of text is malformed; the record's first byte in the text */
     SARPUKTEN_REFUSED_NO_MODE_OR_KIND = 23,  /* a number is no mode, or no kind of object; place 0 */
     SARPUKTEN_REFUSED_NOT_FRAMED = 24,       /* the bundle is not well framed, or the root id is not of its h; place 0 */
     SARPUKTEN_REFUSED_ID_TWICE = 25,         /* an id stands twice in the bundle; place 0 */
-    SARPUKTEN_REFUSED_NO_PATH = 26           /* an empty component in a path that is not empty, or more than 64 components; place 0 */
+    SARPUKTEN_REFUSED_NO_PATH = 26,          /* an empty component in a path that is not empty, or more than 64 components; place 0 */
+    SARPUKTEN_REFUSED_TOO_DEEP = 27,         /* a folder at depth 33 would have to be opened; place 0 */
+    SARPUKTEN_REFUSED_NO_TREE = 28           /* an object that has to be opened is missing, or no tree; place 0 */
 };
 
 /* What a number says, in words. */
@@ -235,6 +242,18 @@ enum {
     SARPUKTEN_FOUND_INDEX = 1,       /* the record's index; 0 where it is not there */
     SARPUKTEN_FOUND_COMPARED = 2,    /* how many records were compared */
     SARPUKTEN_WIDTH_FOUND = 3
+};
+
+/* An item of a comparison: where its path starts and ends in the lent bytes, both modes, and where both ids start in the bundle; mode and
+ * start are 0 on the side where nothing is. */
+enum {
+    SARPUKTEN_ITEM_PATH_START = 0,
+    SARPUKTEN_ITEM_PATH_END = 1,
+    SARPUKTEN_ITEM_LEFT_MODE = 2,
+    SARPUKTEN_ITEM_RIGHT_MODE = 3,
+    SARPUKTEN_ITEM_LEFT_ID = 4,
+    SARPUKTEN_ITEM_RIGHT_ID = 5,
+    SARPUKTEN_WIDTH_ITEM = 6
 };
 
 /* An extra header of a commit: five numbers. */
@@ -383,6 +402,15 @@ SARPUKTEN_CHECKED size_t sarpukten_follow_path(
     const uint8_t *bundle, size_t bundle_len, const uint8_t *root, size_t root_len, const uint8_t *path, size_t path_len,
     size_t answer[SARPUKTEN_LENT(SARPUKTEN_LENGTH_PATH)], uint8_t id[SARPUKTEN_LENT(SARPUKTEN_ROOM_ID)]);
 
+/* What differs between two trees of a bundle, by their ids: every entry that is only left, only right, or in both with another mode or id.
+ * The count is of items (SARPUKTEN_ITEM_..), in Git's order at each level; a folder's item comes before those inside it, and a folder on one
+ * side comes with all below it. Whoever does not know how much to lend lends nothing and is told, the items first. Refuses 2, 24, 25; as they
+ * are met 27, 28, the strict reader's (place: in that tree) and 2 (more than SARPUKTEN_MOST_RECORDS items); 4 (place: items), 8 (place: bytes of
+ * all paths). */
+SARPUKTEN_CHECKED size_t sarpukten_compare_trees(
+    const uint8_t *bundle, size_t bundle_len, const uint8_t *left, size_t left_len, const uint8_t *right, size_t right_len, size_t *items,
+    size_t items_len, uint8_t *paths, size_t paths_len, size_t answer[SARPUKTEN_LENT(SARPUKTEN_LENGTH_COUNT)]);
+
 /* Mends an object: puts to the front of out one that rule set 2 accepts, and into fates at i what was done to entry i: 0 kept, 1 kept with
  * another mode text, 2 dropped for its name, 3 dropped for its mode, 4 dropped because an entry before it that was kept has its name.
  * Refuses 1, 2, 3, 4 (place: entries of the object), 8. The new object is never longer than the old one. Stack: some 5 KiB up to 1,024
@@ -390,6 +418,89 @@ SARPUKTEN_CHECKED size_t sarpukten_follow_path(
 SARPUKTEN_CHECKED size_t sarpukten_mend_tree(
     const uint8_t *bytes, size_t bytes_len, size_t h, size_t *fates, size_t fates_len, uint8_t *out, size_t out_len,
     size_t answer[SARPUKTEN_LENT(SARPUKTEN_LENGTH_MEND)]);
+
+/* ---- A check in pieces ----
+ * A strict check of an object of which no more than a piece is there at a time. Its state is lent: one struct of fixed length, the same from the
+ * start to the end, whatever it holds before the start. However the object is cut, empty pieces among them or not, the end says the same;
+ * and but for 16 and for 2 past the bound it is what a strict read with records enough says of the whole object.
+ *
+ *     struct sarpukten_check check;
+ *     size_t answer[SARPUKTEN_LENGTH_COUNT];
+ *     sarpukten_check_begin(&check, SARPUKTEN_SHA1, SARPUKTEN_RULES_PRESENT);
+ *     while ((n = receive(piece, sizeof piece)) > 0)
+ *         sarpukten_check_feed(&check, piece, n);
+ *     if (sarpukten_check_answer(&check, answer) != SARPUKTEN_DONE)
+ *         ... refused
+ */
+
+/* Where a mark stands among the numbers of a state. The first three are the refusal that is settled, 0 while there is none. */
+enum {
+    SARPUKTEN_MARK_NUMBER = 0,
+    SARPUKTEN_MARK_PLACE = 1,
+    SARPUKTEN_MARK_PART = 2,
+    SARPUKTEN_MARK_H = 3,            /* the length of ids, and the rule set */
+    SARPUKTEN_MARK_RULES = 4,
+    SARPUKTEN_MARK_AT = 5,           /* how many bytes have come */
+    SARPUKTEN_MARK_FIRST = 6,        /* where the entry that arrives begins */
+    SARPUKTEN_MARK_COUNT = 7,        /* how many entries are finished */
+    SARPUKTEN_MARK_LAST_SIZE = 8,    /* of the entry before: how many bytes its name has, 0 where there is none, and whether it is a folder */
+    SARPUKTEN_MARK_LAST_FOLDER = 9,
+    SARPUKTEN_MARK_ENDED = 10,       /* how many names are open: how many of `ends` count */
+    SARPUKTEN_MARK_PHASE = 11,       /* 0 in an entry's first eight bytes, 1 in its name, 2 in its id; any other number is 2 */
+    SARPUKTEN_MARK_LEFT = 12,        /* how many of the eight have come, or how many bytes of the id are to come */
+    SARPUKTEN_MARK_WRITTEN = 13,     /* of the entry that arrives: whether its mode text is permitted, and whether it is a folder */
+    SARPUKTEN_MARK_FOLDER = 14,
+    SARPUKTEN_MARK_SIZE = 15,        /* how many bytes of its name have come, and with how many of them the held name begins */
+    SARPUKTEN_MARK_SHARED = 16,
+    SARPUKTEN_MARK_STAND = 17,       /* how it stands to the held name: 0 alike so far, 1 above it, 2 not above it; any other number is 2 */
+    SARPUKTEN_LENGTH_MARKS = 18
+};
+
+#define SARPUKTEN_MOST_HELD 4096 /* the longest name that is held, and how many names may be open */
+#define SARPUKTEN_MOST_ENDS 4097
+#define SARPUKTEN_ROOM_FIRST 8   /* the first bytes of an entry, which decide its mode */
+
+/* The state: 20,640 bytes. Whoever fills one otherwise than by these calls gets an answer all the same, and no place outside of it is touched. */
+struct sarpukten_check {
+    size_t marks[SARPUKTEN_LENGTH_MARKS];
+    uint32_t ends[SARPUKTEN_MOST_ENDS]; /* the lengths of the names of earlier files with which the held name begins */
+    uint8_t name[SARPUKTEN_MOST_HELD];  /* the name before, which the one that arrives overwrites */
+    uint8_t first[SARPUKTEN_ROOM_FIRST];
+};
+typedef char sarpukten_check_is_20640_bytes[sizeof(struct sarpukten_check) == 20640 ? 1 : -1];
+
+/* Begins a check. Refuses 1, 19: whatever follows, the end says so. */
+size_t sarpukten_check_start(
+    size_t h, uint16_t rules, size_t marks[SARPUKTEN_LENT(SARPUKTEN_LENGTH_MARKS)], uint8_t first[SARPUKTEN_LENT(SARPUKTEN_ROOM_FIRST)]);
+
+/* A piece more, of any length, none too; returns the refusal that is settled with it, or 0. Refuses 2 (past SARPUKTEN_MOST_BYTES or
+ * SARPUKTEN_MOST_RECORDS, where nothing else is settled), 3, 5, 6, 7, 16, 17, 18. Where a refusal is settled already it changes nothing. */
+size_t sarpukten_check_piece(
+    uint8_t name[SARPUKTEN_LENT(SARPUKTEN_MOST_HELD)], uint32_t ends[SARPUKTEN_LENT(SARPUKTEN_MOST_ENDS)],
+    size_t marks[SARPUKTEN_LENT(SARPUKTEN_LENGTH_MARKS)], uint8_t first[SARPUKTEN_LENT(SARPUKTEN_ROOM_FIRST)], const uint8_t *piece,
+    size_t piece_len);
+
+/* The answer if the object ends here, with the entries counted: the refusal that is settled, or 3, or done. The check may go on after it. */
+SARPUKTEN_CHECKED size_t sarpukten_check_end(
+    const size_t marks[SARPUKTEN_LENT(SARPUKTEN_LENGTH_MARKS)], const uint8_t first[SARPUKTEN_LENT(SARPUKTEN_ROOM_FIRST)],
+    size_t answer[SARPUKTEN_LENT(SARPUKTEN_LENGTH_COUNT)]);
+
+/* The same three over the struct. */
+static inline size_t sarpukten_check_begin(struct sarpukten_check *check, size_t h, uint16_t rules)
+{
+    return sarpukten_check_start(h, rules, check->marks, check->first);
+}
+
+static inline size_t sarpukten_check_feed(struct sarpukten_check *check, const uint8_t *piece, size_t piece_len)
+{
+    return sarpukten_check_piece(check->name, check->ends, check->marks, check->first, piece, piece_len);
+}
+
+SARPUKTEN_CHECKED static inline size_t sarpukten_check_answer(
+    const struct sarpukten_check *check, size_t answer[SARPUKTEN_LENT(SARPUKTEN_LENGTH_COUNT)])
+{
+    return sarpukten_check_end(check->marks, check->first, answer);
+}
 
 /* ---- Commits ---- */
 
@@ -451,6 +562,13 @@ SARPUKTEN_CHECKED size_t sarpukten_export_tree(
     const uint8_t *bytes, size_t bytes_len, size_t h, uint16_t rules, uint8_t *out, size_t out_len,
     size_t answer[SARPUKTEN_LENT(SARPUKTEN_LENGTH_COUNT)]);
 
+/* The strict object of a text as the call above writes it, its records in any order, to the front of out; it is shorter than the text. Refuses 1, 19,
+ * 2; then record by record, the place being the record's first byte: 2 (more than SARPUKTEN_MOST_RECORDS records; place 0), 20, 5, 6, 18; after
+ * all records 7 and 17 at the first record that repeats an earlier one; 8. With more than 1,024 records it takes four mebibytes of the stack. */
+SARPUKTEN_CHECKED size_t sarpukten_import_tree(
+    const uint8_t *text, size_t text_len, size_t h, uint16_t rules, uint8_t *out, size_t out_len,
+    size_t answer[SARPUKTEN_LENT(SARPUKTEN_LENGTH_COUNT)]);
+
 /* ---- Edits ----
  * One entry of a tree object that rule set 1 or 2 accepts is changed; the new object goes to the front of out, and the answer counts its bytes.
  * Every other entry's bytes are carried over in the same order. An edit needs as much stack as a strict reading of the object.
@@ -470,9 +588,9 @@ SARPUKTEN_CHECKED size_t sarpukten_remove_from_tree(
     size_t answer[SARPUKTEN_LENT(SARPUKTEN_LENGTH_COUNT)]);
 
 /* ---- Records as structs ----
- * The numbers of an entry, of a sought name, of what was found, of a commit's header and of a commit's parts, by name. The functions below take
- * lists of them and count RECORDS; else each is the call without `entries`, `in_entries` or `headers`, sarpukten_bisect_in_entries being
- * sarpukten_bisect_entry, and sarpukten_bisect_all_in_entries being sarpukten_bisect_entries.
+ * The numbers of an entry, of a sought name, of what was found, of an item, of a commit's header and of a commit's parts, by name. The functions
+ * below take lists of them and count RECORDS; else each is the call without `entries`, `in_entries`, `items` or `headers`,
+ * sarpukten_bisect_in_entries being sarpukten_bisect_entry, and sarpukten_bisect_all_in_entries being sarpukten_bisect_entries.
  */
 struct sarpukten_entry {
     size_t mode, name_start, name_end, id_start, text_start;
@@ -555,6 +673,19 @@ SARPUKTEN_CHECKED static inline size_t sarpukten_write_tree_entries(
     size_t answer[SARPUKTEN_LENT(SARPUKTEN_LENGTH_COUNT)])
 {
     return sarpukten_write_tree(bytes, bytes_len, h, (const size_t *)(const void *)entries, many * SARPUKTEN_WIDTH_ENTRY, out, out_len, answer);
+}
+
+struct sarpukten_item {
+    size_t path_start, path_end, left_mode, right_mode, left_id, right_id;
+};
+typedef char sarpukten_item_is_six_numbers[sizeof(struct sarpukten_item) == SARPUKTEN_WIDTH_ITEM * sizeof(size_t) ? 1 : -1];
+
+SARPUKTEN_CHECKED static inline size_t sarpukten_compare_trees_items(
+    const uint8_t *bundle, size_t bundle_len, const uint8_t *left, size_t left_len, const uint8_t *right, size_t right_len,
+    struct sarpukten_item *items, size_t many, uint8_t *paths, size_t paths_len, size_t answer[SARPUKTEN_LENT(SARPUKTEN_LENGTH_COUNT)])
+{
+    return sarpukten_compare_trees(
+        bundle, bundle_len, left, left_len, right, right_len, (size_t *)(void *)items, many * SARPUKTEN_WIDTH_ITEM, paths, paths_len, answer);
 }
 
 struct sarpukten_header {

@@ -1,7 +1,7 @@
 """One function for each call. Each takes what goes in and gives a Case.
 
-A Case has the fields that go in, the fields that must come out (paper.py says them), the refusal numbers among them, and
-the question for the Rust with the answer that the paper expects from it (None where the Rust does not speak).
+A Case has what a call is given and what it has to leave (paper.py says it; lists.py has both), and the question for the Rust with the answer that
+the paper expects from it (None where the Rust does not speak).
 """
 import collections
 import os
@@ -9,13 +9,10 @@ import subprocess
 import sys
 
 import paper
-from lists import FIRST, HERE, SHAPES, fields
+from lists import CALLS, HERE, Given, Left, trimmed
 
-Case = collections.namedtuple("Case", "file call goes_in comes_out numbers question expected")
-CALLS = {("trees", 1): "mode text", ("trees", 2): "mode asked", ("trees", 3): "mode from a number", ("trees", 4): "name order",
-         ("trees", 5): "tree reading", ("trees", 6): "lookup", ("trees", 7): "tree writing", ("trees", 8): "loose header",
-         ("commits", 1): "commit reading", ("commits", 2): "unfold", ("commits", 3): "commit writing",
-         ("trees", 12): "lookup, any sort", ("trees", 13): "many lookups", ("trees", 14): "id from digits", ("trees", 15): "digits of an id"}
+Case = collections.namedtuple("Case", "given left question expected", defaults=[None, None])
+NUMBER_OF = {name.name: call for call, name in CALLS.items()}
 
 
 def hexed(b):
@@ -26,30 +23,45 @@ def spaced(*words):
     return " ".join(str(w) for w in words)
 
 
+def made(name, n, left, rooms=(0, 0, 0), question=None, expected=None, **fields):
+    """The case of a call by its name."""
+    given = Given(NUMBER_OF[name], trimmed(n), list(rooms), **fields)
+    return Case(given, left._replace(answer=trimmed(left.answer)), question, expected)
+
+
+def unparted(answer, *more):
+    """An answer of the paper as C has it, where the paper has no part: number, place, part 0, the rest."""
+    return [*answer[:2], 0, *answer[2:], *more]
+
+
 def mode_text(text):
-    """A mode text read alone: number, mode, where the rest begins."""
-    out = paper.mode_text(text)
-    expected = spaced("ok", *out[1:]) if out[0] == 0 else "no"
-    return Case("trees", 1, [text], list(out), out[:1], spaced("mode", hexed(text)), expected)
+    """A mode text read alone: number, place, part, mode, and where the rest begins."""
+    number, mode, rest = paper.mode_text(text)
+    expected = spaced("ok", mode, rest) if number == 0 else "no"
+    return made("mode text", [], Left([number, 0, int(number == 3), mode, rest]), a=text, question=spaced("mode", hexed(text)), expected=expected)
 
 
 def mode_asked(mode):
-    """Everything a mode can be asked: value, kind, questions, text, word."""
-    value, kind, questions, text, word = out = paper.mode_asked(mode)
+    """Everything a mode can be asked: seven questions, value, kind as a mode, and how long text and word are."""
+    value, kind, questions, text, word = paper.mode_asked(mode)
+    tree, commit, link, other, blob, executable, leaf = [questions >> i & 1 for i in range(7)]
+    answer = [tree, other, blob, executable, leaf, link, commit, value, int(paper.KINDS[kind][0], 8), len(text), len(word)]
+    left = Left(answer, text.ljust(6, b"\0") + word.ljust(6, b"\0"))
     expected = spaced(value, kind, questions, hexed(text), hexed(word))
-    return Case("trees", 2, [mode], list(out), (), spaced("asked", mode), expected)
+    return made("mode asked", [mode], left, (12, 0, 0), question=spaced("asked", mode), expected=expected)
 
 
 def mode_from_number(n):
     """A mode from a 32-bit number."""
-    out = paper.mode_from_number(n)
-    return Case("trees", 3, [n], list(out), out[:1], spaced("from", n), spaced("ok", out[1]) if out[0] == 0 else "no")
+    number, mode = paper.mode_from_number(n)
+    return made("mode from a number", [n], Left([number, 0, 0, mode]), question=spaced("from", n), expected=spaced("ok", mode) if number == 0 else "no")
 
 
 def name_order(a, a_tree, b, b_tree):
     """0 below, 1 same, 2 above."""
     out = paper.order(a, a_tree, b, b_tree) + 1
-    return Case("trees", 4, [a, a_tree, b, b_tree], [out], (), spaced("order", hexed(a), int(a_tree), hexed(b), int(b_tree)), str(out))
+    question = spaced("order", hexed(a), int(a_tree), hexed(b), int(b_tree))
+    return made("name order", [a_tree, b_tree], Left([out]), a=a, b=b, question=question, expected=str(out))
 
 
 def for_rust(numbers):
@@ -57,16 +69,32 @@ def for_rust(numbers):
     return [r[:4] for r in paper.by(paper.WIDTH, numbers)]
 
 
-def tree_reading(h, object, room, rules=2):
-    """The plain and the strict reader. The Rust speaks of the plain one: entries, or the place of a 3."""
-    plain, records = paper.tree_read(h, object, room, strict=False)
-    strict, _same = paper.tree_read(h, object, room, strict=True, rules=rules)
+def plain_reading(h, object, room):
+    """The plain reader. The Rust speaks: entries, or the place of a 3."""
+    answer, records = paper.tree_read(h, object, room, strict=False)
     question = expected = None
     if h in (20, 32):                      # the Rust's list grows: it is asked as with room enough
         (n, place, _part, count), all_records = paper.tree_read(h, object, paper.WIDTH * len(object), strict=False)
         question = spaced("tree", h, hexed(object))
         expected = spaced("no", place) if n else spaced("ok", count, *sum(for_rust(all_records), ()))
-    return Case("trees", 5, [h, object, room, rules], [*plain, records, *strict], (plain[0], strict[0]), question, expected)
+    return made("tree reading", [h], Left(answer, p=records), (0, room, 0), question, expected, a=object)
+
+
+def strict_reading(h, object, room, rules):
+    answer, records = paper.tree_read(h, object, room, strict=True, rules=rules)
+    return made("strict reading", [h, rules], Left(answer, p=records), (0, room, 0), a=object)
+
+
+def steps(h, object, room, start=0):
+    """Step by step from a place to the first that finds nothing: its answer, and how many found an entry; their records, as far as there is room."""
+    last, found = paper.steps(h, object, start)
+    records = [n for record in found for n in record]
+    return made("tree by steps", [h, start], Left([*last, 0, 0, 0, 0, 0, len(found)], p=records[:room]), (0, room, 0), a=object)
+
+
+def tree_reading(h, object, room, rules=2):
+    """The two readers and the steps."""
+    return [plain_reading(h, object, room), strict_reading(h, object, room, rules), steps(h, object, room)]
 
 
 def in_domain(h, object, records, names):
@@ -92,7 +120,13 @@ def lookup(h, object, numbers, name, is_tree):
     if in_domain(h, object, records, [name]):
         question = spaced("find", h, hexed(object), len(records), *sum(for_rust(numbers), ()), hexed(name), int(is_tree))
         expected = found_or_not(numbers, out[0], out[2])
-    return Case("trees", 6, [h, object, numbers, name, is_tree], list(out), out[:1], question, expected)
+    return made("lookup", [h, is_tree], Left(unparted(out)), question=question, expected=expected, a=object, b=name, x=numbers)
+
+
+def lookup_structs(h, object, numbers, name, is_tree):
+    """The same among at most 64 records that are structs."""
+    assert len(numbers) <= 64 * paper.WIDTH
+    return made("lookup among structs", [h, is_tree], Left(unparted(paper.lookup(h, object, numbers, name, is_tree))), a=object, b=name, x=numbers)
 
 
 def tree_writing(h, bytes, numbers, room):
@@ -107,7 +141,8 @@ def tree_writing(h, bytes, numbers, room):
         if n == paper.NUL_IN_NAME:         # the Rust has then written what is before the name
             all_written = paper.tree_write(h, bytes, numbers[:paper.WIDTH * at], size[2])[1] + paper.mode_written(records[at][0]) + b" "
         expected = spaced(size[2], "no" if n else "ok", hexed(all_written))
-    return Case("trees", 7, [h, bytes, numbers, room], [*size, *write, written], (size[0], write[0]), question, expected)
+    return [made("tree size", [h], Left(unparted(size)), a=bytes, x=numbers),
+            made("tree writing", [h], Left(unparted(write), written), (room, 0, 0), question, expected, a=bytes, x=numbers)]
 
 
 def loose_header(kind, size, room):
@@ -116,7 +151,7 @@ def loose_header(kind, size, room):
     question = expected = None
     if 1 <= kind <= 4:
         question, expected = spaced("loose", kind, size), hexed(paper.loose_header(kind, size, 28)[1])
-    return Case("trees", 8, [kind, size, room], [*out, written], out[:1], question, expected)
+    return made("loose header", [kind, size], Left(unparted(out), written), (room, 0, 0), question, expected)
 
 
 def commit_reading(h, object, parents_room, headers_room):
@@ -130,7 +165,8 @@ def commit_reading(h, object, parents_room, headers_room):
         values = [spaced(*r[:2], 1, hexed(paper.unfold(object, r, len(object))[1])) if r[4] else spaced(*r[:2], 0, *r[2:4])
                   for r in all_headers]
         expected = spaced("ok", *all_ranges, len(all_parents), *all_parents, len(all_headers), *values) if n == 0 else spaced("no", place)
-    return Case("commits", 1, [h, object, parents_room, headers_room], [*out, *ranges, parents, headers], out[:1], question, expected)
+    left = Left(unparted(out, len(parents), len(headers) // 5, *ranges), p=parents, q=headers)
+    return made("commit reading", [h], left, (0, parents_room, headers_room), question, expected, a=object)
 
 
 def unfold(bytes, record, room):
@@ -145,7 +181,7 @@ def unfold(bytes, record, room):
             expected = spaced("ok", hexed(whole[1]), 0)
         else:                              # the Rust sees no folded value, or leaves something behind it
             expected = lambda answer: answer == "no" or not answer.endswith(" 0")
-    return Case("commits", 2, [bytes, *record, room], [*out, written], out[:1], question, expected)
+    return made("unfold", record, Left(unparted(out), written), (room, 0, 0), question, expected, a=bytes)
 
 
 def commit_writing(h, bytes, parents, numbers, ranges, room):
@@ -167,7 +203,16 @@ def commit_writing(h, bytes, parents, numbers, ranges, room):
             all_written = paper.commit_written(h, bytes, parents, [], before)[:-1]
         too_small = sum(1 for _name, value in values if value == b"")      # the known difference
         expected = spaced(size[2] - too_small, "no" if n else "ok", hexed(all_written))
-    return Case("commits", 3, [h, bytes, parents, numbers, *ranges, room], [*size, *write, written], (size[0], write[0]), question, expected)
+    fields = dict(a=bytes, x=parents, y=numbers)
+    return [made("commit size", [h, *ranges], Left(unparted(size)), **fields),
+            made("commit writing", [h, *ranges], Left(unparted(write), written), (room, 0, 0), question, expected, **fields)]
+
+
+def commit_rewritten(h, object, room):
+    """A commit that is accepted, written again as it was read."""
+    _out, ranges, parents, numbers = paper.commit_read(h, object, 1024, 1024)
+    write, written = paper.commit_write(h, object, parents, numbers, ranges, room)
+    return made("commit rewritten", [h], Left(unparted(write), written), (room, 0, 0), a=object)
 
 
 def lookup_any(h, object, numbers, name):
@@ -179,7 +224,7 @@ def lookup_any(h, object, numbers, name):
     if in_domain(h, object, records, [name]):
         question = spaced("find-any", h, hexed(object), len(records), *sum(for_rust(numbers), ()), hexed(name))
         expected = found_or_not(numbers, out[0], out[2])
-    return Case("trees", 12, [h, object, numbers, name], list(out), out[:1], question, expected)
+    return made("lookup, any sort", [h], Left(unparted(out)), question=question, expected=expected, a=object, b=name, x=numbers)
 
 
 def lookups(h, object, numbers, names, sought, room):
@@ -193,38 +238,101 @@ def lookups(h, object, numbers, names, sought, room):
         pairs = [x for name, q in zip(each, wanted) for x in (hexed(name), q[2])]
         question = spaced("find-many", h, hexed(object), len(records), *sum(for_rust(numbers), ()), len(each), *pairs)
         expected = spaced(*[found_or_not(numbers, a[0], a[1]) for a in paper.by(paper.EACH, all_answers)])
-    return Case("trees", 13, [h, object, numbers, names, sought, room], [*out, answers], out[:1], question, expected)
+    return made("many lookups", [h], Left(unparted(out), p=answers), (0, room, 0), question, expected, a=object, b=names, x=numbers, y=sought)
 
 
 def id_of_hex(digits, room):
     """The paper speaks alone: the Rust's own reader of hex is not here."""
     out, written = paper.id_of_hex(digits, room)
-    return Case("trees", 14, [digits, room], [*out, written], out[:1], None, None)
+    return made("id from digits", [], Left(unparted(out), written), (room, 0, 0), a=digits)
 
 
 def hex_of_id(id, room):
     """The paper speaks alone, as above."""
     out, written = paper.hex_of_id(id, room)
-    return Case("trees", 15, [id, room], [*out, written], out[:1], None, None)
+    return made("digits of an id", [], Left(unparted(out), written), (room, 0, 0), a=id)
 
 
-def again(file, call, i):
-    """The case with these fields going in."""
-    if (file, call) == ("commits", 2):
-        return unfold(i[0], tuple(i[1:6]), i[6])
-    if (file, call) == ("commits", 3):
-        return commit_writing(*i[:4], tuple(i[4:14]), i[14])
-    if file == "commits":
-        return commit_reading(*i)
-    if call >= 12:
-        return [lookup_any, lookups, id_of_hex, hex_of_id][call - 12](*i)
-    return [mode_text, mode_asked, mode_from_number, name_order, tree_reading, lookup, tree_writing, loose_header][call - 1](*i)
+def bundle_check(bundle):
+    """The Rust has no bundle; the paper speaks alone."""
+    return made("bundle checked", [], Left(paper.bundle_check(bundle)), a=bundle)
 
 
-def encoded(case):
-    """The bytes of a case, what goes in and what comes out."""
-    goes_in, comes_out = SHAPES[case.file, case.call]
-    return bytes([case.call + FIRST[case.file]]) + fields(goes_in, case.goes_in), fields(comes_out, case.comes_out)
+def bundle_object(bundle, id):
+    return made("bundle's object", [], Left(paper.bundle_object(bundle, id)), a=bundle, b=id)
+
+
+def follow(bundle, root, path):
+    """The Rust's `lookup_entry` speaks where the bundle can be used and the path has its form."""
+    answer, id = paper.follow(bundle, root, path)
+    question = expected = None
+    if answer[0] in (0, 15):
+        objects = [o for o in paper.bundle_objects(bundle) if o]
+        each = [w for o in objects for w in (hexed(o[0]), o[1], hexed(bundle[o[2]:o[3]]))]
+        question = spaced("path", paper.bundle_header(bundle)[0], hexed(root), hexed(path), len(objects), *each)
+        expected = "no" if answer[0] else spaced("ok", answer[3], id[:answer[4]].hex())
+    return made("path", [], Left(answer, id), (32, 0, 0), question, expected, a=bundle, b=root, c=path)
+
+
+def tree_put(h, object, rules, mode, name, id, room):
+    """The paper speaks alone; tests/edits_agree has Git beside it."""
+    answer, written = paper.tree_put(h, object, rules, mode, name, id, room)
+    return made("put", [h, rules, mode], Left(answer, written), (room, 0, 0), a=object, b=name, c=id)
+
+
+def tree_remove(h, object, rules, name, room):
+    answer, written = paper.tree_remove(h, object, rules, name, room)
+    return made("remove", [h, rules], Left(answer, written), (room, 0, 0), a=object, b=name)
+
+
+def mend(h, object, list_room, room):
+    """The paper speaks alone; tests/mending has Git beside it."""
+    answer, fates, written = paper.mend(h, object, list_room, room)
+    return made("mend", [h], Left(answer, written, fates), (room, list_room, 0), a=object)
+
+
+def export(h, object, rules, room):
+    """The paper speaks alone; tests/text_agrees has Git beside it."""
+    answer, written = paper.export(h, object, rules, room)
+    return made("export", [h, rules], Left(answer, written), (room, 0, 0), a=object)
+
+
+# The case that a call is given: g its fields, n its numbers with zeros behind them, o, p, q its rooms.
+AGAIN = {
+    "mode text": lambda g, n, o, p, q: mode_text(g.a),
+    "mode asked": lambda g, n, o, p, q: mode_asked(n[0]),
+    "mode from a number": lambda g, n, o, p, q: mode_from_number(n[0]),
+    "name order": lambda g, n, o, p, q: name_order(g.a, bool(n[0]), g.b, bool(n[1])),
+    "tree reading": lambda g, n, o, p, q: plain_reading(n[0], g.a, p),
+    "strict reading": lambda g, n, o, p, q: strict_reading(n[0], g.a, p, n[1]),
+    "tree by steps": lambda g, n, o, p, q: steps(n[0], g.a, p, n[1]),
+    "lookup": lambda g, n, o, p, q: lookup(n[0], g.a, g.x, g.b, bool(n[1])),
+    "lookup among structs": lambda g, n, o, p, q: lookup_structs(n[0], g.a, g.x, g.b, bool(n[1])),
+    "lookup, any sort": lambda g, n, o, p, q: lookup_any(n[0], g.a, g.x, g.b),
+    "many lookups": lambda g, n, o, p, q: lookups(n[0], g.a, g.x, g.b, g.y, p),
+    "tree size": lambda g, n, o, p, q: tree_writing(n[0], g.a, g.x, o)[0],
+    "tree writing": lambda g, n, o, p, q: tree_writing(n[0], g.a, g.x, o)[1],
+    "loose header": lambda g, n, o, p, q: loose_header(n[0], n[1], o),
+    "id from digits": lambda g, n, o, p, q: id_of_hex(g.a, o),
+    "digits of an id": lambda g, n, o, p, q: hex_of_id(g.a, o),
+    "commit reading": lambda g, n, o, p, q: commit_reading(n[0], g.a, p, q),
+    "unfold": lambda g, n, o, p, q: unfold(g.a, tuple(n[:5]), o),
+    "commit size": lambda g, n, o, p, q: commit_writing(n[0], g.a, g.x, g.y, tuple(n[1:11]), o)[0],
+    "commit writing": lambda g, n, o, p, q: commit_writing(n[0], g.a, g.x, g.y, tuple(n[1:11]), o)[1],
+    "commit rewritten": lambda g, n, o, p, q: commit_rewritten(n[0], g.a, o),
+    "bundle checked": lambda g, n, o, p, q: bundle_check(g.a),
+    "bundle's object": lambda g, n, o, p, q: bundle_object(g.a, g.b),
+    "path": lambda g, n, o, p, q: follow(g.a, g.b, g.c),
+    "put": lambda g, n, o, p, q: tree_put(n[0], g.a, n[1], n[2], g.b, g.c, o),
+    "remove": lambda g, n, o, p, q: tree_remove(n[0], g.a, n[1], g.b, o),
+    "mend": lambda g, n, o, p, q: mend(n[0], g.a, p, o),
+    "export": lambda g, n, o, p, q: export(n[0], g.a, n[1], o),
+}
+
+
+def again(given):
+    """The case that is given this."""
+    return AGAIN[CALLS[given.call].name](given, [*given.n, *[0] * 13], *given.rooms)
 
 
 def compare(cases):
@@ -236,7 +344,7 @@ def compare(cases):
     assert len(answers) == len(asked), "one answer a line"
     wrong = [(c, a) for c, a in zip(asked, answers) if not (c.expected(a) if callable(c.expected) else c.expected == a)]
     if wrong:
-        case, answer = min(wrong, key=lambda pair: len(encoded(pair[0])[0]))
-        sys.exit(f"{len(wrong)} differences; the smallest:\n  call: {CALLS[case.file, case.call]}\n  in: {case.goes_in}\n"
-                 f"  paper: {case.comes_out}\n  question: {case.question}\n  Rust: {answer}\n  paper expected of the Rust: {case.expected}")
+        case, answer = min(wrong, key=lambda pair: len(pair[0].question))
+        sys.exit(f"{len(wrong)} differences; the smallest:\n  call: {CALLS[case.given.call].name}\n  in: {case.given}\n"
+                 f"  paper: {case.left}\n  question: {case.question}\n  Rust: {answer}\n  paper expected of the Rust: {case.expected}")
     return len(asked)

@@ -6,19 +6,23 @@
                             (a third word is another seed)
     ./cases.py --read       reads the list back and holds every case against the paper and the Rust once more
 
-The list ends with cases that are wrong on purpose, which `replay` has to name. The seed is fixed, so the list comes out the same every time. Any difference between the Rust and the paper stops
-the run and shows the smallest case that has it. The list format: README.md and lists.py. What a case is: calls.py.
+The list ends with cases that are wrong on purpose, which `replay` has to name. The seed is fixed, so the list comes out the same every time.
+Any difference between the Rust and the paper stops the run and shows the smallest case that has it. The list format: README.md and lists.py. What a case is: calls.py.
 """
 import collections
 import itertools
 import random
 import sys
 
+if sys.argv[1:2] in (["-h"], ["--help"]):
+    sys.exit(print(__doc__))
+
 import git_objects
 import paper
-from calls import (CALLS, again, commit_reading, commit_writing, compare, encoded, hex_of_id, id_of_hex, lookup, lookup_any, lookups, loose_header,
-                   mode_asked, mode_from_number, mode_text, name_order, tree_reading, tree_writing, unfold)
-from lists import FIRST, LIST, REPORT, SHAPES, fields, read_list, wrong_on_purpose
+from calls import (again, bundle_check, bundle_object, commit_reading, commit_rewritten, commit_writing, compare, export, follow, hex_of_id, id_of_hex, lookup,
+                   lookup_any, lookup_structs, lookups, loose_header, mend, mode_asked, mode_from_number, mode_text, name_order, steps, strict_reading,
+                   plain_reading, tree_put, tree_reading, tree_remove, tree_writing, unfold)
+from lists import CALLS, LIST, MOST_BYTES, REPORT, State, read_list, wrong_on_purpose
 
 HUGE = [2**64 - 1, 2**64 - 20, 2**63, 2**32, 65536]
 BAD_H = [0, 1, 19, 21, 31, 33, 40, 64, 2**32 + 20, 2**64 - 1]
@@ -632,13 +636,298 @@ def from_git():
                     yield unfold(object, record, len(object))
 
 
+# ---------------------------------------------------------------- Git's own objects, damaged and cut
+
+def by_steps(h, object, room):
+    """Step by step from the front, from the end, from behind it, and with an H that there is not."""
+    yield steps(h, object, room)
+    yield steps(h, object, room, len(object))
+    yield steps(h, object, room, len(object) + 3)
+    yield steps(21, object, room, 5)
+
+
+def damaged_trees(object, h, entries):
+    """Copies of a tree with one thing wrong at an entry: a byte cut, an id cut, another mode, another name, the entry twice, two entries exchanged."""
+    starts = [0] + [e[3] + h for e in entries] + [len(object)]
+    for i, (_mode, name, end, id, _first) in enumerate(entries):
+        if i % (1 + len(entries) // 32):
+            continue                        # of a large tree some thirty entries
+        first, next, after = starts[i:i + 3]
+
+        def swap(a, b, piece):
+            return object[:a] + piece + object[b:]
+        yield i, [object[:next - 1], object[:id], swap(id, id + 1, b""), swap(first, first + 1, b"8"), swap(first, first + 1, b"7"), swap(first, first, b"0"),
+                  swap(first + 4, first + 5, b"6"), swap(name, name + 1, b"/"), swap(name, name + 1, b"\0"), swap(name, end, b""), swap(name, end, b"."),
+                  swap(name, end, b".."), swap(name, end, b".git"), swap(name, end, b".gita"), object[:next] + object[first:next] + object[next:],
+                  object[:first] + object[next:after] + object[first:next] + object[after:]]
+
+
+def git_trees():
+    """Each tree with both lengths of ids: read, walked, looked up entry by entry as its sort and as the other, written to itself; damaged; the
+    small ones cut."""
+    for name, h, object in git_objects.trees():
+        numbers = paper.tree_read(h, object, 1024, False)[1]
+        entries, room = paper.by(paper.WIDTH, numbers), len(numbers) + 3
+        yield tree_reading(h, object, room)
+        yield tree_reading(52 - h, object, room)
+        yield tree_reading(21, object, room)
+        yield tree_reading(h, object[:-1], room)
+        yield from by_steps(h, object, room)
+        if entries:
+            yield tree_reading(h, object, len(numbers) - 1)
+        for mode, start, end, _id, _first in entries:
+            for sort in (paper.is_tree(mode), not paper.is_tree(mode)):
+                yield lookup(h, object, numbers, object[start:end], sort)
+                if len(entries) <= 64:
+                    yield lookup_structs(h, object, numbers, object[start:end], sort)
+        yield tree_writing(h, object, numbers, len(object) + 8)
+        yield tree_writing(h, object, numbers, max(len(object) - 1, 0))
+        for i, copies in damaged_trees(object, h, entries):
+            for kind, copy in enumerate(copies):
+                few = len(entries) > 64 and kind not in (5, 14)        # of a large tree the answers alone, but for two kinds
+                yield [plain_reading(h, copy, 0 if few else room + 10), strict_reading(h, copy, 0 if few else room + 10, 2)]
+        if 0 < len(entries) <= 8:
+            for n in range(len(object)):
+                yield tree_reading(h, object[:n], room)
+
+
+def damaged_commits(object, h, ranges, parents):
+    """Copies of a commit that is accepted, damaged at places that matter."""
+    tree, author, author_end, committer, committer_end, _mark, encoding, encoding_end, message, _end = ranges
+    end, last, digit = tree + 2 * h, (parents or [5])[-1], author_end - 6
+
+    def swap(a, b, piece):
+        return object[:a] + piece + object[b:]
+    return [object[:h], object[:end + 1], object[:author_end - 12], object[:committer_end], object[:message - 1],
+            b"T" + object[1:], swap(author - 2, author - 1, b"R"), swap(committer - 2, committer - 1, b"R"),
+            swap(end, end + 1, b""), swap(author_end, author_end + 1, b""), swap(committer_end, committer_end + 1, b""),
+            swap(end - 1, end, b"g"), swap(last, last + 1, b"g"), swap(encoding, encoding_end, b""), swap(digit, digit, b"0")]
+
+
+def read_and_rewritten(h, object):
+    """A commit read, and where it is accepted written again."""
+    yield commit_reading(h, object, 8, 40)
+    if paper.commit_read(h, object, 8, 40)[0][0] == 0:
+        yield commit_rewritten(h, object, len(object) + 8)
+
+
+def wrong_parts(h, object, ranges, parents, headers):
+    """A commit written from parts that are wrong one by one, from lists in each other's place, with an H that there is not, and to an output too short."""
+    n = len(object)
+
+    def other(*changes):
+        parts = list(ranges)
+        for k, x in changes:
+            parts[k] = x
+        return tuple(parts)
+    for parts in (ranges, other((0, n)), other((2, n + 1)), other((3, n)), other((5, 2)), other((9, n + 1)), other((5, 1), (6, n), (7, n)),
+                  other((5, 1), (6, 0), (7, ranges[2]))):
+        yield commit_writing(h, object, parents, headers, parts, n + 8)
+    yield commit_writing(h, object, headers, parents, ranges, n + 8)
+    yield commit_writing(21, object, parents, headers, ranges, n + 8)
+    yield commit_writing(h, object, parents, headers, ranges, n - 1)
+
+
+def git_commits():
+    """Each commit with both lengths of ids: read with every room around what it needs, unfolded, written to itself and from wrong parts, damaged at places
+    that matter, and at every place cut, and with a byte left out, put in, and changed to two others."""
+    for name, h, object in git_objects.commits():
+        yield from read_and_rewritten(h, object)
+        (number, _place, _field), ranges, parents, headers = paper.commit_read(h, object, 8, 40)
+        if number == 0:
+            for np, nh in itertools.product({len(parents), max(len(parents) - 1, 0)}, {len(headers), max(len(headers) - 1, 0)}):
+                for length in (h, 52 - h, 21):
+                    yield commit_reading(length, object, np, nh)
+            for record in paper.by(5, headers):
+                value = paper.unfold(object, record, len(object))[1]
+                yield unfold(object, record, len(value) + 8)
+                yield unfold(object, record, max(len(value) - 1, 0))
+            yield from wrong_parts(h, object, ranges, parents, headers)
+            for copy in damaged_commits(object, h, ranges, parents):
+                yield from read_and_rewritten(h, copy)
+        anywhere = [
+            lambda at: object[:at], lambda at: object[:at] + object[at + 1:], lambda at: object[:at] + b" " + object[at:],
+            lambda at: object[:at] + b"\n" + object[at + 1:], lambda at: object[:at] + b" \0<gA"[at % 5:at % 5 + 1] + object[at + 1:]]
+        for damage, at in itertools.product(anywhere, range(len(object))):
+            yield from read_and_rewritten(h, damage(at))
+        for at in range(len(object)):       # the values that are folded, by one kind of damage at each place
+            copy = anywhere[at % 5](at)
+            for record in paper.by(5, paper.commit_read(h, copy, 8, 40)[3]):
+                if record[4] and record[2] <= at <= record[3]:
+                    yield unfold(copy, record, len(copy) + 8)
+
+
+# ---------------------------------------------------------------- bundles, edits, mending, text
+
+def some_bundle():
+    """A bundle of trees whose entries lead to each other, a third of them damaged; with a root id and a path."""
+    h = rnd.choice([20, 32])
+    names = [bytes([rnd.randrange(1, 7)]) * h for _ in range(rnd.randrange(1, 7))]
+    if chance(80):
+        names = sorted(set(names))
+    if chance(50):
+        rnd.shuffle(names)
+
+    def little(n, width):
+        return (n % 256 ** width).to_bytes(width, "little")
+    modes = [b"40000 ", b"100644 ", b"040000 ", b"160000 ", b"0 ", b" ", b"1000x4 "]
+    bundle = b""
+    for id in names:
+        object = b"".join(rnd.choice(modes) + rnd.choice([b"a", b"b", b"ab", b""]) + b"\0" + rnd.choice(names) for _ in range(rnd.randrange(5)))
+        bundle += id + bytes([rnd.choice([2, 2, 2, 2, 2, 3, 1, 4, rnd.randrange(7)])]) + little(len(object), 4) + object
+    version = rnd.choice([b"\1\0", b"\2\0" + little(rnd.choice([1, 2, 1, 2, 0, 3]), 2)])
+    bundle = b"GOB" + version + bytes([h]) + little(len(names) + rnd.choice([0] * 12 + [1, -1]), 4) + bundle
+    if chance(33):
+        at, byte = rnd.randrange(len(bundle) + 1), bytes([rnd.randrange(256)])
+        bundle = rnd.choice([bundle[:at], bundle[:at] + byte + bundle[at + 1:], bundle[:at] + byte + bundle[at:], bundle[:at] + bundle[at + 1:]])
+    path = rnd.choice([b"a", b"b", b"a/b", b"a/a/a", b"b/a/b/a", b"", b"/", b"a/", b"a//b", b"ab/a", b"/".join([b"a"] * rnd.randrange(60, 70))])
+    return bundle, rnd.choice(names + [b"\x09" * h, names[0][:-1]]), path
+
+
+def random_bundle():
+    bundle, id, path = some_bundle()
+    return [bundle_check(bundle), bundle_object(bundle, id), follow(bundle, id, path)]
+
+
+def small_bundle(version=b"\1\0", h=20):
+    """Two trees and a blob: folder `d` with file `f` in it."""
+    one, two, three = [bytes([x]) * h for x in b"\1\2\3"]
+    objects = [(one, 2, b"40000 d\0" + two + b"100644 e\0" + three), (two, 2, b"100644 f\0" + three), (three, 3, b"text")]
+    body = b"".join(id + bytes([kind]) + len(object).to_bytes(4, "little") + object for id, kind, object in objects)
+    return b"GOB" + version + bytes([h]) + len(objects).to_bytes(4, "little") + body, one
+
+
+def bundles(long):
+    """A bundle of each version and id length, cut at every length and with every byte of its first objects' framing changed; every path in it, and others."""
+    for version, h in itertools.product((b"\1\0", b"\2\0\1\0", b"\2\0\2\0"), (20, 32)):
+        bundle, root = small_bundle(version, h)
+        for path in (b"d", b"d/f", b"e", b"f", b"d/f/g", b"e/f", b"", b"/", b"d/", b"/d", b"d//f", b".", b"d/.", b"D"):
+            yield follow(bundle, root, path)
+        for length in (h - 1, h, h + 1, 52 - h, 0):
+            yield follow(bundle, root[:1] * length, b"d")
+            yield bundle_object(bundle, root[:1] * length)
+        for components in (63, 64, 65):
+            yield follow(bundle, root, b"/".join([b"d"] * components))
+        for n in range(len(bundle)):
+            yield [bundle_check(bundle[:n]), bundle_object(bundle[:n], b"\3" * h)]
+        for at in itertools.chain(range(len(version) + 8 + h + 5), range(len(bundle) - 9 - h, len(bundle))):
+            for byte in {0, 1, 2, 3, 5, 20, 32, 255} if long or h == 20 else {0, 2, 255}:
+                other = bundle[:at] + bytes([byte]) + bundle[at + 1:]
+                yield [bundle_check(other), follow(other, root, b"d/f")]
+        yield [bundle_check(bundle + b"\0"), follow(bundle + b"\0", root, b"d")]
+        twice = bundle.replace(b"\3" * h + b"\3", b"\2" * h + b"\3")       # an id twice
+        yield [bundle_check(twice), follow(twice, root, b"d"), follow(twice, root[1:], b"d"), bundle_object(twice, b"\2" * h)]
+
+
+EDITED = [b"a", b"a.b", b"a-b", b"a0", b"a b", b"ab", b"b", b"b.c", b".gi", b".gitx", b"A", b"Z\xff", b"\x01", b"-", b"z" * 40]
+
+
+def strict_tree(h, most=6):
+    """A tree that strict reading accepts, some by rule set 1 alone."""
+    early = [b"100664"] if chance(20) else []
+    entries = [(rnd.choice(FIVE + early), name, ids(h)) for name in rnd.sample(EDITED, rnd.randint(0, most))]
+    return paper.in_order(entries), [e[1] for e in entries]
+
+
+def random_put():
+    h = some_h()
+    width = h if h in (20, 32) else 20
+    object, names = strict_tree(width)
+    name = rnd.choice(names + EDITED if chance(85) else REFUSED + [b".GIT", b".giT", b"a\0", b"\0"])
+    mode = rnd.choice([16384, 33188, 33261, 40960, 57344] * 3 + [33204, 0, 49152, 65535, 65536, 2**32 + 16384, rnd.randrange(65536)])
+    id = ids(width) if chance(92) else rnd.choice([b"", b"\1" * 19, b"\1" * 21, b"\1" * (52 - width)])
+    rules = rnd.choice([2] * 12 + [1] * 8 + RULE_SETS)
+    if chance(15):
+        object = damaged(object)
+    (number, place, _part, count), _out = paper.tree_put(h, object, rules, mode, name, id, MOST_BYTES)
+    return tree_put(h, object, rules, mode, name, id, around(count))
+
+
+def random_remove():
+    h = some_h()
+    object, names = strict_tree(h if h in (20, 32) else 20)
+    name = rnd.choice(names * 3 + EDITED + [b"", b".git"])
+    rules = rnd.choice([2] * 12 + [1] * 8 + RULE_SETS)
+    if chance(15):
+        object = damaged(object)
+    return tree_remove(h, object, rules, name, around(paper.tree_remove(h, object, rules, name, MOST_BYTES)[0][3]))
+
+
+MENDED = [b"100644", b"100644", b"40000", b"40000", b"100755", b"120000", b"160000", b"0100644", b"040000", b"100664", b"300644",
+          b"140755", b"160001", b"0", b"20000", b"7"]
+MISNAMED = [b".git", b".GIT", b".", b"..", b"", b"x/y"]
+
+
+def random_mend():
+    h = some_h()
+    width = h if h in (20, 32) else 20
+    entries = [(rnd.choice(MENDED), rnd.choice(EDITED + MISNAMED) + rnd.choice([b"", b"", b"1", b"~"]), ids(width)) for _ in range(rnd.randrange(9))]
+    object = b"".join(text + b" " + name + b"\0" + id for text, name, id in entries)
+    if chance(8):
+        object = damaged(object)
+    answer = paper.mend(h, object, 1024, MOST_BYTES)[0]
+    return mend(h, object, around(answer[4]), around(answer[3]))
+
+
+def random_export():
+    h = some_h()
+    object = strict_tree(h if h in (20, 32) else 20)[0]
+    if chance(20):
+        object = damaged(object)
+    rules = rnd.choice([2] * 12 + [1] * 8 + RULE_SETS)
+    return export(h, object, rules, around(paper.export(h, object, rules, MOST_BYTES)[0][3]))
+
+
+def edited_and_mended(long):
+    """O edited, mended and as text, with every room; every mode text that mending judges; the edits of one name as a file and as a folder."""
+    for room in range(0, 120):
+        yield tree_put(20, O, 2, 33188, b"c", b"\x33" * 20, room)
+        yield tree_remove(20, O, 2, b"b", room)
+        yield mend(20, O, 2, room)
+        yield export(20, O, 2, room)
+    for list_room in range(5):
+        yield mend(20, O, list_room, 57)
+        yield mend(20, O[:-1], list_room, 57)
+    for text in FIVE + ODD + MENDED + ([b"%o" % n for n in range(0, 131072, 7)] if long else [b"%o" % (sort * 4096 + 0o755) for sort in range(32)]):
+        yield mend(20, text + b" a\0" + b"\x11" * 20, 1, 40)
+        yield export(20, text + b" a\0" + b"\x11" * 20, 1, 70)
+    for h, rules in itertools.product(BAD_H + [20, 32], (1, 2, 3)):
+        yield [tree_put(h, O, rules, 33188, b"c", b"\x33" * 20, 120), tree_remove(h, O, rules, b"b", 120), export(h, O, rules, 120), mend(h, O, 2, 120)]
+    listing = [(b"100644", b"a"), (b"100644", b"a-"), (b"100644", b"a."), (b"100644", b"a0"), (b"40000", b"b"), (b"100644", b"b.")]
+    object = paper.in_order([(mode, name, b"\x11" * 20) for mode, name in listing])
+    for name, mode in itertools.product((b"a", b"a-", b"a.", b"a0", b"b", b"b.", b"c", b"", b"!"), (16384, 33188, 57344)):
+        yield tree_put(20, object, 2, mode, name, b"\x22" * 20, 300)
+        yield tree_remove(20, object, 2, name, 300)
+    for order in itertools.permutations([b"100644 a", b"40000 a", b"100644 a.", b"40000 b"]):
+        yield mend(20, b"".join(e + b"\0" + b"\x11" * 20 for e in order), 4, 200)
+    for _name, h, object in git_objects.trees():
+        if len(object) < 4000:
+            yield [mend(h, object, 64, len(object)), export(h, object, 2, 4000)]
+            for r in paper.by(paper.WIDTH, paper.tree_read(h, object, 1024, False)[1]):
+                name = object[r[1]:r[2]]
+                yield [tree_remove(h, object, 2, name, len(object)), tree_put(h, object, 2, 16384, name, b"\x44" * h, len(object) + 40),
+                       tree_put(h, object, 2, r[0], name, object[r[3]:r[3] + h], len(object))]
+
+
 # ---------------------------------------------------------------- running
 
 # Random cases of each call in the list.
 RANDOM = [(random_mode_text, 2200), (random_mode_asked, 1400), (random_mode_from_number, 900), (random_name_order, 1500),
           (random_tree_reading, 3000), (random_lookup, 2400), (random_tree_writing, 2600), (random_loose_header, 700),
           (random_commit_reading, 2700), (random_unfold, 2200), (random_commit_writing, 2200),
-          (random_lookup_any, 700), (random_lookups, 600), (random_id_of_hex, 500), (random_hex_of_id, 400)]
+          (random_lookup_any, 700), (random_lookups, 600), (random_id_of_hex, 500), (random_hex_of_id, 400),
+          (random_bundle, 700), (random_put, 900), (random_remove, 500), (random_mend, 700), (random_export, 500)]
+
+
+def flat(cases):
+    """Cases one by one: some functions give several at once."""
+    for case in cases:
+        yield from case if isinstance(case, list) else [case]
+
+
+def ordered(long):
+    """All cases but the random ones."""
+    return flat(itertools.chain(exhaustive(long), from_git(), git_trees(), git_commits(), bundles(long), edited_and_mended(long)))
 
 
 class Tally:
@@ -650,65 +939,64 @@ class Tally:
         """Hold the cases against the Rust, and count them."""
         compare(cases)
         for case in cases:
-            key = case.file, case.call
-            self.cases[key] += 1
-            self.compared[key] += case.question is not None
-            self.numbers[key].update(case.numbers)
+            call = case.given.call
+            self.cases[call] += 1
+            self.compared[call] += case.question is not None
+            if CALLS[call].name not in ("mode asked", "name order"):
+                self.numbers[call].update([*case.left.answer, 0][:1])
 
     def show(self):
-        for key, name in CALLS.items():
-            numbers = " ".join(f"{n}:{k}" for n, k in sorted(self.numbers[key].items()))
-            print(f"{key[0]:8}{key[1]:2} {name:20}{self.cases[key]:9} cases, {self.compared[key]:9} compared with the Rust   {numbers}")
+        for call, uses in CALLS.items():
+            numbers = " · ".join(f"{n}: {k}" for n, k in sorted(self.numbers[call].items()))
+            print(f"| {call} {uses.name} | {self.cases[call]:,} | {self.compared[call] or 'none':,} | {numbers} |" if self.compared[call] else
+                  f"| {call} {uses.name} | {self.cases[call]:,} | none | {numbers} |")
         print(f"together {sum(self.cases.values())} cases, {sum(self.compared.values())} compared with the Rust, no difference")
 
 
 def many(n):
     """Run and compare, in batches; write nothing."""
     tally = Tally()
-    random_ones = (make() for make, _share in RANDOM for _ in range(n))
-    cases = itertools.chain(exhaustive(long=True), from_git(), random_ones)
+    cases = itertools.chain(ordered(long=True), flat(make() for make, _share in RANDOM for _ in range(n)))
     while batch := list(itertools.islice(cases, 20000)):
         tally.compare(batch)
     tally.show()
 
 
 def read_back():
-    """Every case of the list: the same fields must come out again."""
-    tally = Tally()
-    for file in ("trees", "commits"):
-        cases = []
-        for call, goes_in, comes_out in read_list(file):
-            cases.append(again(file, call, goes_in))
-            assert cases[-1].comes_out == comes_out, (call, goes_in, comes_out)
-        tally.compare(cases)
+    """Every case of the list: the same has to be left again."""
+    tally, cases = Tally(), []
+    for given, left in read_list():
+        cases.append(again(given))
+        assert cases[-1].left == left, (given, left, cases[-1].left)
+    tally.compare(cases)
     tally.show()
 
 
 def write_list():
-    """No case twice, and call after call; then those wrong on purpose."""
-    tally, made = Tally(), {key: {} for key in CALLS}
-    for case in itertools.chain(exhaustive(long=False), from_git(), (make() for make, share in RANDOM for _ in range(share))):
-        goes_in, comes_out = encoded(case)
-        made[case.file, case.call].setdefault(goes_in, (comes_out, case))
-    for cases in made.values():
-        tally.compare([case for _comes_out, case in cases.values()])
-    content = [goes_in + comes_out for cases in made.values() for goes_in, (comes_out, _case) in cases.items()]
-    right = len(content)
-    wrong = list(wrong_on_purpose({key: [(case.goes_in, case.comes_out) for _comes_out, case in cases.values()] for key, cases in made.items()}))
-    for (file, call), goes_in, comes_out in wrong:
-        content.append(bytes([call + FIRST[file]]) + fields(SHAPES[file, call][0], goes_in) + fields(SHAPES[file, call][1], comes_out))
+    """No case twice, in the order in which they are made; then those wrong on purpose."""
+    tally, state, made = Tally(), State(), {}
+    for case in itertools.chain(ordered(long=False), flat(make() for make, share in RANDOM for _ in range(share))):
+        given = case.given
+        made.setdefault((given.call, *map(tuple, (given.n, given.rooms)), given.a, given.b, given.c, *map(tuple, (given.x, given.y))), case)
+    cases = list(made.values())
+    tally.compare(cases)
+    of_call = collections.defaultdict(list)
+    for case in cases:
+        of_call[case.given.call].append(case[:2])
+    wrong = list(wrong_on_purpose(of_call))
+    content = b"".join(state.encoded(*case) for case in [c[:2] for c in cases] + wrong)
     with open(LIST, "wb") as out:
-        out.write(b"".join(content))
+        out.write(content)
     with open(REPORT, "w") as out:
-        out.write(report({key: len(cases) for key, cases in made.items()}, right, [key for key, _goes_in, _comes_out in wrong]))
-    print(f"{len(b''.join(content))} bytes, {len(content)} cases, {len(wrong)} of them wrong on purpose")
+        out.write(report(tally.cases, len(cases), [given.call for given, _left in wrong]))
+    print(f"{len(content)} bytes, {len(cases) + len(wrong)} cases, {len(wrong)} of them wrong on purpose")
     tally.show()
 
 
 def report(agree, right, wrong):
     """What `replay` has to say: the cases that differ, a line for each call, and the sum."""
-    lines = [f"differs: case {right + i} call {call + FIRST[file]}" for i, (file, call) in enumerate(wrong)]
-    lines += [f"{name} {agree[key] + wrong.count(key)} agree {agree[key]}" for key, name in CALLS.items()]
+    lines = [f"differs: case {right + i} call {call}" for i, call in enumerate(wrong)]
+    lines += [f"call {call}: {agree[call] + wrong.count(call)} agree {agree[call]}" for call in CALLS]
     return "\n".join([*lines, f"cases {right + len(wrong)}, differ {len(wrong)}", ""])
 
 

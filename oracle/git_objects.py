@@ -1,4 +1,4 @@
-"""Trees and commits that Git itself makes, in a small repository in a temporary folder. Same names, same dates, same objects."""
+"""Trees and commits that Git itself makes, in small repositories in temporary folders. Same names, same dates, same objects."""
 import os
 import subprocess
 import tempfile
@@ -57,3 +57,25 @@ def objects(h):
             if kind in ("tree", "commit"):
                 found.append((kind, git("cat-file", kind, id)))
         return found
+
+
+def printed(script, names):
+    """What git_trees or git_commits prints: (name, H, bytes) of each object, a line with its size ahead of its bytes, and an LF behind."""
+    run = subprocess.run([os.path.join(os.path.dirname(os.path.abspath(__file__)), script)], stdout=subprocess.PIPE, stderr=subprocess.DEVNULL, check=True)
+    rest = run.stdout
+    for name in names:
+        for h in (20, 32):
+            line, rest = rest.split(b"\n", 1)
+            size = int(line.split(b" ")[2])
+            yield name, h, rest[:size]
+            rest = rest[size + 1:]
+    assert rest == b""
+
+
+def trees():
+    return printed("git_trees", ["empty", "modes", "names", "twice", "large"])
+
+
+def commits():
+    return printed("git_commits", ["root", "one", "two", "three", "coded", "signed", "tagged", "full", "silent", "unended", "empty", "upper",
+                                   "nowhere", "late", "spaced"])

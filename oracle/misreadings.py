@@ -1,12 +1,15 @@
 #!/usr/bin/env python3
 """Does the list bite? Plausible misreadings of docs/FORMAT.md, put into paper.py one at a time: each must change an answer in the list.
 
-    ./misreadings.py        prints for each how many cases of the list answer otherwise; an error if one goes unseen
+    ./misreadings.py        prints for each the first case of the list that answers otherwise; an error if there is none
 """
 import importlib
 import os
 import sys
 import types
+
+if sys.argv[1:2] in (["-h"], ["--help"]):
+    sys.exit(print(__doc__))
 
 import calls
 from lists import read_list
@@ -233,6 +236,48 @@ MISREADINGS = [
      'b"%02X" % x for x in id'),
     ('b"%02x" % x for x in id',
      'b"%x" % x for x in id'),
+    ('if version == 2:',
+     'if False:'),
+    ('version not in (1, 2) or',
+     ''),
+    ('bundle[at + h] not in (1, 2, 3, 4)',
+     'bundle[at + h] > 5'),
+    ('if at == len(bundle):',
+     'if at <= len(bundle):'),
+    ('byte * 256 ** i for i, byte in enumerate(part)',
+     'byte * 256 ** i for i, byte in enumerate(reversed(part))'),
+    ('len({o[0] for o in objects}) < len(objects)',
+     'any(a[0] == b[0] for a, b in zip(objects, objects[1:]))'),
+    ('if number == NOT_FRAMED or len(root) != h:',
+     'if number == NOT_FRAMED:'),
+    ('b"" in components or len(components) > 64',
+     'len(components) > 64'),
+    ('len(components) > 64',
+     'len(components) > 65'),
+    ('found == DONE and kind == 2',
+     'found == DONE'),
+    ('mode, id = named[0][0], object[named[0][3]:named[0][3] + h]',
+     'mode, id = named[-1][0], object[named[-1][3]:named[-1][3] + h]'),
+    ('if name not in [e[1] for e in entries]:',
+     'if False:'),
+    ('key=lambda e: e[1] + (b"/" if e[0] == b"40000" else b"")',
+     'key=lambda e: e[1]'),
+    ('[e for e in entries if e[1] != name] + [(mode_written(mode), name, id)]',
+     'entries + [(mode_written(mode), name, id)]'),
+    ('mode > 65535 or mode_written(mode) not in modes',
+     'mode_written(mode % 65536) not in modes'),
+    ('in (0o10, 0o12, 0o04, 0o16) else None',
+     'in (0o10, 0o12, 0o04, 0o16, 0) else None'),
+    ('elif called in [e[1] for e in kept]:',
+     'elif called in [object[r[1]:r[2]] for r in by(WIDTH, numbers[:WIDTH * len(fates)])]:'),
+    ('KEPT if object[text:name - 1] == own else KEPT_OTHERWISE',
+     'KEPT'),
+    ('if len(fates) > list_room:',
+     'if len(kept) > list_room:'),
+    ('text.rjust(6, b"0")',
+     'text'),
+    ('.get(kind, b"blob")',
+     '.get(kind, KINDS[kind][1])'),
 ]
 
 
@@ -243,9 +288,9 @@ def read_as(text):
     return importlib.reload(calls)
 
 
-def differs(read, file, call, goes_in, comes_out):
+def differs(read, given, left):
     try:
-        return read.again(file, call, goes_in).comes_out != comes_out
+        return tuple(read.again(given).left) != tuple(left)
     except Exception:               # a misreading that falls over is seen, too
         return True
 
@@ -253,17 +298,15 @@ def differs(read, file, call, goes_in, comes_out):
 def main():
     with open(os.path.join(calls.HERE, "paper.py")) as f:
         paper = f.read().replace("\nexamples()\n", "\n")
-    cases = []
-    for file in ("trees", "commits"):
-        cases += [(file, *case) for case in read_list(file)]
+    cases = read_list()
     assert not any(differs(read_as(paper), *case) for case in cases[::500]), "the paper as it is"
     unseen = 0
     for right, wrong in MISREADINGS:
         assert right in paper, right
         misread = read_as(paper.replace(right, wrong))
-        seen = sum(differs(misread, *case) for case in cases)
-        unseen += seen == 0
-        print(f"{seen:6}  {right!r} -> {wrong!r}", flush=True)
+        seen = next((i for i, case in enumerate(cases) if differs(misread, *case)), None)
+        unseen += seen is None
+        print(f"{seen!s:>6}  {right!r} -> {wrong!r}", flush=True)
     sys.exit(f"{unseen} of {len(MISREADINGS)} misreadings go unseen" if unseen else None)
 
 

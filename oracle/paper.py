@@ -5,13 +5,13 @@ Every public call gives a tuple of numbers, with lists or bytes where the call f
 All memory lent is given by its size alone: what is filled on success is returned, and a refusal fills nothing.
 """
 
-MAX_BYTES = 1_073_741_824      # "any lent byte buffer at most"
-MAX_RECORDS = 1_048_576        # "any list at most"
+MAX_BYTES = 1_073_741_824      # bytes of one buffer
+MAX_RECORDS = 1_048_576        # records of one list
 
 # "The numbers"
 DONE, BAD_H, OVER, UNREADABLE, FEW_RECORDS, BAD_MODE_TEXT, BAD_NAME, NOT_AFTER = range(8)
 SHORT_OUTPUT, NUL_IN_NAME, BAD_RECORD, FIELD, ACTOR, EMPTY_ENCODING, LF_ENCODING, NOT_THERE = range(8, 16)
-SAME_NAME, DOT_GIT, NO_RULE_SET, NOT_ACCEPTABLE = 17, 18, 19, 23
+SAME_NAME, DOT_GIT, NO_RULE_SET, NOT_ACCEPTABLE, NOT_FRAMED, ID_TWICE, NO_PATH = 17, 18, 19, 23, 24, 25, 26
 WIDTH = 5                      # the numbers of an entry's record
 EACH = 3                       # those of a sought name, and of a stored answer
 NO_MODE, NO_NUL, CUT_ID = 1, 2, 3      # the parts of UNREADABLE
@@ -19,7 +19,7 @@ NO_MODE, NO_NUL, CUT_ID = 1, 2, 3      # the parts of UNREADABLE
 SPACE, LF, NUL, SLASH = 32, 10, 0, 47
 OCTAL, DIGITS, HEX = b"01234567", b"0123456789", b"0123456789abcdefABCDEF"
 
-# "the five written modes and their kind words stand in one small table"
+# each mode that is written, with the word of its kind
 KINDS = [(b"40000", b"tree"), (b"100644", b"blob"), (b"100755", b"exe"), (b"120000", b"link"), (b"160000", b"commit")]
 TREE, BLOB, EXE, LINK, COMMIT = range(5)
 
@@ -116,7 +116,7 @@ def order(a, a_tree, b, b_tree):
     def next_byte(name, tree):
         if len(name) > common:
             return name[common]
-        return SLASH if tree else -1        # "or nothing, which is lowest"
+        return SLASH if tree else -1        # an ended name is below every byte
     x, y = next_byte(a, a_tree), next_byte(b, b_tree)
     return (x > y) - (x < y)
 
@@ -147,7 +147,7 @@ def entry_at(object, at, h):
 
 
 def permitted(name):
-    """Strict reader: "non-empty, free of NUL and `/`, and is not `.`, `..` or `.git`"."""
+    """Strict reader: whether an entry may have this name."""
     return len(name) > 0 and NUL not in name and SLASH not in name and name not in (b".", b"..", b".git")
 
 
@@ -190,8 +190,25 @@ def tree_read(h, object, room, strict, rules=2):
     return (DONE, 0, 0, len(records)), [n for record in records for n in record]
 
 
+def steps(h, object, at):
+    """Entries, the cursor, from a place to the next entry's until a step finds none: its (number, place, part, found, where it stands), the records found."""
+    records = []
+    while True:
+        if bad_h(h):
+            return (BAD_H, 0, 0, 0, at), records
+        if over([len(object)]):
+            return (OVER, 0, 0, 0, at), records
+        if at >= len(object):
+            return (DONE, 0, 0, 0, at), records
+        entry, after = entry_at(object, at, h)
+        if entry is None:
+            return (UNREADABLE, at, after, 0, len(object)), records
+        records.append(entry)
+        at = after
+
+
 def by(width, numbers):
-    """A flat list as records: "a rest too short is no record"."""
+    """A flat list as records; numbers left over at its end are none."""
     return [tuple(numbers[i:i + width]) for i in range(0, len(numbers) - width + 1, width)]
 
 
@@ -201,7 +218,7 @@ def forward(start, end, bytes):
 
 
 def entry_well_formed(record, bytes, h):
-    """Entries: "It is well formed when ..."."""
+    """Entries: whether a record is well formed."""
     mode, name, name_end, id, text_start = record
     return mode <= 65535 and forward(name, name_end, bytes) and id + h <= len(bytes) and text_start <= name
 
@@ -238,7 +255,7 @@ def lookup_any(h, object, numbers, name):
     if first[0] != NOT_THERE:
         return first
     second = lookup(h, object, numbers, name, True)
-    if second[0] == BAD_RECORD:             # "a 10 counts nothing"
+    if second[0] == BAD_RECORD:             # with 10 no comparison is counted
         return second
     return *second[:3], first[3] + second[3]
 
@@ -250,7 +267,7 @@ def lookups(h, object, numbers, names, sought, room):
         return (BAD_H, 0, 0), []
     if over([len(object), len(names)], [len(by(WIDTH, numbers)), len(wanted), lent]):
         return (OVER, 0, 0), []
-    if len(wanted) > lent:                  # "asked before any name"
+    if len(wanted) > lent:                  # ahead of every name
         return (FEW_RECORDS, len(wanted), 0), []
     answers = []
     for index, (start, end, mark) in enumerate(wanted):
@@ -266,13 +283,13 @@ def lookups(h, object, numbers, names, sought, room):
 # ---------------------------------------------------------------- Tree writing
 
 def entry_written(record, bytes, h):
-    """Tree writing: "Mode text, space, name, NUL, id"."""
+    """Tree writing: the bytes of one entry."""
     mode, name, name_end, id, _text_start = record
     return mode_written(mode) + b" " + bytes[name:name_end] + b"\0" + bytes[id:id + h]
 
 
 def tree_size(h, bytes, numbers):
-    """Tree writing: "Sizes, asked alone, refuse only 1, 2 and 10": (number, place, count)."""
+    """Tree writing, the size by itself, of which no other refusal than 1, 2 and 10 is known: (number, place, count)."""
     records = by(WIDTH, numbers)
     if bad_h(h):
         return BAD_H, 0, 0
@@ -301,7 +318,7 @@ def tree_write(h, bytes, numbers, room):
 
 
 def output(written, room):
-    """The numbers, 8: "lent output too short", place "bytes needed"."""
+    """The numbers, 8, whose place is the length that would do."""
     if len(written) > room:
         return (SHORT_OUTPUT, len(written), 0), b""
     return (DONE, 0, len(written)), written
@@ -318,7 +335,7 @@ def loose_header(kind, size, room):
 # ---------------------------------------------------------------- Hex
 
 def id_of_hex(digits, room):
-    """Hex, "takes 2H digits of either case"; its order is 1, 2, 10, 8: (number, place, count), bytes written."""
+    """Hex, from digits in capitals or not; its order is 1, 2, 10, 8: (number, place, count), bytes written."""
     if len(digits) not in (40, 64):
         return (BAD_H, 0, 0), b""
     if over([room]):
@@ -329,7 +346,7 @@ def id_of_hex(digits, room):
 
 
 def hex_of_id(id, room):
-    """Hex, "in lower case"; its order is 1, 2, 8: (number, place, count), bytes written."""
+    """Hex, to small letters; its order is 1, 2, 8: (number, place, count), bytes written."""
     if bad_h(len(id)):
         return (BAD_H, 0, 0), b""
     if over([room]):
@@ -349,7 +366,7 @@ def line(object, at, word):
 
 
 def id_line(object, at, word, h):
-    """Headers: "Ids are 2H hex digits of either case"."""
+    """Headers: an id in hex, capitals or not."""
     found = line(object, at, word)
     if found is None:
         return None
@@ -376,11 +393,11 @@ def is_actor(value):
 
 
 def extra_header(object, at):
-    """Headers, extra header at `at`: (five numbers, place after), or None. "Tried first as folded, then as one line"."""
+    """Headers, extra header at `at`: (five numbers, place after), or None. The folded form is tried ahead of the plain one."""
     first_lf = object.find(b"\n", at)
     if first_lf < 0:
         return None
-    name_end = object.find(b" ", at, first_lf)              # "one or more bytes up to a space, with no LF"
+    name_end = object.find(b" ", at, first_lf)              # the word, which is not empty, on the first line
     if name_end <= at:
         return None
     value, after = name_end + 1, first_lf + 1
@@ -445,7 +462,7 @@ def commit_read(h, object, parents_room, headers_room):
 
 
 def is_folded(value):
-    """The numbers, 10, "handed over as folded": a first line and one or more lines led by a space, each with its LF."""
+    """The numbers, 10, what counts as folded: its first line, then at least one led by a space, all of them ended."""
     if not value.endswith(b"\n"):
         return False
     lines = value[:-1].split(b"\n")
@@ -453,12 +470,12 @@ def is_folded(value):
 
 
 def unfolded(value):
-    """Headers: "A folded value keeps its last LF and loses one space per continuation"."""
+    """Headers: a folded value without the space that leads each line past its first."""
     return value.replace(b"\n ", b"\n")
 
 
 def header_well_formed(record, bytes):
-    """Headers: "well formed when both ranges run forward inside and the mark is 0 or 1"; with mark 1 also folded."""
+    """Headers: whether a record is well formed; with mark 1 its value has to be folded."""
     name, name_end, value, value_end, mark = record
     if not (forward(name, name_end, bytes) and forward(value, value_end, bytes) and mark in (0, 1)):
         return False
@@ -466,7 +483,7 @@ def header_well_formed(record, bytes):
 
 
 def unfold(bytes, record, room):
-    """Headers, unfolding: "refuses 2, 10 at 0, 8". (number, place, count), bytes written."""
+    """Headers, unfolding; its order is 2, 10 with place 0, 8: (number, place, count), bytes written."""
     if over([len(bytes), room]):
         return (OVER, 0, 0), b""
     if not header_well_formed(record, bytes):
@@ -478,7 +495,7 @@ def unfold(bytes, record, room):
 # ---------------------------------------------------------------- Commit writing
 
 def header_written(record, bytes):
-    """Commit writing: an unfolded value is folded, "a folded one is copied"."""
+    """Commit writing: a value as it is written, folded if it was not."""
     name, name_end, value, value_end, mark = record
     text = bytes[value:value_end]
     if mark == 0:
@@ -522,7 +539,7 @@ def commit_size(h, bytes, parents, numbers, ranges):
 
 
 def commit_write(h, bytes, parents, numbers, ranges, room):
-    """Commit writing: 1, 2, 10, "then 13, 14, 8". (number, place, count), bytes written."""
+    """Commit writing: its order is 1, 2, 10, 13, 14, 8: (number, place, count), bytes written."""
     headers = by(5, numbers)
     refusal = commit_refusal(h, bytes, parents, headers, ranges, room)
     if refusal:
@@ -534,6 +551,196 @@ def commit_write(h, bytes, parents, numbers, ranges, room):
         if LF in encoding:
             return (LF_ENCODING, 0, 0), b""
     return output(commit_written(h, bytes, parents, headers, ranges), room)
+
+
+# ---------------------------------------------------------------- Bundles, Paths
+
+def little(part):
+    """ "All its numbers have their lowest byte first"."""
+    return sum(byte * 256 ** i for i, byte in enumerate(part))
+
+
+def bundle_header(bundle):
+    """Bundles, the header: H, rule set, count, and where the objects begin; or None."""
+    version, rules, at = little(bundle[3:5]), 2, 5
+    if version == 2:
+        rules, at = little(bundle[5:7]), 7
+    if bundle[:3] != b"GOB" or len(bundle) < at + 5 or version not in (1, 2) or rules not in (1, 2):
+        return None
+    h, count = bundle[at], little(bundle[at + 1:at + 5])
+    return None if bad_h(h) or count > MAX_RECORDS else (h, rules, count, at + 5)
+
+
+def bundle_objects(bundle):
+    """Bundles: each object before any fault, as id, kind, start and end; behind the last None where the bundle is well framed."""
+    header = bundle_header(bundle)
+    if header is None:
+        return
+    h, _rules, count, at = header
+    for _ in range(count):
+        start = at + h + 5
+        if len(bundle) < start or bundle[at + h] not in (1, 2, 3, 4):
+            return
+        end = start + little(bundle[at + h + 1:start])
+        if len(bundle) < end:
+            return
+        yield bundle[at:at + h], bundle[at + h], start, end
+        at = end
+    if at == len(bundle):
+        yield None
+
+
+def bundle_check(bundle):
+    """Bundles, `check_bundle`: number, place, part, H, rule set, count."""
+    if over([len(bundle)]):
+        return OVER, 0, 0, 0, 0, 0
+    *objects, end = list(bundle_objects(bundle)) or [0]
+    if end is not None:
+        return NOT_FRAMED, 0, 0, 0, 0, 0
+    if len({o[0] for o in objects}) < len(objects):
+        return ID_TWICE, 0, 0, 0, 0, 0
+    h, rules, count, _at = bundle_header(bundle)
+    return DONE, 0, 0, h, rules, count
+
+
+def bundle_object(bundle, id):
+    """Bundles, "The object of an id": number, place, part, kind, start, end."""
+    if over([len(bundle), len(id)]):
+        return OVER, 0, 0, 0, 0, 0
+    for found in bundle_objects(bundle):
+        if found is not None and found[0] == id:
+            return DONE, 0, 0, *found[1:]
+    return NOT_THERE, 0, 0, 0, 0, 0
+
+
+def entries_before_fault(object, h):
+    """The records of an object up to the first entry that cannot be read."""
+    at = 0
+    while at < len(object):
+        entry, at = entry_at(object, at, h)
+        if entry is None:
+            return
+        yield entry
+
+
+def follow(bundle, root, path):
+    """Paths: (number, place, part, mode, length of the id), and the id in 32 bytes."""
+    def refused(number):
+        return (number, 0, 0, 0, 0), bytes(32)
+    if over([len(bundle), len(root), len(path)]):
+        return refused(OVER)
+    number, _place, _part, h, _rules, _count = bundle_check(bundle)
+    if number == ID_TWICE:
+        h = bundle_header(bundle)[0]
+    if number == NOT_FRAMED or len(root) != h:
+        return refused(NOT_FRAMED)
+    if number != DONE:
+        return refused(number)
+    components = path.split(b"/") if path else []
+    if b"" in components or len(components) > 64:
+        return refused(NO_PATH)
+    mode, id = None, root
+    for component in components:
+        found, _place, _part, kind, start, end = bundle_object(bundle, id)
+        object = bundle[start:end] if found == DONE and kind == 2 else b""
+        named = [e for e in entries_before_fault(object, h) if object[e[1]:e[2]] == component]
+        if not named:
+            return refused(NOT_THERE)
+        mode, id = named[0][0], object[named[0][3]:named[0][3] + h]
+    return refused(NOT_THERE) if mode is None else ((DONE, 0, 0, mode, h), id + bytes(32 - h))
+
+
+# ---------------------------------------------------------------- Edits, Mending, Text
+
+def strict_table(h, object, rules, buffers):
+    """The first refusals of an edit and of a text, but 4, or None; and the entries as (mode text, name, id)."""
+    answer, numbers = tree_read(h, object, WIDTH * len(object), True, rules)
+    if answer[0] not in (BAD_H, NO_RULE_SET) and over(buffers):
+        return (OVER, 0, 0, 0), []
+    records = by(WIDTH, numbers)
+    return answer if answer[0] != DONE else None, [(object[e[4]:e[1] - 1], object[e[1]:e[2]], object[e[3]:e[3] + h]) for e in records]
+
+
+def in_order(entries):
+    """Entries as written, in Git's order: a folder's name as if a slash followed."""
+    return b"".join(text + b" " + name + b"\0" + id for text, name, id in sorted(entries, key=lambda e: e[1] + (b"/" if e[0] == b"40000" else b"")))
+
+
+def fitted(written, room):
+    """An answer with its part, and the bytes written."""
+    (number, place, count), out = output(written, room)
+    return (number, place, 0, count), out
+
+
+def tree_put(h, object, rules, mode, name, id, room):
+    """Edits, a put: (number, place, part, count), bytes written."""
+    refused, entries = strict_table(h, object, rules, [len(name), len(id), room])
+    if refused:
+        return refused, b""
+    modes = [text for text, _word in KINDS] + ([b"100664"] if rules == 1 else [])
+    if len(id) != h:
+        return (BAD_RECORD, 0, 0, 0), b""
+    if mode > 65535 or mode_written(mode) not in modes:
+        return (BAD_MODE_TEXT, 0, 0, 0), b""
+    if not permitted(name):
+        return (BAD_NAME, 0, 0, 0), b""
+    if name.lower() == b".git":
+        return (DOT_GIT, 0, 0, 0), b""
+    return fitted(in_order([e for e in entries if e[1] != name] + [(mode_written(mode), name, id)]), room)
+
+
+def tree_remove(h, object, rules, name, room):
+    """Edits, a removal: (number, place, part, count), bytes written."""
+    refused, entries = strict_table(h, object, rules, [len(name), room])
+    if refused:
+        return refused, b""
+    if name not in [e[1] for e in entries]:
+        return (NOT_THERE, 0, 0, 0), b""
+    return fitted(in_order([e for e in entries if e[1] != name]), room)
+
+
+KEPT, KEPT_OTHERWISE, BAD_NAMED, NO_SORT, NAMED_AGAIN = range(5)      # "a number for each entry of the object"
+
+
+def mended_mode(mode):
+    """Mending: the text of the kind's own mode by the sort, or None for a mode of no sort."""
+    return KINDS[mode_kind(mode)][0] if mode_value(mode) // 4096 in (0o10, 0o12, 0o04, 0o16) else None
+
+
+def mend(h, object, list_room, room):
+    """Mending: (number, place, part, bytes written, entries), numbers, bytes written."""
+    answer, numbers = tree_read(h, object, WIDTH * len(object), False)
+    if answer[0] != DONE or over([room], [list_room]):
+        return (*(answer[:3] if answer[0] != DONE else (OVER, 0, 0)), 0, 0), [], b""
+    fates, kept = [], []
+    for mode, name, name_end, id, text in by(WIDTH, numbers):
+        own, called = mended_mode(mode), object[name:name_end]
+        if not permitted(called) or called.lower() == b".git":
+            fates.append(BAD_NAMED)
+        elif own is None:
+            fates.append(NO_SORT)
+        elif called in [e[1] for e in kept]:
+            fates.append(NAMED_AGAIN)
+        else:
+            fates.append(KEPT if object[text:name - 1] == own else KEPT_OTHERWISE)
+            kept.append((own, called, object[id:id + h]))
+    if len(fates) > list_room:
+        return (FEW_RECORDS, len(fates), 0, 0, 0), [], b""
+    answer, written = fitted(in_order(kept), room)
+    return (*answer, len(fates) if answer[0] == DONE else 0), fates if answer[0] == DONE else [], written
+
+
+def text_record(text, name, id):
+    """Text: "The record of an entry"."""
+    kind = mode_kind(mode_text(text + b" ")[1])
+    word = {TREE: b"tree", COMMIT: b"commit"}.get(kind, b"blob")
+    return text.rjust(6, b"0") + b" " + word + b" " + id.hex().encode() + b"\t" + name + b"\0"
+
+
+def export(h, object, rules, room):
+    """Text, `export_tree`: (number, place, part, count), bytes written."""
+    refused, entries = strict_table(h, object, rules, [room])
+    return (refused, b"") if refused else fitted(b"".join(text_record(*e) for e in entries), room)
 
 
 # ---------------------------------------------------------------- "Examples"
@@ -565,6 +772,9 @@ def examples():
     assert lookup_any(20, o, records, b"b") == (0, 0, 1, 2 + 1) and lookup_any(20, o, records, b"c") == (15, 0, 0, 1 + 1)
     assert lookups(20, o, records, b"ab", [0, 1, 0, 1, 2, 1, 1, 2, 0], 9) == ((0, 0, 3), [0, 0, 2, 0, 1, 1, 15, 0, 2])
     assert id_of_hex(b"0aF9" * 10, 20) == ((0, 0, 20), b"\x0a\xf9" * 10) and hex_of_id(b"\x0a\xf9" * 10, 40) == ((0, 0, 40), b"0af9" * 10)
+    assert export(20, o, 2, 116)[1] == b"100644 blob " + b"11" * 20 + b"\ta\x00040000 tree " + b"22" * 20 + b"\tb\0"
+    assert mend(20, b"100664 b\0" + b"\x11" * 20 + b"40000 a\0" + b"\x22" * 20, 2, 60)[:2] == ((0, 0, 0, 57, 2), [1, 0])
+    assert tree_remove(20, o, 2, b"a", 57) == ((0, 0, 0, 28), o[29:]) and tree_put(20, o, 2, 16384, b"b", b"\x22" * 20, 57) == ((0, 0, 0, 57), o)
 
 
 examples()

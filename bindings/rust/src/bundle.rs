@@ -1,5 +1,5 @@
 //! Bundles: many objects in one buffer, and paths through their trees.
-use crate::{ffi, settled, EntryMode, Error, Kind, ObjectId, ObjectKind, Rules};
+use crate::{counted, ffi, numbers, settled, EntryMode, Error, Kind, ObjectId, ObjectKind, Rules, MOST_BYTES};
 
 /// A bundle that was checked: well framed, and no id stands twice.
 ///
@@ -36,6 +36,17 @@ pub struct ObjectRef<'a> {
     pub kind: ObjectKind,
     /// Its bytes.
     pub data: &'a [u8],
+}
+
+/// What differs between two trees at a path: a side is `None` where nothing is.
+#[derive(Clone, Debug, PartialEq, Eq)]
+pub struct Change {
+    /// The path from the roots, its components with slashes between them.
+    pub path: Vec<u8>,
+    /// What the left tree has there.
+    pub left: Option<(EntryMode, ObjectId)>,
+    /// What the right tree has there.
+    pub right: Option<(EntryMode, ObjectId)>,
 }
 
 impl<'a> Bundle<'a> {
@@ -115,5 +126,72 @@ impl<'a> Bundle<'a> {
         settled(number, place, part)?;
         let id = ObjectId::from_bytes(&id[..size]).expect("20 or 32");
         Ok(Some((EntryMode::of_record(mode), id)))
+    }
+
+    /// What differs between two trees by their ids, in Git's order at each level: every entry that is only left, only right, or in both with
+    /// another mode or id. A folder that differs comes before what differs inside it, and one that is on one side only comes with all that is
+    /// below it; a file against a folder of its name is two changes. Refuses 24 (a root id of the other length), 27, 28, what strict reading
+    /// of a tree refuses, 2 (more changes than [`MOST_RECORDS`](crate::MOST_RECORDS)), 8 (paths of more than [`MOST_BYTES`] in all). With more
+    /// than 1,024 objects it takes 4 MiB of the stack: more than a thread of Rust's own has by itself.
+    ///
+    /// ```
+    /// use sarpukten::{numbers, Bundle, ObjectId};
+    ///
+    /// // two trees, of ids 11.. and 22..: `logo` has another id, `skin` is only in the second
+    /// let old = [&b"100644 logo\0"[..], &[0x33; 20]].concat();
+    /// let new = [&b"100644 logo\0"[..], &[0x44; 20], b"100644 skin\0", &[0x55; 20]].concat();
+    /// let mut bytes = [&b"GOB"[..], &1u16.to_le_bytes(), &[20], &2u32.to_le_bytes()].concat();
+    /// for (id, tree) in [(0x11, &old), (0x22, &new)] {
+    ///     bytes.extend([&[id; 20][..], &[2], &(tree.len() as u32).to_le_bytes(), tree].concat());
+    /// }
+    ///
+    /// let bundle = Bundle::new(&bytes)?;
+    /// let id = |byte| ObjectId::from_bytes(&[byte; 20]).unwrap();
+    /// let changes = bundle.compare(&id(0x11), &id(0x22))?;
+    /// assert_eq!(changes.iter().map(|c| &c.path[..]).collect::<Vec<_>>(), [b"logo", b"skin"]);
+    /// assert_eq!(changes[0].left.unwrap().1, id(0x33));
+    /// assert_eq!(changes[0].right.unwrap().1, id(0x44));
+    /// assert_eq!(changes[1].left, None);
+    /// assert!(bundle.compare(&id(0x11), &id(0x11))?.is_empty());
+    /// assert_eq!(bundle.compare(&id(0x11), &id(0x99)).unwrap_err().number, numbers::NO_TREE);
+    /// # Ok::<(), sarpukten::Error>(())
+    /// ```
+    pub fn compare(&self, left: &ObjectId, right: &ObjectId) -> Result<Vec<Change>, Error> {
+        let (left, right) = (left.as_slice(), right.as_slice());
+        let mut items = vec![0; 64 * ffi::ITEM];
+        let mut paths = vec![0; 4096];
+        let mut answer = [0; ffi::COUNT_ANSWER];
+        // What is too short is lent again as long as it has to be: the list first, then the bytes.
+        let count = loop {
+            // SAFETY: the three slices live through the call, the list, the bytes and `answer` are ours alone, and the lengths are theirs.
+            unsafe {
+                ffi::sarpukten_compare_trees(
+                    self.bytes.as_ptr(),
+                    self.bytes.len(),
+                    left.as_ptr(),
+                    left.len(),
+                    right.as_ptr(),
+                    right.len(),
+                    items.as_mut_ptr(),
+                    items.len(),
+                    paths.as_mut_ptr(),
+                    paths.len(),
+                    &mut answer,
+                )
+            };
+            match counted(answer) {
+                Err(e) if e.number == numbers::FEW_RECORDS => items = vec![0; e.place * ffi::ITEM],
+                Err(e) if e.number == numbers::SHORT_OUTPUT && e.place <= MOST_BYTES => paths = vec![0; e.place],
+                other => break other?,
+            }
+        };
+        // The mode of an entry that strict reading accepts is not 0.
+        let side = |mode, at| match mode {
+            0 => None,
+            _ => Some((EntryMode::of_record(mode), ObjectId::from_bytes(&self.bytes[at..at + left.len()]).expect("20 or 32"))),
+        };
+        let change =
+            |item: &[usize]| Change { path: paths[item[0]..item[1]].to_vec(), left: side(item[2], item[4]), right: side(item[3], item[5]) };
+        Ok(items.chunks_exact(ffi::ITEM).take(count).map(change).collect())
     }
 }

@@ -1,8 +1,8 @@
 //! The calls of include/sarpukten.h. A fixed array of the header is a reference to an array here, bytes and lists are pointer and length.
 //! The number that a call returns is the first of its answer as well.
 
-/// The lengths of the answers, of an entry's record, of a sought name's and what is found for it, of a header's and of a commit's parts;
-/// and the longest id in bytes and in digits.
+/// The lengths of the answers, of an entry's record, of a sought name's and what is found for it, of an item's, of a header's and of a commit's
+/// parts; and the longest id in bytes and in digits.
 pub const COUNT_ANSWER: usize = 4;
 pub const MODE_ANSWER: usize = 4;
 pub const STEP_ANSWER: usize = 10;
@@ -11,15 +11,22 @@ pub const COMMIT_ANSWER: usize = 16;
 pub const BUNDLE_ANSWER: usize = 6;
 pub const OBJECT_ANSWER: usize = 6;
 pub const PATH_ANSWER: usize = 5;
+pub const MEND_ANSWER: usize = 5;
 pub const QUESTIONS: usize = 7;
 pub const WORD: usize = 6;
 pub const ENTRY: usize = 5;
 pub const SOUGHT: usize = 3;
 pub const FOUND: usize = 3;
+pub const ITEM: usize = 6;
 pub const HEADER: usize = 5;
 pub const PARTS: usize = 10;
 pub const ID: usize = 32;
 pub const HEX: usize = 64;
+/// What a check in pieces keeps: numbers, an entry's first bytes, one name, and the lengths of the names that are open.
+pub const MARKS: usize = 18;
+pub const FIRST: usize = 8;
+pub const HELD: usize = 4096;
+pub const ENDS: usize = 4097;
 
 extern "C" {
     pub fn sarpukten_mode_read(text: *const u8, text_len: usize, answer: &mut [usize; MODE_ANSWER]) -> usize;
@@ -152,6 +159,16 @@ extern "C" {
         out_len: usize,
         answer: &mut [usize; COUNT_ANSWER],
     ) -> usize;
+    pub fn sarpukten_mend_tree(
+        bytes: *const u8,
+        bytes_len: usize,
+        h: usize,
+        fates: *mut usize,
+        fates_len: usize,
+        out: *mut u8,
+        out_len: usize,
+        answer: &mut [usize; MEND_ANSWER],
+    ) -> usize;
     pub fn sarpukten_put_in_tree(
         bytes: *const u8,
         bytes_len: usize,
@@ -187,6 +204,15 @@ extern "C" {
         out_len: usize,
         answer: &mut [usize; COUNT_ANSWER],
     ) -> usize;
+    pub fn sarpukten_import_tree(
+        text: *const u8,
+        text_len: usize,
+        h: usize,
+        rules: u16,
+        out: *mut u8,
+        out_len: usize,
+        answer: &mut [usize; COUNT_ANSWER],
+    ) -> usize;
     pub fn sarpukten_check_bundle(bundle: *const u8, bundle_len: usize, answer: &mut [usize; BUNDLE_ANSWER]) -> usize;
     pub fn sarpukten_bundle_object(
         bundle: *const u8,
@@ -205,4 +231,27 @@ extern "C" {
         answer: &mut [usize; PATH_ANSWER],
         id: &mut [u8; ID],
     ) -> usize;
+    pub fn sarpukten_compare_trees(
+        bundle: *const u8,
+        bundle_len: usize,
+        left: *const u8,
+        left_len: usize,
+        right: *const u8,
+        right_len: usize,
+        items: *mut usize,
+        items_len: usize,
+        paths: *mut u8,
+        paths_len: usize,
+        answer: &mut [usize; COUNT_ANSWER],
+    ) -> usize;
+    pub fn sarpukten_check_start(h: usize, rules: u16, marks: &mut [usize; MARKS], first: &mut [u8; FIRST]) -> usize;
+    pub fn sarpukten_check_piece(
+        name: &mut [u8; HELD],
+        ends: &mut [u32; ENDS],
+        marks: &mut [usize; MARKS],
+        first: &mut [u8; FIRST],
+        piece: *const u8,
+        piece_len: usize,
+    ) -> usize;
+    pub fn sarpukten_check_end(marks: &[usize; MARKS], first: &[u8; FIRST], answer: &mut [usize; COUNT_ANSWER]) -> usize;
 }

@@ -16,23 +16,27 @@
 #![warn(missing_docs)]
 
 mod bundle;
+mod check;
 mod commit;
 mod edit;
 mod ffi;
 mod id;
+mod mend;
 mod mode;
 pub mod numbers;
 mod strict;
 mod text;
 mod tree;
 
-pub use bundle::{Bundle, ObjectRef};
+pub use bundle::{Bundle, Change, ObjectRef};
+pub use check::StrictCheck;
 pub use commit::CommitRef;
 pub use edit::{put_in_tree, remove_from_tree};
 pub use id::{Kind, ObjectId};
+pub use mend::{mend_tree, Fate, Mended};
 pub use mode::{EntryKind, EntryMode};
 pub use strict::StrictTree;
-pub use text::tree_to_text;
+pub use text::{tree_from_text, tree_to_text};
 pub use tree::{name_order, tree_to_bytes, EntryRef, Rules, TreeRef, TreeRefIter};
 
 use std::fmt;

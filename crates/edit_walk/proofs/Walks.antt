@@ -12,8 +12,6 @@ use Rattle.ground.specs.declared.Verdict.{Verdict}
 use Rattle.ground.proofs.Laws.{sets-append}
 use Rattle.mode.specs.Mode.{isTree}
 use Rattle.order.specs.Order.{nameOrder}
-use Rattle.order.specs.declared.Order.{Order}
-use Rattle.order.specs.declared.Order.the-variants.{Below, Same, Above}
 use Rattle.entry.specs.Record.{nameOf, folderOf}
 use Rattle.entry.specs.Entry.{Entry, entryBytes}
 use Rattle.entry.specs.Decode.{decode}
@@ -25,76 +23,12 @@ use Rattle.entry.proofs.Laws.{decode-inside}
 use Rattle.rules.specs.Rules.{isBelow}
 use Rattle.reading.specs.Listing.{Listing, done, stop, entry, follow, plain}
 use Rattle.reading.proofs.Laws.{plain-some}
+use Rattle.edit_turn.specs.Turns.{fateOf, turned, turnOf, turnAt}
+use Rattle.edit_turn.specs.declared.Fate.the-variants.{Out, Over, Behind}
+use Rattle.edit_turn.specs.declared.Turn.{Turn}
+use Rattle.edit_turn.specs.declared.Turn.the-variants.{End, Drop, Keep, First}
+use Rattle.edit_turn.proofs.Laws.{Leads, turn-leads}
 use Rattle.edit_walk.specs.Walk.{ahead, tail, carried, keptIn}
-use Rattle.edit_walk.specs.Code.{fateOf, turned, turnOf, turnAt, Leads}
-use Rattle.edit_walk.specs.declared.Fate.{Fate}
-use Rattle.edit_walk.specs.declared.Fate.the-variants.{Out, Over, Behind}
-use Rattle.edit_walk.specs.declared.Turn.{Turn}
-use Rattle.edit_walk.specs.declared.Turn.the-variants.{End, Drop, Keep, First}
-
--- ---- what is done with an entry
-
-module _ (own : List ℕ) (folder : Bool) (name : List ℕ) (tree placed : Bool) where
-  pub fate-out : sameBytes own name ≡ true → Out ≡ fateOf own folder name tree placed
-  unfolding fateOf
-  fate-out z = sym (rw z)
-
-  module _ (z : sameBytes own name ≡ false) where
-    pub fate-placed : placed ≡ true → Over ≡ fateOf own folder name tree placed
-    unfolding fateOf
-    fate-placed p = sym (rw (z, p))
-
-    module _ (p : placed ≡ false) (o : Order) (w : o ≡ nameOrder own folder name tree) where
-      pub fate-below : o ≡ Below → Over ≡ fateOf own folder name tree placed
-      unfolding fateOf
-      fate-below k = sym (rw (z, p, ← w, k))
-
-      pub fate-same : o ≡ Same → Behind ≡ fateOf own folder name tree placed
-      unfolding fateOf
-      fate-same k = sym (rw (z, p, ← w, k))
-
-      pub fate-above : o ≡ Above → Behind ≡ fateOf own folder name tree placed
-      unfolding fateOf
-      fate-above k = sym (rw (z, p, ← w, k))
-
--- ---- what the turn answered
-
--- a turn, and where it leads
-abbrev pub Turns : ℕ → List ℕ → ℕ → List ℕ → Bool → Bool → Turn → Type 0
-Turns h s at name tree placed t = (t ≡ turnAt h s at name tree placed) × Leads (length s) at t
-
-module _ (h : ℕ) (s : List ℕ) (at : ℕ) (name : List ℕ) (tree placed : Bool) (d : Decoded) (q : d ≡ decode h at (drop at s)) where
-  turn-is : turnOf s name tree placed d ≡ turnAt h s at name tree placed
-  unfolding turnAt
-  turn-is = rw (← q)
-
-  pub turn-broken : (v : Verdict) → d ≡ Broken v → Turns h s at name tree placed End
-  unfolding turnOf
-  turn-broken v t = (ap (turnOf s name tree placed) (sym t) ∙ turn-is, tt)
-
-  module _ (e : EntryRecord) (next : Cursor) (t : d ≡ Whole e next) where
-    -- the name lies inside the object, and so does the place past the entry
-    pub turn-inside : (e .«name_start» ≤ e .«name_end») × (e .«name_end» ≤ length s) × (at ≤ next .at) × (next .at ≤ length s)
-    turn-inside =
-        let f = decode-inside h s at e next (sym q ∙ t) in
-        (f .1, omega (arith, f .2, f .3, f .4), omega (arith, f .0, f .1, f .2, f .3), f .4)
-
-    module _ (folder : Bool) (i : folder ≡ folderOf e) (f : Fate) (w : f ≡ fateOf (part (e .«name_start») (e .«name_end») s) folder name tree placed) where
-      turned-is : turned (next .at) f ≡ turnAt h s at name tree placed
-      unfolding turnOf nameOf
-      turned-is = ap (turned (next .at)) (w ∙ ap (λ (b : Bool). fateOf (part (e .«name_start») (e .«name_end») s) b name tree placed) i) ∙ ap (turnOf s name tree placed) (sym t) ∙ turn-is
-
-      abbrev leads : (at ≤ next .at) × (next .at ≤ length s)
-      leads = (turn-inside .2, turn-inside .3)
-
-      pub turn-out : f ≡ Out → Turns h s at name tree placed (Drop (next .at))
-      turn-out z = (ap (turned (next .at)) (sym z) ∙ turned-is, leads)
-
-      pub turn-over : f ≡ Over → Turns h s at name tree placed (Keep (next .at))
-      turn-over z = (ap (turned (next .at)) (sym z) ∙ turned-is, leads)
-
-      pub turn-behind : f ≡ Behind → Turns h s at name tree placed (First (next .at))
-      turn-behind z = (ap (turned (next .at)) (sym z) ∙ turned-is, leads)
 
 -- ---- what is left
 
@@ -244,9 +178,9 @@ module _ (h count : ℕ) (s : List ℕ) (new : Entry) (done : Bool) (out₀ out 
       ),
     )
 
-  module _ (g : 0 < left) (tree : Bool) (i : tree ≡ isTree (new .mode)) (t : Turn) (turns : Turns h s at (new .name) tree placed t) where
+  module _ (g : 0 < left) (tree : Bool) (i : tree ≡ isTree (new .mode)) (t : Turn) (turns : t ≡ turnAt h s at (new .name) tree placed) where
     q : t ≡ turnAt h s at (new .name) (isTree (new .mode)) placed
-    q = turns .0 ∙ ap (λ (b : Bool). turnAt h s at (new .name) b placed) i
+    q = turns ∙ ap (λ (b : Bool). turnAt h s at (new .name) b placed) i
 
     now-is : (carried h s new placed (restOf h s left at) ≡ bytesAfter h s new placed (left - 1) at t) × (keptIn s (new .name) (restOf h s left at) ≡ keptAfter h s new (left - 1) t)
     now-is = turning h s new placed left at t g q
@@ -287,11 +221,14 @@ module _ (h count : ℕ) (s : List ℕ) (new : Entry) (done : Bool) (out₀ out 
           stores = rw e at stores-now;
         }
 
+    leads-on : Leads (length s) at t
+    leads-on = subst (Leads (length s) at) (sym turns) (turn-leads h s at (new .name) tree placed)
+
     pub keep-leads : (next : ℕ) → t ≡ Keep next → (at ≤ next) × (next ≤ length s)
-    keep-leads next e = subst (Leads (length s) at) e (turns .1)
+    keep-leads next e = subst (Leads (length s) at) e leads-on
 
     pub first-leads : (next : ℕ) → t ≡ First next → (at ≤ next) × (next ≤ length s)
-    first-leads next e = subst (Leads (length s) at) e (turns .1)
+    first-leads next e = subst (Leads (length s) at) e leads-on
 
     module _ (next : ℕ) (small : length s ≤ 1073741824) (lead : (at ≤ next) × (next ≤ length s)) where
       abbrev piece : List ℕ

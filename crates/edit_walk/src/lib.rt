@@ -8,77 +8,19 @@ ghost use Rattle.ground.specs.Verdict.{mostBytes, mostRecords};
 ghost use Rattle.entry.specs.Entry.{entryBytes};
 ghost use Rattle.reading.specs.Listing.{plain};
 ghost use Rattle.edit_walk.specs.Walk.{newEntry, carried, keptIn, walkBytes, walkOf};
-ghost use Rattle.edit_walk.specs.Code.{fateOf, turnAt, Leads};
-use entry::Cursor;
-use entry::Decoded;
-use entry::is_folder;
+use edit_turn::Turn;
+use edit_turn::turn_at;
 use ground::Gate;
 use ground::longer;
 use ground::sizes;
 use mode::EntryMode;
-use order::Order;
-use order::name_order;
 use output::put;
 use output::put_ended;
-use scan::same_bytes;
-
-// What is done with an entry: it is left out, carried over, or carried over behind the new one.
-enum Fate {
-    Out,
-    Over,
-    Behind,
-}
-
-// The same, with the place past the entry; or no entry can be read.
-enum Turn {
-    End,
-    Drop(usize),
-    Keep(usize),
-    First(usize),
-}
 
 // What a walk took: the bytes of its result, and the entries carried over.
 pub struct Walked {
     pub used: usize,
     pub kept: usize,
-}
-
-// What is done with an entry of a name and a sort, where a new name is put unless it is placed already.
-fn fate_of(own: &[u8], folder: bool, name: &[u8], tree: bool, placed: bool) -> Fate
-    ensures { λ r. ⌜ r ≡ fateOf (now (own .entry)) folder (now (name .entry)) tree placed ⌝ }
-{
-    if same_bytes(own, name) {
-        return Fate::Out;
-    }
-    if placed {
-        return Fate::Over;
-    }
-    match name_order(own, folder, name, tree) {
-        Order::Below => Fate::Over,
-        Order::Same => Fate::Behind,
-        Order::Above => Fate::Behind,
-    }
-}
-
-// What is done with the entry at a place.
-fn turn_at(s: &[u8], h: usize, at: usize, name: &[u8], tree: bool, placed: bool) -> Turn
-    ensures turn { λ r. ⌜ r ≡ turnAt h (now (s .entry)) at (now (name .entry)) tree placed ⌝ }
-    ensures leads { λ r. ⌜ Leads (length (now (s .entry))) at r ⌝ }
-{
-    let c = Cursor { at };
-    match c.decode(s, h) {
-        Decoded::Broken(_) => Turn::End,
-        Decoded::Whole(e, next) => {
-            let start = e.name_start;
-            let end = e.name_end;
-            let past = next.at;
-            match fate_of(&s[start..end], is_folder(e), name, tree, placed) {
-                Fate::Out => Turn::Drop(past),
-                Fate::Over => Turn::Keep(past),
-                Fate::Behind => Turn::First(past),
-            }
-        }
-    }
 }
 
 // Writes a new entry at a place, as far as there is room, and gives the place past it.

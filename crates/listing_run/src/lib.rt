@@ -5,7 +5,7 @@ use libc::STDIN_FILENO;
 use libc::STDOUT_FILENO;
 use listing_text::Listed;
 use listing_text::put_listing;
-use listing_text::put_part;
+use part_words::put_part;
 use words::id_length;
 use words::is_word;
 use words::word_at;

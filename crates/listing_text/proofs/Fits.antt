@@ -24,8 +24,9 @@ use Rattle.reading.specs.declared.Counted.{Counted}
 use Rattle.reading.specs.declared.Counted.the-variants.{Total, Stopped}
 use Rattle.loose_header.specs.Header.{decimal}
 use Rattle.loose_header.proofs.Digits.{decimal-most}
-use Rattle.listing_text.specs.Text.{space, lf, hexOf, modeWords, line, lines, head, refusal, longest, toldOf, textOf, text}
-use Rattle.listing_text.proofs.Laws.{hex-length, mode-most, id-le}
+use Rattle.hex_of_id.proofs.Laws.{hex-length}
+use Rattle.listing_text.specs.Text.{space, lf, modeWords, line, lines, head, refusal, longest, toldOf, textOf, text}
+use Rattle.listing_text.proofs.Laws.{mode-most, id-le}
 
 name-long : (s : List ℕ) (e : EntryRecord) → length (nameOf s e) ≤ e .«name_end» - e .«name_start»
 unfolding nameOf

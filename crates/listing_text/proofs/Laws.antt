@@ -1,5 +1,5 @@
 -- Laws of texts that are stored piece by piece. Assumes nothing.
-use Prim.Native.Nat.{ℕ, zero, suc, _+_, _-_, _*_, _/_, _%_, _<_, _≤_}
+use Prim.Native.Nat.{ℕ, _+_, _-_, _*_, _/_, _%_, _<_, _≤_}
 use native.Mathlib.Nat.{add-zero}
 use native.Mathlib.Numerals.{add-one}
 use native.Mathlib.Omega.{arith}
@@ -23,7 +23,10 @@ use Rattle.mode_text.proofs.Laws.{mode-le, text-is}
 use Rattle.entry.specs.Record.{many, noRecord, recordsOf, nameOf, idOf}
 use Rattle.entry.specs.declared.EntryRecord.{EntryRecord}
 use Rattle.entry.proofs.Laws.{records-many}
-use Rattle.listing_text.specs.Text.{space, lf, hexDigit, hexOf, modeWords, line, lines, partWords}
+use Rattle.listing_text.specs.Text.{space, lf, modeWords, line, lines}
+use Rattle.hex.specs.Hex.{digitOf}
+use Rattle.hex_of_id.specs.Hex.{hexOf}
+use Rattle.hex_of_id.proofs.Laws.{hex-more, hex-length}
 use Rattle.listing_text.specs.Code.{Added}
 
 -- ---- the length of ids
@@ -80,23 +83,15 @@ piece-whole s from n = let z : from + n - from ≡ n = omega arith in rw z refl
 
 -- ---- hex
 
-pub hex-more : (bytes : List ℕ) (i : ℕ) → i < length bytes
-    → hexOf (drop i bytes) ≡ (hexDigit (getD bytes i 0 / 16) ∷ hexDigit (getD bytes i 0) ∷ []) ++ hexOf (drop (i + 1) bytes)
-unfolding hexOf
-hex-more bytes i p = rw (add-one i, drop-cons bytes i 0 p) refl
-
-pub hex-end : (bytes : List ℕ) (i : ℕ) → length bytes ≤ i → hexOf (drop i bytes) ≡ []
-unfolding hexOf
-hex-end bytes i p = rw (drop-of-length-le bytes {i = i} p) refl
-
-pub hex-turn : {out now new whole : List ℕ} {at p q x y : ℕ} (bytes : List ℕ) (i : ℕ) → i < length bytes → Rest out at whole now p (hexOf (drop i bytes))
-    → x ≡ hexDigit (getD bytes i 0 / 16) → y ≡ hexDigit (getD bytes i 0) → Added now p (x ∷ y ∷ []) new q → Rest out at whole new q (hexOf (drop (i + 1) bytes))
-hex-turn bytes i l r a b e = rest-turn (hexOf (drop (i + 1) bytes)) r (hex-more bytes i l ∙ rw (a, b) refl) e
-
-pub hex-length : (bytes : List ℕ) → length (hexOf bytes) ≡ length bytes * 2
-unfolding hexOf
-hex-length [] = refl
-hex-length (b ∷ bs) = omega (arith, hex-length bs)
+pub hex-turn : {out now new whole : List ℕ} {at p q x y : ℕ} (bytes : List ℕ) (i : ℕ) → i < length bytes → getD bytes i 0 < 256
+    → Rest out at whole now p (hexOf (drop i bytes)) → x ≡ digitOf (getD bytes i 0 / 16 % 16) → y ≡ digitOf (getD bytes i 0 % 16)
+    → Added now p (x ∷ y ∷ []) new q → Rest out at whole new q (hexOf (drop (i + 1) bytes))
+hex-turn {x = x} bytes i l f r a b e =
+    let z : getD bytes i 0 / 16 ≡ getD bytes i 0 / 16 % 16 = omega (arith, f) in
+    let rest : List ℕ = hexOf (drop (i + 1) bytes) in
+    let one = ap (λ (k : ℕ). k ∷ digitOf (getD bytes i 0 % 16) ∷ rest) (ap digitOf z ∙ sym a) in
+    let two = ap (λ (k : ℕ). x ∷ k ∷ rest) (sym b) in
+    rest-turn rest r (hex-more bytes i l ∙ one ∙ two) e
 
 -- ---- a line
 
@@ -167,17 +162,3 @@ module _ (h : ℕ) (s records : List ℕ) (i : ℕ) where
   pub lines-end : many (length records) ≤ i → lines h s (drop i (recordsOf records)) ≡ []
   unfolding lines
   lines-end p = rw (drop-of-length-le (recordsOf records) {i = i} (rw (records-many records) p)) refl
-
--- ---- the words of a part
-
-pub part-other : (out : List ℕ) (k : ℕ) → (k ≡ 1 → ⊥) → (k ≡ 2 → ⊥) → (k ≡ 3 → ⊥) → (0 ≡ length (partWords k)) × (out ≡ sets out 0 (partWords k))
-unfolding partWords
-part-other out zero a b c = (refl, refl)
-part-other out (suc zero) a b c = absurd (a refl)
-part-other out (suc (suc zero)) a b c = absurd (b refl)
-part-other out (suc (suc (suc zero))) a b c = absurd (c refl)
-part-other out (suc (suc (suc (suc k)))) a b c = (refl, refl)
-
-pub part-words : {out after words : List ℕ} {r : ℕ} (k : ℕ) → words ≡ partWords k → Added out 0 words after r
-    → (r ≡ length (partWords k)) × (after ≡ sets out 0 (partWords k))
-part-words {out} k e x = (rw (← e) (omega (arith, x .place)), x .stores ∙ ap (sets out 0) e)

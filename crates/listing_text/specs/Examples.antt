@@ -15,18 +15,16 @@ use Rattle.entry.specs.Record.{nameOf, idOf}
 use Rattle.entry.specs.Decode.{shortPart, decodeName, decodeMode, decode}
 use Rattle.reading.specs.Listing.{follow, plain, recordsIn, tally}
 use Rattle.loose_header.specs.Header.{digits, decimal}
-use Rattle.listing_text.specs.Text.{lf, hexDigit, hexOf, modeWords, line, lines, head, refusal, partWords, toldOf, tallyVerdict, textOf, text, listedOf, listed}
+use Rattle.hex.specs.Hex.{digitOf}
+use Rattle.hex_of_id.specs.Hex.{hexOf}
+use Rattle.listing_text.specs.Text.{lf, modeWords, line, lines, head, refusal, toldOf, tallyVerdict, textOf, text, listedOf, listed}
 
 pub refusals : (refusal (verdict 2 0) ≡ ascii "refused 2 at 0" ++ lf) × (refusal (broken 29 3) ≡ ascii "refused 3 at 29" ++ lf)
 unfolding digits decimal refusal
 refusals = (refl, refl)
 
-pub parts : (partWords 0 ≡ []) × (partWords 1 ≡ ascii "the entry's mode cannot be read") × (partWords 3 ≡ ascii "the entry's id is cut")
-unfolding partWords
-parts = (refl, refl, refl)
-
 pub texts : (head 2978 ≡ ascii "entries 2978" ++ lf) × (hexOf (0x0a ∷ 0xf9 ∷ []) ≡ ascii "0af9")
-unfolding digits decimal hexDigit hexOf head
+unfolding digits decimal digitOf hexOf head
 texts = (refl, refl)
 
 abbrev object : List ℕ
@@ -36,7 +34,7 @@ pub whole : text 20 object
     ≡ ascii "entries 2" ++ lf
     ++ ascii "100644 blob 1111111111111111111111111111111111111111 a" ++ lf
     ++ ascii "40000 tree 2a2a2a2a2a2a2a2a2a2a2a2a2a2a2a2a2a2a2a2a b" ++ lf
-unfolding valueOf sortOf executes kindOf octalFrom hasSix textLen settle restAt readText readMode trimmed writeMode rows rowAt writtenOf wordOf nameOf idOf shortPart decodeName decodeMode decode follow plain recordsIn tally digits decimal hexDigit hexOf modeWords line lines head toldOf idLength textOf text
+unfolding valueOf sortOf executes kindOf octalFrom hasSix textLen settle restAt readText readMode trimmed writeMode rows rowAt writtenOf wordOf nameOf idOf shortPart decodeName decodeMode decode follow plain recordsIn tally digits decimal digitOf hexOf modeWords line lines head toldOf idLength textOf text
 whole = refl
 
 pub cut : (text 20 (take 56 object) ≡ ascii "refused 3 at 29" ++ lf) × (listed 20 (take 56 object) .verdict ≡ broken 29 3)

@@ -1,8 +1,8 @@
 -- What `listing` says of a tree object whose ids have `h` bytes (docs/FORMAT.md, "Examples"). Assumes nothing.
-use Prim.Native.Nat.{ℕ, _+_, _/_, _%_}
+use Prim.Native.Nat.{ℕ, _%_}
 use mathlib.Core.List.{List, [], _∷_, _++_}
-use lib.Dec.{leb, ltb}
-use lib.ListN.{length, getD}
+use lib.Dec.{leb}
+use lib.ListN.{length}
 use Rattle.ground.specs.Basics.{pick, ascii}
 use Rattle.ground.specs.Verdict.{verdict, fine, idLength}
 use Rattle.ground.specs.declared.Verdict.{Verdict}
@@ -15,6 +15,7 @@ use Rattle.reading.specs.Listing.{listing, recordsIn, tally}
 use Rattle.reading.specs.declared.Counted.{Counted}
 use Rattle.reading.specs.declared.Counted.the-variants.{Total, Stopped}
 use Rattle.loose_header.specs.Header.{decimal}
+use Rattle.hex_of_id.specs.Hex.{hexOf}
 use Rattle.listing_text.specs.declared.Listed.{Listed}
 
 abbrev pub space : List ℕ
@@ -22,15 +23,6 @@ space = ascii " "
 
 abbrev pub lf : List ℕ
 lf = 10 ∷ []
-
--- the hex digit of a number's last four bits, in lower case
-unfoldable pub hexDigit : ℕ → ℕ
-hexDigit x = pick (ltb (x % 16) 10) (48 + x % 16) (87 + x % 16)
-
--- bytes in hex, two digits each
-unfoldable pub hexOf : List ℕ → List ℕ
-hexOf [] = []
-hexOf (b ∷ bs) = (hexDigit (b / 16) ∷ hexDigit b ∷ []) ++ hexOf bs
 
 -- a mode, which has 16 bits: its text and the word of its kind
 unfoldable pub modeWords : ℕ → List ℕ
@@ -52,11 +44,6 @@ head n = ascii "entries " ++ decimal n ++ lf
 -- the line of a refusal
 unfoldable pub refusal : Verdict → List ℕ
 refusal v = ascii "refused " ++ decimal (v .number) ++ ascii " at " ++ decimal (v .place) ++ lf
-
--- what is said besides of the part of an entry that cannot be read; nothing where there is none
-unfoldable pub partWords : ℕ → List ℕ
-partWords part =
-    getD ([] ∷ ascii "the entry's mode cannot be read" ∷ ascii "the entry's name has no end" ∷ ascii "the entry's id is cut" ∷ []) part []
 
 -- the longest object that is listed
 abbrev pub longest : ℕ

@@ -7,7 +7,8 @@ ghost use lib.Seq.{sets};
 ghost use Rattle.ground.specs.Verdict.{idLength};
 ghost use Rattle.entry.specs.Record.{width, recordsOf};
 ghost use Rattle.loose_header.specs.Header.{decimal};
-ghost use Rattle.listing_text.specs.Text.{hexDigit, hexOf, modeWords, line, lines, head, refusal, partWords, longest, textOf, text, listedOf, listed};
+ghost use Rattle.hex_of_id.specs.Hex.{hexOf};
+ghost use Rattle.listing_text.specs.Text.{modeWords, line, lines, head, refusal, longest, textOf, text, listedOf, listed};
 ghost use Rattle.listing_text.specs.Code.{Added, room};
 use entry::EntryRecord;
 use entry::WIDTH;
@@ -17,6 +18,7 @@ use ground::DONE;
 use ground::FINE;
 use ground::ID_LENGTH;
 use ground::Verdict;
+use hex::digit_of;
 use mode::EntryMode;
 use output::put;
 use reading::read_tree;
@@ -73,17 +75,7 @@ fn add_number(out: &mut [u8], at: usize, n: usize) -> usize
     add(out, at, &digits[from..20])
 }
 
-// The hex digit of a number's last four bits.
-fn hex_digit(x: u8) -> u8
-    ensures { λ r. ⌜ r ≡ hexDigit x ⌝ }
-{
-    let d = x % 16;
-    if d < 10 {
-        return b'0' + d;
-    }
-    87 + d
-}
-
+// Bytes in hex, two digits each.
 fn add_hex(out: &mut [u8], at: usize, bytes: &[u8]) -> usize
     requires { ⌜ (at ≤ 549755813888) × (length (now bytes) ≤ 65536) ⌝ }
     ensures { λ r. ⌜ Added (now (out .entry)) at (hexOf (now (bytes .entry))) (now (out .exit)) r × (r ≤ at + 131072) ⌝ }
@@ -92,7 +84,7 @@ fn add_hex(out: &mut [u8], at: usize, bytes: &[u8]) -> usize
     let mut i: usize = 0;
     while i < bytes.len() {
         let b = bytes[i];
-        p = add(out, p, &[hex_digit(b / 16), hex_digit(b)]);
+        p = add(out, p, &[digit_of(b / 16), digit_of(b)]);
         i += 1;
     }
     p
@@ -196,23 +188,6 @@ fn add_refusal(out: &mut [u8], v: Verdict) -> usize
     let u = add(out, q, b" at ");
     let w = add_number(out, u, v.place);
     add(out, w, b"\n")
-}
-
-// What a part that cannot be read is called, to the front of a lent output, as far as there is room; gives how long it is.
-pub fn put_part(out: &mut [u8], part: usize) -> usize
-    ensures count { λ r. ⌜ r ≡ length (partWords part) ⌝ }
-    ensures out { λ _. ⌜ now (out .exit) ≡ sets (now (out .entry)) 0 (partWords part) ⌝ }
-{
-    if part == 1 {
-        return add(out, 0, b"the entry's mode cannot be read");
-    }
-    if part == 2 {
-        return add(out, 0, b"the entry's name has no end");
-    }
-    if part == 3 {
-        return add(out, 0, b"the entry's id is cut");
-    }
-    0
 }
 
 // An object that is not too long, with room for its records.

@@ -255,5 +255,8 @@ written-front h s out after l d q w = w ∙ ap (λ (x : List ℕ). sets out 0 (a
 pub most-le : 1048576 ≤ mostRecords
 most-le = omega arith
 
+pub over : (n : ℕ) → n ≤ mostRecords → 1048576 < n → ⊥
+over n p q = omega arith
+
 pub front-few : (k : ℕ) (l l0 : List ℕ) → k ≤ length l → length l ≡ length l0 → length l0 ≤ mostRecords → length (take k l) ≤ mostRecords
 front-few k l l0 p q r = omega (arith, length-take k l)

@@ -12,9 +12,10 @@ use Rattle.paper.proofs.Entries.{each-step}
 use Rattle.paper.proofs.Reading.{plain-fits, strict-fits}
 use Rattle.paper.proofs.Lookup.{looked-fits, any-fits, many-fits}
 use Rattle.paper.proofs.Hex.{id-fits, hex-fits}
-use Rattle.paper.proofs.Text.{export-fits}
+use Rattle.paper.proofs.Text.{export-fits, import-fits}
 use Rattle.paper.proofs.Edits.{put-fits, remove-fits}
 use Rattle.paper.proofs.Mending.{mend-fits}
+use Rattle.paper.proofs.Differences.{compare-fits}
 use Rattle.paper.proofs.Writing.{size-fits, tree-fits, header-fits}
 use Rattle.paper.proofs.Commits.{unfold-fits, plan-kept, commit-fits, outcome-kept}
 use Rattle.paper.proofs.CommitWriting as writing
@@ -50,6 +51,8 @@ of-border = record {
   hex-of-id = keeps-hands _ (λ i. tt) _ saidIn _ _ _ _ _ _ (λ i o m. (m .0, m .1 .0, one-list (m .1 .1))) (λ i. wider (hex-fits _ _) refl) (λ i z. one-list (stored-refused _ _ _ z));
   export-tree = keeps-hands _ (λ i. tt) _ saidIn _ _ _ _ _ _ (λ i o m. (m .0, m .1 .0, one-list (m .1 .1))) (λ i. wider (export-fits _ _ (now (i .args .0)) _) refl)
       (λ i z. one-list (stored-refused _ _ _ z));
+  import-tree = keeps-hands _ (λ i. tt) _ saidIn _ _ _ _ _ _ (λ i o m. (m .0, m .1 .0, one-list (m .1 .1))) (λ i. wider (import-fits _ _ (now (i .args .0)) _) refl)
+      (λ i z. one-list (stored-refused _ _ _ z));
   check-bundle = keeps-hands _ (λ i. tt) _ saidIn _ _ _ _ _ _ (λ i o m. (m .0, m .1, refl)) (λ i. checked-said _) (λ i z. refl);
   bundle-object = keeps-hands _ (λ i. tt) _ saidIn _ _ _ _ _ _ (λ i o m. (m .0, m .1, refl)) (λ i. object-said _ _) (λ i z. refl);
   follow-path = keeps-hands _ (λ i. tt) _ saidIn _ _ _ _ _ _ (λ i o m. (m .0, both-lists (m .1 .0) (m .1 .1), refl)) (λ i. followed-said _ _ _) (λ i z. refl);
@@ -58,6 +61,8 @@ of-border = record {
   remove-from-tree = keeps-hands _ (λ i. tt) _ saidIn _ _ _ _ _ _ (λ i o m. (m .0, m .1 .0, one-list (m .1 .1))) (λ i. wider (remove-fits _ _ _ _ _) refl)
       (λ i z. one-list (stored-refused _ _ _ z));
   mend-tree = keeps-hands _ (λ i. tt) _ saidIn _ _ _ _ _ _ (λ i o m. (m .0, m .1 .0, two-lists (m .1 .1 .0) (m .1 .1 .1))) (λ i. wider (mend-fits _ _ _ _) refl)
+      (λ i z. two-lists (stored-refused _ _ _ z) (stored-refused _ _ _ z));
+  compare-trees = keeps-hands _ (λ i. tt) _ saidIn _ _ _ _ _ _ (λ i o m. (m .0, m .1 .0, two-lists (m .1 .1 .0) (m .1 .1 .1))) (λ i. wider (compare-fits _ _ _ _ _) refl)
       (λ i z. two-lists (stored-refused _ _ _ z) (stored-refused _ _ _ z));
   questions =
       ((λ i. tt), (λ i o p. same)) and ((λ i. tt), (λ i o p. same)) and ((λ i. tt), (λ i o p. same)) and ((λ i. tt), (λ i o p. same)) and none;

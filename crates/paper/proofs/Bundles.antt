@@ -48,7 +48,7 @@ module _ (Q : Opening → Type 0) (opens : (k : Header) → Q (Open k)) (ill : Q
       (each-pick Q (whole (framesBy s k)) _ _ (each-pick Q (repeats (idsIn (k .h) s (framesBy s k))) _ _ repeated (opens k)) ill) ill
   each-by s n Bad = ill
 
-  each-opening : (s : List ℕ) (n : ℕ) → Q (openOf s n)
+  pub each-opening : (s : List ℕ) (n : ℕ) → Q (openOf s n)
   unfolding openFrom
   each-opening s n = each-size (λ (g : Gate). Q (openFrom s n g)) (each-by s n (headOf s)) over (length s) 0
 

@@ -5,6 +5,8 @@ use Rattle.paper.proofs.Entries as entries
 use Rattle.paper.proofs.Reading as reading
 use Rattle.paper.proofs.Edits as edits
 use Rattle.paper.proofs.Mending as mending
+use Rattle.paper.proofs.Listing as listing
+use Rattle.paper.proofs.Pieces as pieces
 use Rattle.paper.proofs.Lookup as lookup
 use Rattle.paper.proofs.Writing as writing
 use Rattle.paper.proofs.Hex as hex
@@ -12,6 +14,7 @@ use Rattle.paper.proofs.Text as text
 use Rattle.paper.proofs.Commits as commits
 use Rattle.paper.proofs.CommitWriting as commit-writing
 use Rattle.paper.proofs.Bundles as bundles
+use Rattle.paper.proofs.Differences as differences
 use Rattle.paper.proofs.Border as border
 use Rattle.paper.proofs.Places as places
 
@@ -24,6 +27,8 @@ first-demand = record {
   of-edits = edits.of-edits;
   of-mending = mending.of-mending;
   of-leaves = mending.of-leaves;
+  of-listing = listing.of-listing;
+  of-pieces = pieces.of-pieces;
   of-lookup = lookup.of-lookup;
   of-writing = writing.of-writing;
   of-hex = hex.of-hex;
@@ -31,6 +36,7 @@ first-demand = record {
   of-commits = commits.of-commits;
   of-commit-writing = commit-writing.of-commit-writing;
   of-bundles = bundles.of-bundles;
+  of-differences = differences.of-differences;
   of-border = border.of-border;
   places = places.places;
 }

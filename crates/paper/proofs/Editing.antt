@@ -9,13 +9,16 @@ use lib.ListN.{length, take}
 use denote.Ref.{now}
 use Rattle.ground.specs.Basics.{pick}
 use Rattle.ground.specs.declared.Answer.{Answer}
-use Rattle.edit.specs.Table.{removeFrom, Table}
+use Rattle.edit.specs.Table.{removeFrom, none, Table}
 use Rattle.edit.specs.Edit.{putAnswer, removeAnswer, putOutput, removeOutput}
 use Rattle.edit_walk.specs.Walk.{newEntry}
 use Rattle.editing.specs.Demand.{Written, Change, puts, removes, nameOf, tableChanged, numberOf, given}
 use Rattle.editing.proofs.Writing.{one-writing, from-accepted, accepted-again, missing}
-use Rattle.editing.proofs.Turns.{done-written}
-use Rattle.paper.specs.Editing.{Edit, put, remove, object, idLength, ruleSet, change, answer, output, isDone, left, tableLeft, InTurn, lastLeft, lastTable, Edits}
+use Rattle.editing.proofs.Turns.{done-written, same-put, there-and-back}
+use Rattle.paper.specs.Call.{Run}
+use Rattle.paper.specs.Calls.{putInTree, removeFromTree}
+use Rattle.paper.specs.Editing.{Edit, put, remove, object, idLength, ruleSet, newOf, Follows, change, answer, output, isDone, left, tableLeft}
+use Rattle.paper.specs.Editing.{InTurn, lastLeft, lastTable, Edits}
 
 -- the output that it is lent, as it was
 abbrev lent : Edit → List ℕ
@@ -67,6 +70,25 @@ done-left : (e : Edit) (t : Table) (w : Written (ruleSet e) (idLength e) t (obje
 done-left e t w z =
     subst (Done e t w) (sym (ap (λ (b : Bool). pick b (take (answer e .count) (output e)) (object e)) (eq-eqb (answer e .verdict .number) 0 z))) (gives e t w z)
 
+-- ---- edits that give the object back
+
+left-done : (e : Edit) → answer e .verdict .number ≡ 0 → left e ≡ given (ruleSet e) (idLength e) (object e) (change e) (lent e)
+left-done e z = ap (λ (b : Bool). pick b (take (answer e .count) (output e)) (object e)) (eq-eqb (answer e .verdict .number) 0 z) ∙ given-is e
+
+same-given : {k l h i : ℕ} {s u n m : List ℕ} (out : List ℕ) → k ≡ l → h ≡ i → s ≡ u → n ≡ m → given k h s (removes n) out ≡ given l i u (removes m) out
+same-given out a b c d = cc
+
+same-number : {k l h i : ℕ} {s u n m : List ℕ} (room : ℕ) → k ≡ l → h ≡ i → s ≡ u → n ≡ m → numberOf k h s (removes n) room ≡ numberOf l i u (removes m) room
+same-number room a b c d = cc
+
+back : (c : Run (putInTree .call)) (d : Run (removeFromTree .call)) (t : Table) → Written (ruleSet (put c)) (idLength (put c)) t (object (put c))
+    → t (newOf c .name) ≡ none → Follows c d → c .came .answer .verdict .number ≡ 0 → d .came .answer .verdict .number ≡ 0 → left (remove d) ≡ object (put c)
+back c d t w e f z y =
+    let o = f .same-object ∙ left-done (put c) z in
+    left-done (remove d) y ∙ same-given (lent (remove d)) (f .same-rules) (f .same-id) o (f .same-name)
+    ∙ there-and-back (ruleSet (put c)) (idLength (put c)) t (object (put c)) (newOf c) (lent (put c)) (lent (remove d)) w e (sym (number-is (put c)) ∙ z)
+    (sym (same-number (length (lent (remove d))) (f .same-rules) (f .same-id) o (f .same-name)) ∙ sym (number-is (remove d)) ∙ y)
+
 pub edits : Edits
 edits = record {
   one-writing = one-writing;
@@ -77,4 +99,7 @@ edits = record {
   missing = λ c t w a b.
       let m = missing (ruleSet (remove c)) (idLength (remove c)) t (object (remove c)) (now (c .given .args .1 .1 .1 .0)) (length (now (c .given .args .1 .1 .1 .1 .0))) w a b in
       ((λ e. m .0 (sym (c .meets .0) ∙ e)), (λ n. c .meets .0 ∙ m .1 n));
+  same-put = λ c t w e z.
+      left-done (put c) z ∙ same-put (ruleSet (put c)) (idLength (put c)) t (object (put c)) (newOf c) (lent (put c)) w e (sym (number-is (put c)) ∙ z);
+  there-and-back = back;
 }

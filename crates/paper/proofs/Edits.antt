@@ -27,10 +27,10 @@ use Rattle.strict.specs.Strict.{strictly, strictCount}
 use Rattle.one_listing.specs.Sound.{isMode}
 use Rattle.edit.specs.Table.{removeFrom, putIn, isHeld, tableOf}
 use Rattle.edit.specs.Edit.{entriesIn, newNo, sizeOf, putting, removing, onCounted, putAnswer, removeAnswer}
-use Rattle.paper.specs.Call.{Fits}
+use Rattle.paper.specs.Call.{Fits, _and_, none}
 use Rattle.paper.specs.Calls.{ofAnswer, ofCounted}
 use Rattle.paper.specs.Demand1.{OfEdits}
-use Rattle.paper.proofs.Laws.{Of, done, zero, wider, keeps-reads, keeps-writes, keeps-stores, each-pick, each-fitted}
+use Rattle.paper.proofs.Laws.{Of, same, done, zero, wider, keeps-reads, keeps-writes, keeps-stores, each-pick, each-fitted}
 use Rattle.paper.proofs.Placed.{placed-stops, plain-placed, cut-placed}
 
 -- every way that a strict reading stops: 2, 3, 5, 6, 18, 7, 17
@@ -71,7 +71,7 @@ each-rule-gate Q begun one nineteen two k h bytes records = go (ruleGate k h byt
 -- every number of a new entry
 each-new : (P : ℕ → Type 0) → P 0 → P 10 → P 5 → P 6 → P 18 → (k h : ℕ) (new : Entry) → P (newNo (gitRules k) h new)
 unfolding newNo gitRules nameNumber
-each-new P none ten five six eighteen k h new =
+each-new P good ten five six eighteen k h new =
     go (eqb (length (new .id)) h) (isMode (modesOf k) (new .mode)) (permitted (new .name)) (isDotGit (new .name))
   where
     go : (a b c d : Bool) → P (pick a (orElse (pick b 0 5) (orElse (pick c 0 6) (pick d 18 0))) 10)
@@ -79,7 +79,7 @@ each-new P none ten five six eighteen k h new =
     go true false c d = five
     go true true false d = six
     go true true true true = eighteen
-    go true true true false = none
+    go true true true false = good
 
 -- every way of the two edits
 module _ (Q : Answer → Type 0) (count : (n : ℕ) → Q (counted n))
@@ -130,6 +130,7 @@ count-fits k h s =
 
 pub of-edits : OfEdits
 of-edits = record {
+  edit-questions = ((λ i. tt), (λ i o p. same)) and none;
   count-strict = keeps-reads _ (λ i. tt) _ _ _ (λ i o m. m) (λ i. count-fits _ _ _);
   walk-tree = keeps-stores _ (λ i. tt) _ _ _ _ (λ i o m. m);
   put-in-tree = keeps-writes _ (λ i. tt) _ _ _ _ _ _ (λ i o m. m) (λ i. wider (put-fits _ _ _ _ _) refl) (λ i z. stored-refused _ _ _ z);

@@ -12,6 +12,10 @@ pub mod Commits
 pub mod CommitWriting
 pub mod Bundles
 pub mod Mending
+pub mod Listing
+pub mod Walking
+pub mod Differences
+pub mod Pieces
 pub mod Border
 pub mod Places
 pub mod Demand1
@@ -25,3 +29,4 @@ pub mod Rewriting
 pub mod Many
 pub mod Arrives
 pub mod Editing
+pub mod Mended

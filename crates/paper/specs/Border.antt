@@ -14,10 +14,12 @@ use Rattle.border_hex.proofs as bh
 use Rattle.border_text.proofs as bx
 use Rattle.border_edit.proofs as be
 use Rattle.border_mend.proofs as bmd
+use Rattle.border_difference.proofs as bd
 use Rattle.border_tree_write.proofs as btw
 use Rattle.border_commit.proofs as bc
 use Rattle.border_commit_write.proofs as bcw
 use Rattle.border_bundle.proofs as bb
+use Rattle.border_pieces.proofs as bp
 use Rattle.sarpukten.proofs as c
 use Rattle.paper.specs.Call.{Call, call, Input, Outcome, Said, Deed}
 use Rattle.paper.specs.Calls.{stores}
@@ -124,6 +126,10 @@ abbrev pub exportTree : Deed
 exportTree = hands (call c.sarpukten_export_tree.Kinds.ps c.sarpukten_export_tree.Kinds.r c.sarpukten_export_tree.Reads.Asked c.sarpukten_export_tree.Reads.Post) (λ i o. now (o .last .1 .1 .1 .1 .0)) saidIn (λ i. now (i .args .1 .1 .1 .0) ∷ [])
     (λ i o. now (o .last .1 .1 .1 .0) ∷ [])
 
+abbrev pub importTree : Deed
+importTree = hands (call c.sarpukten_import_tree.Kinds.ps c.sarpukten_import_tree.Kinds.r c.sarpukten_import_tree.Reads.Asked c.sarpukten_import_tree.Reads.Post) (λ i o. now (o .last .1 .1 .1 .1 .0)) saidIn (λ i. now (i .args .1 .1 .1 .0) ∷ [])
+    (λ i o. now (o .last .1 .1 .1 .0) ∷ [])
+
 -- ---- bundles and paths
 
 abbrev pub checkBundle : Deed
@@ -137,6 +143,14 @@ abbrev pub followPath : Deed
 followPath =
     hands (call c.sarpukten_follow_path.Kinds.ps c.sarpukten_follow_path.Kinds.r c.sarpukten_follow_path.Reads.Asked c.sarpukten_follow_path.Reads.Post)
     (λ i o. now (o .last .1 .1 .1 .0) ++ now (o .last .1 .1 .1 .1 .0)) saidIn (λ i. []) (λ i o. [])
+
+-- ---- differences
+
+abbrev pub compareTrees : Deed
+compareTrees =
+    hands (call c.sarpukten_compare_trees.Kinds.ps c.sarpukten_compare_trees.Kinds.r c.sarpukten_compare_trees.Reads.Asked c.sarpukten_compare_trees.Reads.Post)
+    (λ i o. now (o .last .1 .1 .1 .1 .1 .0)) saidIn (λ i. now (i .args .1 .1 .1 .0) ∷ now (i .args .1 .1 .1 .1 .0) ∷ [])
+    (λ i o. now (o .last .1 .1 .1 .0) ∷ now (o .last .1 .1 .1 .1 .0) ∷ [])
 
 -- ---- edits
 
@@ -198,12 +212,17 @@ named =
     ∷ call c.sarpukten_id_of_hex.Kinds.ps c.sarpukten_id_of_hex.Kinds.r c.sarpukten_id_of_hex.Reads.Asked c.sarpukten_id_of_hex.Reads.Post
     ∷ call c.sarpukten_hex_of_id.Kinds.ps c.sarpukten_hex_of_id.Kinds.r c.sarpukten_hex_of_id.Reads.Asked c.sarpukten_hex_of_id.Reads.Post
     ∷ call c.sarpukten_export_tree.Kinds.ps c.sarpukten_export_tree.Kinds.r c.sarpukten_export_tree.Reads.Asked c.sarpukten_export_tree.Reads.Post
+    ∷ call c.sarpukten_import_tree.Kinds.ps c.sarpukten_import_tree.Kinds.r c.sarpukten_import_tree.Reads.Asked c.sarpukten_import_tree.Reads.Post
     ∷ call c.sarpukten_check_bundle.Kinds.ps c.sarpukten_check_bundle.Kinds.r c.sarpukten_check_bundle.Reads.Asked c.sarpukten_check_bundle.Reads.Post
     ∷ call c.sarpukten_bundle_object.Kinds.ps c.sarpukten_bundle_object.Kinds.r c.sarpukten_bundle_object.Reads.Asked c.sarpukten_bundle_object.Reads.Post
     ∷ call c.sarpukten_follow_path.Kinds.ps c.sarpukten_follow_path.Kinds.r c.sarpukten_follow_path.Reads.Asked c.sarpukten_follow_path.Reads.Post
     ∷ call c.sarpukten_put_in_tree.Kinds.ps c.sarpukten_put_in_tree.Kinds.r c.sarpukten_put_in_tree.Reads.Asked c.sarpukten_put_in_tree.Reads.Post
     ∷ call c.sarpukten_remove_from_tree.Kinds.ps c.sarpukten_remove_from_tree.Kinds.r c.sarpukten_remove_from_tree.Reads.Asked c.sarpukten_remove_from_tree.Reads.Post
     ∷ call c.sarpukten_mend_tree.Kinds.ps c.sarpukten_mend_tree.Kinds.r c.sarpukten_mend_tree.Reads.Asked c.sarpukten_mend_tree.Reads.Post
+    ∷ call c.sarpukten_compare_trees.Kinds.ps c.sarpukten_compare_trees.Kinds.r c.sarpukten_compare_trees.Reads.Asked c.sarpukten_compare_trees.Reads.Post
+    ∷ call c.sarpukten_check_start.Kinds.ps c.sarpukten_check_start.Kinds.r c.sarpukten_check_start.Reads.Asked c.sarpukten_check_start.Reads.Post
+    ∷ call c.sarpukten_check_piece.Kinds.ps c.sarpukten_check_piece.Kinds.r c.sarpukten_check_piece.Reads.Asked c.sarpukten_check_piece.Reads.Post
+    ∷ call c.sarpukten_check_end.Kinds.ps c.sarpukten_check_end.Kinds.r c.sarpukten_check_end.Reads.Asked c.sarpukten_check_end.Reads.Post
     ∷ []
 
 abbrev pub behind : List Call
@@ -233,10 +252,15 @@ behind =
     ∷ call bh.id_of_hex.Kinds.ps bh.id_of_hex.Kinds.r bh.id_of_hex.Reads.Asked bh.id_of_hex.Reads.Post
     ∷ call bh.hex_of_id.Kinds.ps bh.hex_of_id.Kinds.r bh.hex_of_id.Reads.Asked bh.hex_of_id.Reads.Post
     ∷ call bx.export_tree.Kinds.ps bx.export_tree.Kinds.r bx.export_tree.Reads.Asked bx.export_tree.Reads.Post
+    ∷ call bx.import_tree.Kinds.ps bx.import_tree.Kinds.r bx.import_tree.Reads.Asked bx.import_tree.Reads.Post
     ∷ call bb.check_bundle.Kinds.ps bb.check_bundle.Kinds.r bb.check_bundle.Reads.Asked bb.check_bundle.Reads.Post
     ∷ call bb.bundle_object.Kinds.ps bb.bundle_object.Kinds.r bb.bundle_object.Reads.Asked bb.bundle_object.Reads.Post
     ∷ call bb.follow_path.Kinds.ps bb.follow_path.Kinds.r bb.follow_path.Reads.Asked bb.follow_path.Reads.Post
     ∷ call be.put_in_tree.Kinds.ps be.put_in_tree.Kinds.r be.put_in_tree.Reads.Asked be.put_in_tree.Reads.Post
     ∷ call be.remove_from_tree.Kinds.ps be.remove_from_tree.Kinds.r be.remove_from_tree.Reads.Asked be.remove_from_tree.Reads.Post
     ∷ call bmd.mend_tree.Kinds.ps bmd.mend_tree.Kinds.r bmd.mend_tree.Reads.Asked bmd.mend_tree.Reads.Post
+    ∷ call bd.compare_trees.Kinds.ps bd.compare_trees.Kinds.r bd.compare_trees.Reads.Asked bd.compare_trees.Reads.Post
+    ∷ call bp.check_start.Kinds.ps bp.check_start.Kinds.r bp.check_start.Reads.Asked bp.check_start.Reads.Post
+    ∷ call bp.check_piece.Kinds.ps bp.check_piece.Kinds.r bp.check_piece.Reads.Asked bp.check_piece.Reads.Post
+    ∷ call bp.check_end.Kinds.ps bp.check_end.Kinds.r bp.check_end.Reads.Asked bp.check_end.Reads.Post
     ∷ []

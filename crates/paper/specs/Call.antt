@@ -84,7 +84,7 @@ among n (k ∷ ks) = eqb n k || among n ks
 
 -- the numbers that come with a place; with any other the place is 0
 abbrev pub placed : List ℕ
-placed = 3 ∷ 4 ∷ 5 ∷ 6 ∷ 7 ∷ 8 ∷ 9 ∷ 10 ∷ 11 ∷ 12 ∷ 17 ∷ 18 ∷ []
+placed = 3 ∷ 4 ∷ 5 ∷ 6 ∷ 7 ∷ 8 ∷ 9 ∷ 10 ∷ 11 ∷ 12 ∷ 16 ∷ 17 ∷ 18 ∷ 20 ∷ []
 
 -- a part comes with 3, and is one of the three; with any other number it is 0
 abbrev pub parted : Verdict → Bool
@@ -123,3 +123,10 @@ pub record HandsOn (d : Deed) (given : Input (d .call) → Said) (numbers : List
   pub once : OneAnswer (d .call)
   pub fits : (i : Input (d .call)) (o : Outcome (d .call) i) → Meets (d .call) i o → (handed : List ℕ) → Fits handed (given i)
       → Fits (numbers ++ handed) (d .said i o)
+
+-- The first demand of a call that prints, since its text is written to what is lent, refused or not: it takes every input, no second answer and no second
+-- text meets the contract, and it gives these numbers and no other.
+pub record Prints (d : Deed) (numbers : List ℕ) : Type 0 where
+  pub takes : TakesAll (d .call)
+  pub once : (i : Input (d .call)) (o p : Outcome (d .call) i) → Meets (d .call) i o → Meets (d .call) i p → (o .answer ≡ p .answer) × (d .after i o ≡ d .after i p)
+  pub known : (i : Input (d .call)) (o : Outcome (d .call) i) → Meets (d .call) i o → listed numbers (d .said i o .verdict) ≡ true

@@ -33,12 +33,21 @@ use Rattle.rules.proofs as rules
 use Rattle.reading.proofs as reading
 use Rattle.strict.proofs as strict
 use Rattle.lookup.proofs as lookup
+use Rattle.edit_turn.proofs as editTurn
 use Rattle.edit_walk.proofs as editWalk
 use Rattle.edit.proofs as edit
 use Rattle.fate.proofs as fate
 use Rattle.mend.proofs as mend
+use Rattle.merge.proofs as merge
+use Rattle.opening.proofs as opens
+use Rattle.indexing.proofs as indexing
+use Rattle.difference.proofs as difference
 use Rattle.words.proofs as words
+use Rattle.listing_text.proofs as listing
+use Rattle.part_words.proofs as partWords
 use Rattle.piece_judge.proofs as pieceJudge
+use Rattle.piece_marks.proofs as pieceMarks
+use Rattle.piece_body.proofs as pieceBody
 use Rattle.piece_step.proofs as pieceStep
 use Rattle.record_slice.proofs as slice
 use Rattle.lookups.proofs as lookups
@@ -51,6 +60,9 @@ use Rattle.hex_of_id.proofs as hexOf
 use Rattle.tree_text.proofs as treeText
 use Rattle.text_form.proofs as textForm
 use Rattle.tree_export.proofs as export
+use Rattle.text_record.proofs as textRecord
+use Rattle.text_repeats.proofs as textRepeats
+use Rattle.tree_import.proofs as import
 use Rattle.header.proofs as header
 use Rattle.unfold.proofs as folded
 use Rattle.commit_read.proofs as commit
@@ -254,6 +266,10 @@ ofCounted (Stopped v) = record { verdict = v; counts = [] }
 abbrev pub countStrict : Deed
 countStrict = reads (call strict.strict_count.Kinds.ps strict.strict_count.Kinds.r strict.strict_count.Reads.Asked strict.strict_count.Reads.Post) (λ i x. ofCounted x)
 
+-- what is done with one entry
+abbrev pub editQuestions : List Call
+editQuestions = call editTurn.turn_at.Kinds.ps editTurn.turn_at.Kinds.r editTurn.turn_at.Reads.Asked editTurn.turn_at.Reads.Post ∷ []
+
 abbrev pub walkTree : Deed
 walkTree =
     stores (call editWalk.walk.Kinds.ps editWalk.walk.Kinds.r editWalk.walk.Reads.Asked editWalk.walk.Reads.Post)
@@ -344,16 +360,52 @@ idOfHex = writes (call idOf.id_of_hex.Kinds.ps idOf.id_of_hex.Kinds.r idOf.id_of
 abbrev pub hexOfId : Deed
 hexOfId = writes (call hexOf.hex_of_id.Kinds.ps hexOf.hex_of_id.Kinds.r hexOf.hex_of_id.Reads.Asked hexOf.hex_of_id.Reads.Post) (λ i x. x) (λ i. now (i .args .1 .0)) (λ i o. now (o .last .1 .0))
 
+-- ---- differences
+
+abbrev pub differenceQuestions : List Call
+differenceQuestions =
+    call merge.merge_step.Kinds.ps merge.merge_step.Kinds.r merge.merge_step.Reads.Asked merge.merge_step.Reads.Post
+    ∷ call opens.seek_object.Kinds.ps opens.seek_object.Kinds.r opens.seek_object.Reads.Asked opens.seek_object.Reads.Post
+    ∷ call opens.open_tree.Kinds.ps opens.open_tree.Kinds.r opens.open_tree.Reads.Asked opens.open_tree.Reads.Post
+    ∷ []
+
+abbrev pub makeIndex : Deed
+makeIndex =
+    stores (call indexing.make_index.Kinds.ps indexing.make_index.Kinds.r indexing.make_index.Reads.Asked indexing.make_index.Reads.Post)
+    (λ i. now (i .args .1 .1 .0)) (λ i o. now (o .last .1 .1 .0))
+
+-- it is lent a list and bytes
+abbrev pub compareTrees : Deed
+compareTrees =
+    record {
+      call = call difference.compare_trees.Kinds.ps difference.compare_trees.Kinds.r difference.compare_trees.Reads.Asked difference.compare_trees.Reads.Post;
+      before = λ i. now (i .args .1 .1 .1 .0) ∷ now (i .args .1 .1 .1 .1 .0) ∷ [];
+      after = λ i o. now (o .last .1 .1 .1 .0) ∷ now (o .last .1 .1 .1 .1 .0) ∷ [];
+      handed = λ i o. [];
+      said = λ i o. ofAnswer (o .answer);
+    }
+
 -- ---- trees as text
 
 abbrev pub textQuestions : List Call
 textQuestions =
     call treeText.front_of.Kinds.ps treeText.front_of.Kinds.r treeText.front_of.Reads.Asked treeText.front_of.Reads.Post
     ∷ call textForm.name_from.Kinds.ps textForm.name_from.Kinds.r textForm.name_from.Reads.Asked textForm.name_from.Reads.Post
+    ∷ call textRecord.front_mode.Kinds.ps textRecord.front_mode.Kinds.r textRecord.front_mode.Reads.Asked textRecord.front_mode.Reads.Post
+    ∷ call textRecord.name_end.Kinds.ps textRecord.name_end.Kinds.r textRecord.name_end.Reads.Asked textRecord.name_end.Reads.Post
+    ∷ call textRecord.record_number.Kinds.ps textRecord.record_number.Kinds.r textRecord.record_number.Reads.Asked textRecord.record_number.Reads.Post
+    ∷ call textRepeats.least_repeat.Kinds.ps textRepeats.least_repeat.Kinds.r textRepeats.least_repeat.Reads.Asked textRepeats.least_repeat.Reads.Post
+    ∷ call textRepeats.repeat_verdict.Kinds.ps textRepeats.repeat_verdict.Kinds.r textRepeats.repeat_verdict.Reads.Asked textRepeats.repeat_verdict.Reads.Post
     ∷ []
 
 abbrev pub exportTree : Deed
 exportTree = writes (call export.export_tree.Kinds.ps export.export_tree.Kinds.r export.export_tree.Reads.Asked export.export_tree.Reads.Post) (λ i x. x) (λ i. now (i .args .1 .1 .1 .0)) (λ i o. now (o .last .1 .1 .1 .0))
+
+abbrev pub importTree : Deed
+importTree = writes (call import.import_tree.Kinds.ps import.import_tree.Kinds.r import.import_tree.Reads.Asked import.import_tree.Reads.Post) (λ i x. x) (λ i. now (i .args .1 .1 .1 .0)) (λ i o. now (o .last .1 .1 .1 .0))
+
+abbrev pub orderList : Deed
+orderList = stores (call textRepeats.order_list.Kinds.ps textRepeats.order_list.Kinds.r textRepeats.order_list.Reads.Asked textRepeats.order_list.Reads.Post) (λ i. now (i .args .1 .0)) (λ i o. now (o .last .1 .0))
 
 -- ---- commits
 
@@ -425,9 +477,11 @@ pieceQuestions =
     call pieceJudge.meet.Kinds.ps pieceJudge.meet.Kinds.r pieceJudge.meet.Reads.Asked pieceJudge.meet.Reads.Post
     ∷ call pieceJudge.sharing.Kinds.ps pieceJudge.sharing.Kinds.r pieceJudge.sharing.Reads.Asked pieceJudge.sharing.Reads.Post
     ∷ call pieceJudge.judge.Kinds.ps pieceJudge.judge.Kinds.r pieceJudge.judge.Reads.Asked pieceJudge.judge.Reads.Post
-    ∷ call pieceStep.fresh.Kinds.ps pieceStep.fresh.Kinds.r pieceStep.fresh.Reads.Asked pieceStep.fresh.Reads.Post
-    ∷ call pieceStep.placed_at.Kinds.ps pieceStep.placed_at.Kinds.r pieceStep.placed_at.Reads.Asked pieceStep.placed_at.Reads.Post
-    ∷ call pieceStep.is_full.Kinds.ps pieceStep.is_full.Kinds.r pieceStep.is_full.Reads.Asked pieceStep.is_full.Reads.Post
+    ∷ call pieceMarks.fresh.Kinds.ps pieceMarks.fresh.Kinds.r pieceMarks.fresh.Reads.Asked pieceMarks.fresh.Reads.Post
+    ∷ call pieceMarks.placed_at.Kinds.ps pieceMarks.placed_at.Kinds.r pieceMarks.placed_at.Reads.Asked pieceMarks.placed_at.Reads.Post
+    ∷ call pieceMarks.is_full.Kinds.ps pieceMarks.is_full.Kinds.r pieceMarks.is_full.Reads.Asked pieceMarks.is_full.Reads.Post
+    ∷ call pieceMarks.over.Kinds.ps pieceMarks.over.Kinds.r pieceMarks.over.Reads.Asked pieceMarks.over.Reads.Post
+    ∷ call pieceBody.body_within.Kinds.ps pieceBody.body_within.Kinds.r pieceBody.body_within.Reads.Asked pieceBody.body_within.Reads.Post
     ∷ call pieceStep.step.Kinds.ps pieceStep.step.Kinds.r pieceStep.step.Reads.Asked pieceStep.step.Reads.Post
     ∷ []
 
@@ -438,6 +492,20 @@ wordQuestions =
     ∷ call words.id_length.Kinds.ps words.id_length.Kinds.r words.id_length.Reads.Asked words.id_length.Reads.Post
     ∷ call words.rule_set.Kinds.ps words.rule_set.Kinds.r words.rule_set.Reads.Asked words.rule_set.Reads.Post
     ∷ []
+
+-- ---- the text of a listing
+
+abbrev pub putPart : Deed
+putPart = stores (call partWords.put_part.Kinds.ps partWords.put_part.Kinds.r partWords.put_part.Reads.Asked partWords.put_part.Reads.Post) (λ i. now (i .args .0)) (λ i o. now (o .last .0))
+
+abbrev pub putListing : Deed
+putListing = record {
+  call = call listing.put_listing.Kinds.ps listing.put_listing.Kinds.r listing.put_listing.Reads.Asked listing.put_listing.Reads.Post;
+  before = λ i. now (i .args .1 .1 .0) ∷ [];
+  after = λ i o. now (o .last .1 .1 .0) ∷ [];
+  handed = λ i o. [];
+  said = λ i o. ofVerdict (o .answer .verdict);
+}
 
 -- ---- bundles and paths
 

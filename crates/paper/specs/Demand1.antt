@@ -3,10 +3,11 @@
 -- proves it. Assumes nothing.
 use mathlib.Core.Path.{_≡_}
 use mathlib.Core.List.{[], _∷_}
-use Rattle.paper.specs.Call.{EachOnce, Keeps, HandsOn}
+use Rattle.paper.specs.Call.{EachOnce, Keeps, HandsOn, Prints}
 use Rattle.paper.specs.Walked.{KeepsWalked}
 use Rattle.paper.specs.Calls as a
 use Rattle.paper.specs.Border as c
+use Rattle.paper.specs.Pieces.{OfPieces}
 use Rattle.paper.specs.Places.{Places}
 
 -- the bounds, the scans of bytes, and the lent output
@@ -46,13 +47,25 @@ pub record OfMending : Type 3 where
   pub mend-questions : EachOnce a.mendQuestions
   pub mend-tree : Keeps a.mendTree (0 ∷ 1 ∷ 2 ∷ 3 ∷ 4 ∷ 8 ∷ [])
 
+-- two trees compared: the step of their merge, an object sought and a tree opened, an index, and the call
+pub record OfDifferences : Type 3 where
+  pub difference-questions : EachOnce a.differenceQuestions
+  pub make-index : Keeps a.makeIndex (0 ∷ [])
+  pub compare-trees : Keeps a.compareTrees (0 ∷ 2 ∷ 3 ∷ 4 ∷ 5 ∷ 6 ∷ 7 ∷ 8 ∷ 17 ∷ 18 ∷ 24 ∷ 25 ∷ 27 ∷ 28 ∷ [])
+
 -- the leaves of the check in pieces, and the words of a command line
 pub record OfLeaves : Type 3 where
   pub piece-questions : EachOnce a.pieceQuestions
   pub word-questions : EachOnce a.wordQuestions
 
--- the strict reader's count by itself, the walk of an edit, and the two edits
+-- the text of a listing
+pub record OfListing : Type 3 where
+  pub put-part : Keeps a.putPart (0 ∷ [])
+  pub put-listing : Prints a.putListing (0 ∷ 1 ∷ 2 ∷ 3 ∷ [])
+
+-- the strict reader's count by itself, what is done with an entry, the walk of an edit, and the two edits
 pub record OfEdits : Type 3 where
+  pub edit-questions : EachOnce a.editQuestions
   pub count-strict : Keeps a.countStrict (0 ∷ 2 ∷ 3 ∷ 5 ∷ 6 ∷ 7 ∷ 17 ∷ 18 ∷ [])
   pub walk-tree : Keeps a.walkTree (0 ∷ [])
   pub put-in-tree : Keeps a.putInTree (0 ∷ 1 ∷ 2 ∷ 3 ∷ 5 ∷ 6 ∷ 7 ∷ 8 ∷ 10 ∷ 17 ∷ 18 ∷ 19 ∷ [])
@@ -90,10 +103,12 @@ pub record OfHex : Type 3 where
   pub id-of-hex : Keeps a.idOfHex (0 ∷ 1 ∷ 2 ∷ 8 ∷ 10 ∷ [])
   pub hex-of-id : Keeps a.hexOfId (0 ∷ 1 ∷ 2 ∷ 8 ∷ [])
 
--- a strict tree as text
+-- a strict tree as text, and from text
 pub record OfText : Type 3 where
   pub text-questions : EachOnce a.textQuestions
   pub export-tree : Keeps a.exportTree (0 ∷ 1 ∷ 2 ∷ 3 ∷ 5 ∷ 6 ∷ 7 ∷ 8 ∷ 17 ∷ 18 ∷ 19 ∷ [])
+  pub order-list : Keeps a.orderList (0 ∷ [])
+  pub import-tree : Keeps a.importTree (0 ∷ 1 ∷ 2 ∷ 5 ∷ 6 ∷ 7 ∷ 8 ∷ 17 ∷ 18 ∷ 19 ∷ 20 ∷ [])
 
 -- a commit written, its size, and the check before both
 pub record OfCommitWriting : Type 3 where
@@ -135,12 +150,14 @@ pub record OfBorder : Type 3 where
   pub id-of-hex : Keeps c.idOfHex (0 ∷ 1 ∷ 2 ∷ 8 ∷ 10 ∷ [])
   pub hex-of-id : Keeps c.hexOfId (0 ∷ 1 ∷ 2 ∷ 8 ∷ [])
   pub export-tree : Keeps c.exportTree (0 ∷ 1 ∷ 2 ∷ 3 ∷ 5 ∷ 6 ∷ 7 ∷ 8 ∷ 17 ∷ 18 ∷ 19 ∷ [])
+  pub import-tree : Keeps c.importTree (0 ∷ 1 ∷ 2 ∷ 5 ∷ 6 ∷ 7 ∷ 8 ∷ 17 ∷ 18 ∷ 19 ∷ 20 ∷ [])
   pub check-bundle : Keeps c.checkBundle (0 ∷ 2 ∷ 24 ∷ 25 ∷ [])
   pub bundle-object : Keeps c.bundleObject (0 ∷ 2 ∷ 15 ∷ [])
   pub follow-path : Keeps c.followPath (0 ∷ 2 ∷ 15 ∷ 24 ∷ 25 ∷ 26 ∷ [])
   pub put-in-tree : Keeps c.putInTree (0 ∷ 1 ∷ 2 ∷ 3 ∷ 5 ∷ 6 ∷ 7 ∷ 8 ∷ 10 ∷ 17 ∷ 18 ∷ 19 ∷ [])
   pub remove-from-tree : Keeps c.removeFromTree (0 ∷ 1 ∷ 2 ∷ 3 ∷ 5 ∷ 6 ∷ 7 ∷ 8 ∷ 15 ∷ 17 ∷ 18 ∷ 19 ∷ [])
   pub mend-tree : Keeps c.mendTree (0 ∷ 1 ∷ 2 ∷ 3 ∷ 4 ∷ 8 ∷ [])
+  pub compare-trees : Keeps c.compareTrees (0 ∷ 2 ∷ 3 ∷ 4 ∷ 5 ∷ 6 ∷ 7 ∷ 8 ∷ 17 ∷ 18 ∷ 24 ∷ 25 ∷ 27 ∷ 28 ∷ [])
   pub questions : EachOnce c.questions
   -- the functions behind them have the same contracts, so that all this holds of those too
   pub same-contracts : c.behind ≡ c.named
@@ -153,6 +170,8 @@ pub record FirstDemand : Type 3 where
   pub of-edits : OfEdits
   pub of-mending : OfMending
   pub of-leaves : OfLeaves
+  pub of-listing : OfListing
+  pub of-pieces : OfPieces
   pub of-lookup : OfLookup
   pub of-writing : OfWriting
   pub of-hex : OfHex
@@ -160,6 +179,7 @@ pub record FirstDemand : Type 3 where
   pub of-commits : OfCommits
   pub of-commit-writing : OfCommitWriting
   pub of-bundles : OfBundles
+  pub of-differences : OfDifferences
   pub of-border : OfBorder
   -- and where the places point
   pub places : Places

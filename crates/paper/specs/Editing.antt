@@ -11,6 +11,7 @@ use denote.Ref.{now}
 use Rattle.ground.specs.Basics.{pick}
 use Rattle.ground.specs.Verdict.{verdict, refused, mostBytes}
 use Rattle.ground.specs.declared.Answer.{Answer}
+use Rattle.entry.specs.Entry.{Entry}
 use Rattle.edit.specs.Table.{removeFrom, none, held, Table}
 use Rattle.edit_walk.specs.Walk.{newEntry}
 use Rattle.editing.specs.Demand.{Written, OneWriting, FromAccepted, AcceptedAgain, Change, puts, removes, nameOf, tableChanged}
@@ -35,8 +36,12 @@ abbrev pub ruleSet : Edit → ℕ
 ruleSet (put c) = c .given .args .1 .1 .0
 ruleSet (remove c) = c .given .args .1 .1 .0
 
+-- the entry that is put
+abbrev pub newOf : Run (putInTree .call) → Entry
+newOf c = newEntry (c .given .args .1 .1 .1 .0) (now (c .given .args .1 .1 .1 .1 .0)) (now (c .given .args .1 .1 .1 .1 .1 .0))
+
 abbrev pub change : Edit → Change
-change (put c) = puts (newEntry (c .given .args .1 .1 .1 .0) (now (c .given .args .1 .1 .1 .1 .0)) (now (c .given .args .1 .1 .1 .1 .1 .0)))
+change (put c) = puts (newOf c)
 change (remove c) = removes (now (c .given .args .1 .1 .1 .0))
 
 -- what it comes to: the answer, and the output
@@ -73,6 +78,13 @@ unfoldable pub lastTable : Table → List Edit → Table
 lastTable t [] = t
 lastTable t (e ∷ es) = lastTable (tableLeft e t) es
 
+-- a removal of the name that was put, handed what the put left
+pub record Follows (c : Run (putInTree .call)) (d : Run (removeFromTree .call)) : Type 0 where
+  pub same-object : object (remove d) ≡ left (put c)
+  pub same-id : idLength (remove d) ≡ idLength (put c)
+  pub same-rules : ruleSet (remove d) ≡ ruleSet (put c)
+  pub same-name : nameOf (change (remove d)) ≡ newOf c .name
+
 pub record Edits : Type 0 where
   -- a table is written in one way only
   pub one-writing : OneWriting
@@ -88,3 +100,10 @@ pub record Edits : Type 0 where
   pub missing : (c : Run (removeFromTree .call)) (t : Table) → Written (ruleSet (remove c)) (idLength (remove c)) t (object (remove c))
       → length (now (c .given .args .1 .1 .1 .0)) ≤ mostBytes → length (now (c .given .args .1 .1 .1 .1 .0)) ≤ mostBytes
       → (c .came .answer ≡ refused (verdict 15 0)) ↔ (t (now (c .given .args .1 .1 .1 .0)) ≡ none)
+  -- a put of what is there gives the object, byte for byte
+  pub same-put : (c : Run (putInTree .call)) (t : Table) → Written (ruleSet (put c)) (idLength (put c)) t (object (put c))
+      → t (newOf c .name) ≡ held (newOf c .mode) (newOf c .id) → c .came .answer .verdict .number ≡ 0 → left (put c) ≡ object (put c)
+  -- a put of a new name, and the removal of that name from what it left, give the object back
+  pub there-and-back : (c : Run (putInTree .call)) (d : Run (removeFromTree .call)) (t : Table)
+      → Written (ruleSet (put c)) (idLength (put c)) t (object (put c)) → t (newOf c .name) ≡ none → Follows c d
+      → c .came .answer .verdict .number ≡ 0 → d .came .answer .verdict .number ≡ 0 → left (remove d) ≡ object (put c)

@@ -2,6 +2,8 @@ pub mod Call
 pub mod Walked
 pub mod Calls
 pub mod Border
+pub mod Arrives
+pub mod Pieces
 pub mod Places
 pub mod Demand1
 pub mod Sentences
@@ -9,5 +11,5 @@ pub mod Demand2
 pub mod Demand3
 pub mod Rewriting
 pub mod Many
-pub mod Arrives
 pub mod Editing
+pub mod Mended

@@ -1,220 +1,104 @@
-// The calls of commits.list, as trees.rt has those of trees.list.
-use crate::cases::BYTE;
-use crate::cases::BYTES;
-use crate::cases::Mark;
-use crate::cases::NUMBER;
+// The calls on commits, as trees.rt has those on trees.
+use crate::cases::ANSWERS;
+use crate::cases::GIVEN;
 use crate::cases::NUMBERS;
-use crate::cases::bytes_at;
-use crate::cases::front;
-use crate::cases::number_at;
-use crate::cases::numbers_at;
-use crate::cases::past_bytes;
-use commit_read::CommitRead;
-use commit_read::read_commit;
-use commit_write::commit_size;
-use commit_write::write_commit;
-use header::CommitParts;
-use header::HEADER_WIDTH;
-use header::HeaderRecord;
-use unfold::unfold;
-ghost use Prim.Native.Nat.{_<_};
+use crate::cases::behind;
+use crate::cases::front_numbers;
+use crate::cases::given;
+use crate::cases::set_number;
+use crate::cases::set_numbers;
+use crate::cases::tell_four;
 
-// The next three numbers are the verdict and the field.
-fn refusal(m: Mark, s: &[u8], a: CommitRead) -> Mark {
-    let v = a.verdict;
-    m.number(s, v.number).number(s, v.place).number(s, a.field)
+fn tell_sixteen(told: &mut [usize], x: &[usize; 16]) {
+    set_numbers(told, 0, x);
 }
 
-// The next ten numbers are where the parts stand.
-fn parts(m: Mark, s: &[u8], p: CommitParts) -> Mark {
-    m.number(s, p.tree)
-        .number(s, p.author_start)
-        .number(s, p.author_end)
-        .number(s, p.committer_start)
-        .number(s, p.committer_end)
-        .number(s, p.encoding)
-        .number(s, p.encoding_start)
-        .number(s, p.encoding_end)
-        .number(s, p.message_start)
-        .number(s, p.message_end)
+// 17: a commit, read.
+fn read_commit(n: &[usize], a: &[u8], p: &mut [usize], q: &mut [usize], answer: &mut [usize]) {
+    let mut all = [0usize; 16];
+    border_commit::read_commit(a, given(n, 0), p, q, &mut all);
+    tell_sixteen(answer, &all);
 }
 
-// The list that comes next has so many records of so many numbers.
-fn records(m: Mark, s: &[u8], count: usize, width: usize) -> Mark
-    requires { ⌜ 0 < width ⌝ }
-{
-    let n = number_at(s, m.at);
-    m.holds(n.value / width == count)
-        .holds(n.value % width == 0)
+// 18: a header's value, unfolded.
+fn unfold(n: &[usize], a: &[u8], out: &mut [u8], answer: &mut [usize]) {
+    let mut header = [0usize; 5];
+    let mut four = [0usize; 4];
+    set_numbers(&mut header, 0, n);
+    border_commit::unfold_value(a, &header, out, &mut four);
+    tell_four(answer, &four);
 }
 
-// The answer of a reading that is lent the fronts of two lists; more than there are cannot be lent.
-fn read_in_room(
-    m: Mark,
-    s: &[u8],
-    object: &[u8],
-    h: usize,
-    parents: &mut [usize],
-    np: usize,
-    headers: &mut [usize],
-    nh: usize,
-) -> Mark {
-    if parents.len() < np {
-        return m.holds(false);
+// The parts of a commit, which stand behind its length of ids.
+fn parts_of(n: &[usize]) -> [usize; 10] {
+    let mut parts = [0usize; 10];
+    if n.len() <= 1 {
+        return parts;
     }
-    if headers.len() < nh {
-        return m.holds(false);
-    }
-    let a = read_commit(object, h, &mut parents[0..np], &mut headers[0..nh]);
-    let p = a.parts;
-    let answered = parts(refusal(m, s, a), s, p);
-    let first = records(answered, s, a.parents, 1).stored(s, parents);
-    records(first, s, a.headers, HEADER_WIDTH).stored(s, headers)
+    set_numbers(&mut parts, 0, &n[1..]);
+    parts
 }
 
-// 1: a commit, read.
-fn commit_reading(s: &[u8], at: usize) -> Mark {
-    let mut parents = [NUMBER; NUMBERS];
-    let mut headers = [NUMBER; NUMBERS];
-    let h = number_at(s, at);
-    let object = bytes_at(s, h.next);
-    let np = number_at(s, past_bytes(s, h.next));
-    let nh = number_at(s, np.next);
-    let m = Mark::from(nh.next);
-    read_in_room(
-        m,
-        s,
-        object,
-        h.value,
-        &mut parents,
-        np.value,
-        &mut headers,
-        nh.value,
-    )
+// 19: a commit's size, from its parts.
+fn commit_size(n: &[usize], a: &[u8], x: &[usize], y: &[usize], answer: &mut [usize]) {
+    let mut four = [0usize; 4];
+    let parts = parts_of(n);
+    border_commit_write::commit_size(a, given(n, 0), &parts, x, y, &mut four);
+    tell_four(answer, &four);
 }
 
-fn unfold_in_room(
-    m: Mark,
-    s: &[u8],
-    bytes: &[u8],
-    x: HeaderRecord,
-    lent: &mut [u8],
-    room: usize,
-) -> Mark {
-    if lent.len() < room {
-        return m.holds(false);
-    }
-    let a = unfold(bytes, x, &mut lent[0..room]);
-    m.answer(s, a)
+// 20: its bytes.
+fn write_commit(
+    n: &[usize],
+    a: &[u8],
+    x: &[usize],
+    y: &[usize],
+    out: &mut [u8],
+    answer: &mut [usize],
+) {
+    let mut four = [0usize; 4];
+    let parts = parts_of(n);
+    border_commit_write::write_commit(a, given(n, 0), &parts, x, y, out, &mut four);
+    tell_four(answer, &four);
 }
 
-// 2: a header's value, unfolded.
-fn unfolding(s: &[u8], at: usize) -> Mark {
-    let mut lent = [BYTE; BYTES];
-    let bytes = bytes_at(s, at);
-    let name_start = number_at(s, past_bytes(s, at));
-    let name_end = number_at(s, name_start.next);
-    let value_start = number_at(s, name_end.next);
-    let value_end = number_at(s, value_start.next);
-    let mark = number_at(s, value_end.next);
-    let room = number_at(s, mark.next);
-    let x = HeaderRecord {
-        name_start: name_start.value,
-        name_end: name_end.value,
-        value_start: value_start.value,
-        value_end: value_end.value,
-        mark: mark.value,
-    };
-    unfold_in_room(Mark::from(room.next), s, bytes, x, &mut lent, room.value).written(s, &lent)
+// 21: a commit, read and written again as it was read.
+fn rewrite(n: &[usize], a: &[u8], out: &mut [u8], answer: &mut [usize]) {
+    let mut p = [0usize; NUMBERS];
+    let mut q = [0usize; NUMBERS];
+    let mut all = [0usize; ANSWERS];
+    let mut parts = [0usize; GIVEN];
+    read_commit(n, a, &mut p, &mut q, &mut all);
+    let parents = given(&all, 4);
+    let headers = given(&all, 5) % 206 * 5;
+    set_number(&mut parts, 0, given(n, 0));
+    set_numbers(&mut parts, 1, behind(&all, 6));
+    write_commit(
+        &parts,
+        a,
+        front_numbers(&p, parents),
+        front_numbers(&q, headers),
+        out,
+        answer,
+    );
 }
 
-// Where the parts of a commit to be written stand, and the place after those ten numbers.
-struct PartsRead {
-    parts: CommitParts,
-    next: usize,
-}
-
-fn parts_at(s: &[u8], at: usize) -> PartsRead {
-    let tree = number_at(s, at);
-    let author_start = number_at(s, tree.next);
-    let author_end = number_at(s, author_start.next);
-    let committer_start = number_at(s, author_end.next);
-    let committer_end = number_at(s, committer_start.next);
-    let encoding = number_at(s, committer_end.next);
-    let encoding_start = number_at(s, encoding.next);
-    let encoding_end = number_at(s, encoding_start.next);
-    let message_start = number_at(s, encoding_end.next);
-    let message_end = number_at(s, message_start.next);
-    PartsRead {
-        parts: CommitParts {
-            tree: tree.value,
-            author_start: author_start.value,
-            author_end: author_end.value,
-            committer_start: committer_start.value,
-            committer_end: committer_end.value,
-            encoding: encoding.value,
-            encoding_start: encoding_start.value,
-            encoding_end: encoding_end.value,
-            message_start: message_start.value,
-            message_end: message_end.value,
-        },
-        next: message_end.next,
-    }
-}
-
-fn write_in_room(
-    m: Mark,
-    s: &[u8],
-    bytes: &[u8],
-    h: usize,
-    parts: CommitParts,
-    parents: &[usize],
-    headers: &[usize],
-    lent: &mut [u8],
-    room: usize,
-) -> Mark {
-    if lent.len() < room {
-        return m.holds(false);
-    }
-    let a = write_commit(bytes, h, parts, parents, headers, &mut lent[0..room]);
-    m.answer(s, a)
-}
-
-// 3: a commit's size and its bytes, from its parts.
-fn commit_writing(s: &[u8], at: usize) -> Mark {
-    let mut first = [0usize; NUMBERS];
-    let mut second = [0usize; NUMBERS];
-    let mut lent = [BYTE; BYTES];
-    let h = number_at(s, at);
-    let bytes = bytes_at(s, h.next);
-    let np = numbers_at(s, past_bytes(s, h.next), &mut first);
-    let nh = numbers_at(s, np.next, &mut second);
-    let read = parts_at(s, nh.next);
-    let room = number_at(s, read.next);
-    let parts = read.parts;
-    let parents = front(&first, np.count);
-    let headers = front(&second, nh.count);
-    let size = commit_size(bytes, h.value, parts, parents, headers);
-    let m = Mark::from(room.next).answer(s, size);
-    write_in_room(
-        m,
-        s,
-        bytes,
-        h.value,
-        parts,
-        parents,
-        headers,
-        &mut lent,
-        room.value,
-    ).written(s, &lent)
-}
-
-// A case of a call, from the place after the call's number; where there is no such call, nothing is read.
-pub fn commit_case(call: usize, s: &[u8]) -> Mark {
+pub fn commit_call(
+    call: usize,
+    n: &[usize],
+    a: &[u8],
+    x: &[usize],
+    y: &[usize],
+    out: &mut [u8],
+    p: &mut [usize],
+    q: &mut [usize],
+    answer: &mut [usize],
+) {
     match call {
-        1 => commit_reading(s, 1),
-        2 => unfolding(s, 1),
-        3 => commit_writing(s, 1),
-        _ => Mark { at: 0, good: false },
+        17 => read_commit(n, a, p, q, answer),
+        18 => unfold(n, a, out, answer),
+        19 => commit_size(n, a, x, y, answer),
+        20 => write_commit(n, a, x, y, out, answer),
+        _ => rewrite(n, a, out, answer),
     }
 }

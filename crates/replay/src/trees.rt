@@ -1,405 +1,303 @@
-// The calls of trees.list: each reads what goes in, calls the library, and holds every answer against what has to come out.
-use crate::cases::BYTE;
+// The calls on modes, names, trees and ids, as C has them: `given` are a case's numbers behind its rooms.
 use crate::cases::BYTES;
-use crate::cases::Mark;
-use crate::cases::NUMBER;
-use crate::cases::NUMBERS;
-use crate::cases::bytes_at;
-use crate::cases::front;
-use crate::cases::number_at;
-use crate::cases::numbers_at;
-use crate::cases::past_bytes;
-use crate::cases::same_numbers;
-use entry::Cursor;
+use crate::cases::given;
+use crate::cases::set_number;
+use crate::cases::set_numbers;
+use crate::cases::tell_five;
+use crate::cases::tell_four;
 use entry::EntryRecord;
 use entry::entry_at;
-use ground::Answer;
-use ground::Verdict;
-use lookup::bisect_entry;
-use loose_header::loose_header;
 use mode::EntryMode;
 use mode::ModeRead;
-use mode_table::EntryKind;
-use mode_text::ShortText;
-use order::Order;
-use order::name_order;
 use output::put;
-use reading::read_tree;
-use scan::same_bytes;
-use strict::read_tree_strict;
-use tree_write::tree_size;
-use tree_write::write_tree;
-ghost use Prim.Native.Nat.{_≤_};
+use record_slice::ROOM;
+use record_slice::bisect_array;
+use std::num::wrapping_add_usize;
 
-// A mode with the place of the rest, both 0 where none was read.
-struct Taken {
-    mode: usize,
-    rest: usize,
-}
-
-fn mode_taken(r: ModeRead) -> Taken {
-    match r {
-        ModeRead::Mode(m, rest) => {
-            let mode = m.internal as usize;
-            Taken { mode, rest }
-        }
-        ModeRead::Bad => Taken { mode: 0, rest: 0 },
+// Where the rest begins behind a mode text that an entry begins with, and 0 where there is none.
+fn rest(text: &[u8]) -> usize {
+    match EntryMode::extract_at(text, 0) {
+        ModeRead::Mode(_, rest) => rest,
+        ModeRead::Bad => 0,
     }
 }
 
 // 1: a mode text, read alone and as the front of an entry.
-fn mode_text(s: &[u8], at: usize) -> Mark {
-    let text = bytes_at(s, at);
-    let a = EntryMode::from_bytes(text);
-    let v = a.verdict;
-    let m = a.mode;
-    let mode = m.internal as usize;
-    let t = mode_taken(EntryMode::extract_at(text, 0));
-    Mark::from(past_bytes(s, at))
-        .number(s, v.number)
-        .number(s, mode)
-        .number(s, t.rest)
-        .holds(v.place == 0)
-        .holds(v.part == worth(v.number == 3, 1))
-        .holds(t.mode == mode)
+fn mode_text(a: &[u8], answer: &mut [usize]) {
+    let mut four = [0usize; 4];
+    border_mode::mode_read(a, &mut four);
+    tell_four(answer, &four);
+    set_number(answer, 4, rest(a));
 }
 
-fn kind_number(k: EntryKind) -> usize {
-    match k {
-        EntryKind::Tree => 0,
-        EntryKind::Blob => 1,
-        EntryKind::BlobExecutable => 2,
-        EntryKind::Link => 3,
-        EntryKind::Commit => 4,
-    }
+// The seven answers of a mode.
+fn tell_seven(told: &mut [usize], x: &[usize; 7]) {
+    set_numbers(told, 0, x);
 }
 
-// n for a yes, 0 for a no.
-fn worth(yes: bool, n: usize) -> usize
-    ensures { λ r. ⌜ r ≤ n ⌝ }
-{
-    if yes { n } else { 0 }
+// Six bytes at a place of an output.
+fn put_six(out: &mut [u8], at: usize, x: &[u8; 6]) {
+    put(out, at, x);
 }
 
-fn questions(m: EntryMode) -> usize {
-    worth(m.is_tree(), 1)
-        + worth(m.is_commit(), 2)
-        + worth(m.is_link(), 4)
-        + worth(m.is_no_tree(), 8)
-        + worth(m.is_blob(), 16)
-        + worth(m.is_executable(), 32)
-        + worth(m.is_blob_or_symlink(), 64)
+// The questions to a mode, its value and its kind.
+fn mode_numbers(mode: u16, answer: &mut [usize]) {
+    let mut seven = [0usize; 7];
+    border_mode::mode_ask(mode, &mut seven);
+    tell_seven(answer, &seven);
+    set_number(answer, 7, border_mode::mode_value(mode) as usize);
+    set_number(answer, 8, border_mode::mode_kind(mode) as usize);
 }
 
-// The next bytes are a short text, whose other bytes are 0.
-fn text(m: Mark, s: &[u8], t: ShortText) -> Mark {
-    let at = m.at;
-    let all = t.bytes;
-    let right = bytes_at(s, at);
-    let mut want = [0u8; 6];
-    put(&mut want, 0, right);
-    Mark {
-        at: past_bytes(s, at),
-        good: m.good,
-    }
-        .holds(t.len == right.len())
-        .holds(same_bytes(&all, &want))
+// Its text and its word, six bytes each, and how long they are.
+fn mode_words(mode: u16, out: &mut [u8], answer: &mut [usize]) {
+    let mut text = [0u8; 6];
+    let mut word = [0u8; 6];
+    set_number(answer, 9, border_mode::mode_text(mode, &mut text));
+    set_number(answer, 10, border_mode::mode_word(mode, &mut word));
+    put_six(out, 0, &text);
+    put_six(out, 6, &word);
 }
 
 // 2: what a mode answers.
-fn mode_asked(s: &[u8], at: usize) -> Mark {
-    let n = number_at(s, at);
-    let m = EntryMode {
-        internal: (n.value % 65536) as u16,
-    };
-    let asked = Mark::from(n.next)
-        .number(s, m.value() as usize)
-        .number(s, kind_number(m.kind()))
-        .number(s, questions(m));
-    text(text(asked, s, m.as_bytes()), s, m.as_str())
+fn mode_asked(n: &[usize], out: &mut [u8], answer: &mut [usize]) {
+    let mode = (given(n, 0) % 65536) as u16;
+    mode_numbers(mode, answer);
+    mode_words(mode, out, answer);
 }
 
 // 3: a mode from a 32-bit number.
-fn mode_from_number(s: &[u8], at: usize) -> Mark {
-    let n = number_at(s, at);
-    let a = EntryMode::from_u32((n.value % 4294967296) as u32);
-    let v = a.verdict;
-    let m = a.mode;
-    Mark::from(n.next)
-        .number(s, v.number)
-        .number(s, m.internal as usize)
-        .holds(v.place == 0)
+fn mode_from_number(n: &[usize], answer: &mut [usize]) {
+    let mut four = [0usize; 4];
+    border_mode::mode_from_number((given(n, 0) % 4294967296) as u32, &mut four);
+    tell_four(answer, &four);
 }
 
 // 0 for below, 1 for the same, 2 for above.
-fn order_number(o: Order) -> usize {
-    let n = o.number();
-    if n == -1 {
-        0
-    } else if n == 0 {
-        1
-    } else if n == 1 {
-        2
-    } else {
-        3
+fn order_number(o: i8) -> usize {
+    if o == 0 {
+        return 1;
     }
+    if o == 1 {
+        return 2;
+    }
+    0
 }
 
 // 4: two names, each with whether it is a tree's.
-fn names_compared(s: &[u8], at: usize) -> Mark {
-    let a = bytes_at(s, at);
-    let atree = number_at(s, past_bytes(s, at));
-    let b = bytes_at(s, atree.next);
-    let btree = number_at(s, past_bytes(s, atree.next));
-    let o = name_order(a, atree.value != 0, b, btree.value != 0);
-    Mark::from(btree.next).number(s, order_number(o))
+fn name_order(n: &[usize], a: &[u8], b: &[u8], answer: &mut [usize]) {
+    let o = border_lookup::name_order(a, given(n, 0) != 0, b, given(n, 1) != 0);
+    set_number(answer, 0, order_number(o));
 }
 
-// The answer of a reader that is lent the front of some numbers; more than there are cannot be lent.
-fn read_in_room(
-    m: Mark,
-    s: &[u8],
-    object: &[u8],
-    h: usize,
-    lent: &mut [usize],
-    room: usize,
-) -> Mark {
-    if lent.len() < room {
-        return m.holds(false);
-    }
-    let a = read_tree(object, h, &mut lent[0..room]);
-    m.reading(s, a)
+// 5: a tree, read plainly.
+fn read_tree(n: &[usize], a: &[u8], p: &mut [usize], answer: &mut [usize]) {
+    let mut four = [0usize; 4];
+    border_tree::read_tree(a, given(n, 0), p, &mut four);
+    tell_four(answer, &four);
 }
 
-fn read_strictly_in_room(
-    m: Mark,
-    s: &[u8],
-    object: &[u8],
-    h: usize,
-    rules: u16,
-    lent: &mut [usize],
-    room: usize,
-) -> Mark {
-    if lent.len() < room {
-        return m.holds(false);
-    }
-    let a = read_tree_strict(object, h, rules, &mut lent[0..room]);
-    m.reading(s, a)
+// 6: the same, strictly.
+fn read_strictly(n: &[usize], a: &[u8], p: &mut [usize], answer: &mut [usize]) {
+    let mut four = [0usize; 4];
+    let rules = (given(n, 1) % 65536) as u16;
+    border_tree::read_tree_strict(a, given(n, 0), rules, p, &mut four);
+    tell_four(answer, &four);
 }
 
-fn read(m: Mark, s: &[u8], object: &[u8], h: usize, room: usize) -> Mark {
-    let mut lent = [NUMBER; NUMBERS];
-    read_in_room(m, s, object, h, &mut lent, room).stored(s, &lent)
+// Whether a step found an entry, and where the next one starts.
+struct Stepped {
+    found: bool,
+    next: usize,
 }
 
-// The list at a place, to the front of what is lent, where a number is 0.
-fn numbers_where_done(number: usize, s: &[u8], at: usize, out: &mut [usize]) {
-    if number == 0 {
-        numbers_at(s, at, out);
+fn step_of(ten: &[usize; 10]) -> Stepped {
+    Stepped {
+        found: ten[3] != 0,
+        next: ten[4],
     }
 }
 
-// Where this is done, the records are those of the plain reading, which stand in the list at a place.
-fn read_strictly(
-    m: Mark,
-    s: &[u8],
-    object: &[u8],
-    h: usize,
-    rules: u16,
-    room: usize,
-    records: usize,
-) -> Mark {
-    let mut lent = [NUMBER; NUMBERS];
-    let mut want = [NUMBER; NUMBERS];
-    let number = number_at(s, m.at);
-    numbers_where_done(number.value, s, records, &mut want);
-    read_strictly_in_room(m, s, object, h, rules, &mut lent, room).holds(same_numbers(&lent, &want))
+// The record that a step found, stored from a place on.
+fn set_record(p: &mut [usize], to: usize, ten: &[usize; 10]) {
+    set_numbers(p, to, &[ten[5], ten[6], ten[7], ten[8], ten[9]]);
 }
 
-// A cursor that went over an object until it found no entry: how many it found, whether they were the records wanted, the last
-// verdict, and where it then stood.
+fn step(a: &[u8], h: usize, at: usize, p: &mut [usize], to: usize) -> Stepped {
+    let mut ten = [0usize; 10];
+    border_tree::tree_step(a, h, at, &mut ten);
+    let s = step_of(&ten);
+    if s.found {
+        set_record(p, to, &ten);
+    }
+    s
+}
+
+// How many steps from a place on found an entry, and where the next one starts.
 struct Walked {
     found: usize,
-    same: bool,
-    verdict: Verdict,
-    end: usize,
+    at: usize,
 }
 
-fn same_record(a: EntryRecord, b: EntryRecord) -> bool {
-    a.mode == b.mode
-        && a.name_start == b.name_start
-        && a.name_end == b.name_end
-        && a.id_start == b.id_start
-        && a.text_start == b.text_start
-}
-
-fn walk(object: &[u8], h: usize, want: &[usize]) -> Walked {
-    let mut c = Cursor { at: 0 };
+fn steps(a: &[u8], h: usize, from: usize, p: &mut [usize]) -> Walked {
+    let mut at = from;
+    let mut to: usize = 0;
     let mut found: usize = 0;
-    let mut same = true;
-    while found < object.len() {
-        let step = c.step(object, h);
-        if !step.found {
-            break;
+    while found < BYTES {
+        let s = step(a, h, at, p, to);
+        if !s.found {
+            return Walked { found, at };
         }
-        same = same && same_record(step.entry, entry_at(want, found));
-        c = step.next;
+        at = s.next;
+        to = wrapping_add_usize(to, 5);
         found += 1;
     }
-    let last = c.step(object, h);
-    let verdict = last.verdict;
-    let next = last.next;
-    Walked {
-        found,
-        same: same && !last.found,
-        verdict,
-        end: next.at,
+    Walked { found, at }
+}
+
+fn tell_ten(told: &mut [usize], x: &[usize; 10]) {
+    set_numbers(told, 0, x);
+}
+
+// 7: the same by steps, from one entry to the next, until one finds none: that step's answer, and how many found one.
+fn walk(n: &[usize], a: &[u8], p: &mut [usize], answer: &mut [usize]) {
+    let mut ten = [0usize; 10];
+    let h = given(n, 0);
+    let w = steps(a, h, given(n, 1), p);
+    border_tree::tree_step(a, h, w.at, &mut ten);
+    tell_ten(answer, &ten);
+    set_number(answer, 10, w.found);
+}
+
+// 8: a name sought by halving.
+fn bisect_entry(n: &[usize], a: &[u8], b: &[u8], x: &[usize], answer: &mut [usize]) {
+    let mut five = [0usize; 5];
+    border_lookup::bisect_entry(a, given(n, 0), x, b, given(n, 1) != 0, &mut five);
+    tell_five(answer, &five);
+}
+
+// The records as structs, as far as an array has room.
+fn structs_of(x: &[usize]) -> [EntryRecord; ROOM] {
+    let none = entry_at(x, x.len());
+    let mut all = [none; ROOM];
+    let mut i: usize = 0;
+    while i < ROOM {
+        all[i] = entry_at(x, i);
+        i += 1;
     }
+    all
 }
 
-// Whether a cursor over len bytes went as a plain reading with this answer.
-fn went_as(w: Walked, len: usize, a: Answer) -> bool {
-    let v = w.verdict;
-    let right = a.verdict;
-    if right.number == 0 {
-        return v.number == 0 && w.end == len && w.found == a.count && w.same;
-    }
-    if right.number == 4 {
-        return v.number == 0 && w.end == len && w.found == right.place;
-    }
-    if right.number == 1 {
-        return v.number == 1 && w.end == 0 && w.found == 0;
-    }
-    v.number == right.number && v.place == right.place && v.part == right.part && w.end == len
+// 9: the same among records that are structs.
+fn bisect_structs(n: &[usize], a: &[u8], b: &[u8], x: &[usize], answer: &mut [usize]) {
+    let all = structs_of(x);
+    let l = bisect_array(a, given(n, 0), x.len() / 5, all, b, given(n, 1) != 0);
+    let v = l.verdict;
+    set_number(answer, 0, v.number);
+    set_number(answer, 1, v.place);
+    set_number(answer, 2, v.part);
+    set_number(answer, 3, l.index);
+    set_number(answer, 4, l.compared);
 }
 
-// The answer that stands in the list at a place.
-fn answer_at(s: &[u8], at: usize) -> Answer {
-    let number = number_at(s, at);
-    let place = number_at(s, number.next);
-    let part = number_at(s, place.next);
-    let count = number_at(s, part.next);
-    Answer {
-        verdict: Verdict {
-            number: number.value,
-            place: place.value,
-            part: part.value,
-        },
-        count: count.value,
-    }
+// 10: a name sought whatever its sort.
+fn bisect_any(n: &[usize], a: &[u8], b: &[u8], x: &[usize], answer: &mut [usize]) {
+    let mut five = [0usize; 5];
+    border_lookup::bisect_any(a, given(n, 0), x, b, &mut five);
+    tell_five(answer, &five);
 }
 
-// The cursor against the plain reading, whose answer and records stand in the list at two places.
-fn step(m: Mark, s: &[u8], object: &[u8], h: usize, answer: usize, records: usize) -> Mark {
-    let mut want = [NUMBER; NUMBERS];
-    numbers_at(s, records, &mut want);
-    let w = walk(object, h, &want);
-    m.holds(went_as(w, object.len(), answer_at(s, answer)))
+// 11: many names sought.
+fn bisect_entries(
+    n: &[usize],
+    a: &[u8],
+    b: &[u8],
+    x: &[usize],
+    y: &[usize],
+    p: &mut [usize],
+    answer: &mut [usize],
+) {
+    let mut four = [0usize; 4];
+    border_lookup::bisect_entries(a, given(n, 0), x, b, y, p, &mut four);
+    tell_four(answer, &four);
 }
 
-// Where the list of records stands that follows an answer at a place.
-fn past_answer(s: &[u8], at: usize) -> usize {
-    let number = number_at(s, at);
-    let place = number_at(s, number.next);
-    let part = number_at(s, place.next);
-    let count = number_at(s, part.next);
-    count.next
+// 12: an object's size, from records.
+fn tree_size(n: &[usize], a: &[u8], x: &[usize], answer: &mut [usize]) {
+    let mut four = [0usize; 4];
+    border_tree_write::tree_size(a, given(n, 0), x, &mut four);
+    tell_four(answer, &four);
 }
 
-// 5: an object read plainly, strictly, and by a cursor.
-fn tree_reading(s: &[u8], at: usize) -> Mark {
-    let h = number_at(s, at);
-    let object = bytes_at(s, h.next);
-    let room = number_at(s, past_bytes(s, h.next));
-    let set = number_at(s, room.next);
-    let rules = (set.value % 65536) as u16;
-    let records = past_answer(s, set.next);
-    let plain = read(Mark::from(set.next), s, object, h.value, room.value);
-    let strict = read_strictly(plain, s, object, h.value, rules, room.value, records);
-    step(strict, s, object, h.value, set.next, records)
+// 13: its bytes.
+fn write_tree(n: &[usize], a: &[u8], x: &[usize], out: &mut [u8], answer: &mut [usize]) {
+    let mut four = [0usize; 4];
+    border_tree_write::write_tree(a, given(n, 0), x, out, &mut four);
+    tell_four(answer, &four);
 }
 
-// 6: a name sought by halving.
-fn looking_up(s: &[u8], at: usize) -> Mark {
-    let mut records = [0usize; NUMBERS];
-    let h = number_at(s, at);
-    let object = bytes_at(s, h.next);
-    let n = numbers_at(s, past_bytes(s, h.next), &mut records);
-    let name = bytes_at(s, n.next);
-    let folder = number_at(s, past_bytes(s, n.next));
-    let a = bisect_entry(
-        object,
-        h.value,
-        front(&records, n.count),
-        name,
-        folder.value != 0,
-    );
-    let v = a.verdict;
-    Mark::from(folder.next)
-        .number(s, v.number)
-        .number(s, v.place)
-        .number(s, a.index)
-        .number(s, a.compared)
+// 14: the header of a loose object.
+fn loose_header(n: &[usize], out: &mut [u8], answer: &mut [usize]) {
+    let mut four = [0usize; 4];
+    border_tree_write::loose_header(given(n, 0), given(n, 1) as u64, out, &mut four);
+    tell_four(answer, &four);
 }
 
-fn write_in_room(
-    m: Mark,
-    s: &[u8],
-    bytes: &[u8],
-    h: usize,
-    records: &[usize],
-    lent: &mut [u8],
-    room: usize,
-) -> Mark {
-    if lent.len() < room {
-        return m.holds(false);
-    }
-    let a = write_tree(bytes, h, records, &mut lent[0..room]);
-    m.answer(s, a)
+// 15: the id that some digits say.
+fn id_of_hex(a: &[u8], out: &mut [u8], answer: &mut [usize]) {
+    let mut four = [0usize; 4];
+    border_hex::id_of_hex(a, out, &mut four);
+    tell_four(answer, &four);
 }
 
-// 7: an object's size and its bytes, from records.
-fn tree_writing(s: &[u8], at: usize) -> Mark {
-    let mut list = [0usize; NUMBERS];
-    let mut lent = [BYTE; BYTES];
-    let h = number_at(s, at);
-    let bytes = bytes_at(s, h.next);
-    let n = numbers_at(s, past_bytes(s, h.next), &mut list);
-    let room = number_at(s, n.next);
-    let records = front(&list, n.count);
-    let size = Mark::from(room.next).answer(s, tree_size(bytes, h.value, records));
-    write_in_room(size, s, bytes, h.value, records, &mut lent, room.value).written(s, &lent)
+// 16: the digits of an id.
+fn hex_of_id(a: &[u8], out: &mut [u8], answer: &mut [usize]) {
+    let mut four = [0usize; 4];
+    border_hex::hex_of_id(a, out, &mut four);
+    tell_four(answer, &four);
 }
 
-fn head_in_room(m: Mark, s: &[u8], kind: usize, size: usize, lent: &mut [u8], room: usize) -> Mark {
-    if lent.len() < room {
-        return m.holds(false);
-    }
-    let a = loose_header(kind, size as u64, &mut lent[0..room]);
-    m.answer(s, a)
-}
-
-// 8: the header of a loose object.
-fn heading(s: &[u8], at: usize) -> Mark {
-    let mut lent = [BYTE; BYTES];
-    let kind = number_at(s, at);
-    let size = number_at(s, kind.next);
-    let room = number_at(s, size.next);
-    let m = Mark::from(room.next);
-    head_in_room(m, s, kind.value, size.value, &mut lent, room.value).written(s, &lent)
-}
-
-// A case of a call, from the place after the call's number; where there is no such call, nothing is read.
-pub fn tree_case(call: usize, s: &[u8]) -> Mark {
+// The calls that are lent no list.
+pub fn name_call(
+    call: usize,
+    n: &[usize],
+    a: &[u8],
+    b: &[u8],
+    x: &[usize],
+    out: &mut [u8],
+    answer: &mut [usize],
+) {
     match call {
-        1 => mode_text(s, 1),
-        2 => mode_asked(s, 1),
-        3 => mode_from_number(s, 1),
-        4 => names_compared(s, 1),
-        5 => tree_reading(s, 1),
-        6 => looking_up(s, 1),
-        7 => tree_writing(s, 1),
-        8 => heading(s, 1),
-        _ => Mark { at: 0, good: false },
+        1 => mode_text(a, answer),
+        2 => mode_asked(n, out, answer),
+        3 => mode_from_number(n, answer),
+        4 => name_order(n, a, b, answer),
+        8 => bisect_entry(n, a, b, x, answer),
+        9 => bisect_structs(n, a, b, x, answer),
+        10 => bisect_any(n, a, b, x, answer),
+        12 => tree_size(n, a, x, answer),
+        13 => write_tree(n, a, x, out, answer),
+        14 => loose_header(n, out, answer),
+        15 => id_of_hex(a, out, answer),
+        _ => hex_of_id(a, out, answer),
+    }
+}
+
+// Those that are lent one.
+pub fn list_call(
+    call: usize,
+    n: &[usize],
+    a: &[u8],
+    b: &[u8],
+    x: &[usize],
+    y: &[usize],
+    p: &mut [usize],
+    answer: &mut [usize],
+) {
+    match call {
+        5 => read_tree(n, a, p, answer),
+        6 => read_strictly(n, a, p, answer),
+        7 => walk(n, a, p, answer),
+        _ => bisect_entries(n, a, b, x, y, p, answer),
     }
 }

@@ -22,16 +22,20 @@ ghost use Rattle.lookups.specs.Many.{answersAfter};
 ghost use Rattle.border_lookup.specs.Border.{lookupAmong, anyAmong, manyAnswered, lookedNumbers};
 ghost use Rattle.border_hex.specs.Border.{idAnswered, idOutput, hexAnswered, hexOutput};
 ghost use Rattle.border_tree_write.specs.Border.{treeAnswered, treeOutput, headerAnswered, headerOutput};
-ghost use Rattle.border_text.specs.Border.{exportAnswered, exportOutput};
+ghost use Rattle.border_text.specs.Border.{exportAnswered, exportOutput, importAnswered, importOutput};
 ghost use Rattle.border_mend.specs.Border.{mendAnswered, mendNumbers, mendFates, mendOutput};
 ghost use Rattle.border_commit.specs.Border.{commitNumbers};
 ghost use Rattle.border_commit_write.specs.Border.{sizeSaid, answerSaid, outputSaid};
 ghost use Rattle.bundle.specs.Bundle.{checkOf};
 ghost use Rattle.path.specs.Path.{follow};
 ghost use Rattle.border_bundle.specs.Border.{objectAsked, checkedNumbers, objectNumbers, followedNumbers};
+ghost use Rattle.border_difference.specs.Border.{compareAnswered, compareItems, comparePaths};
 ghost use Rattle.edit_walk.specs.Walk.{newEntry};
 ghost use Rattle.edit.specs.Edit.{putOutput, removeOutput};
 ghost use Rattle.border_edit.specs.Border.{putAnswered, removeAnswered};
+ghost use Rattle.arriving.specs.Feed.{startOf};
+ghost use Rattle.piece_state.specs.State.{marksNumbers};
+ghost use Rattle.border_pieces.specs.Border.{fedOf, fedNumbers, endSaid};
 
 // A mode text that stands alone.
 #[no_mangle]
@@ -374,6 +378,22 @@ pub extern "C" fn sarpukten_export_tree(
     border_text::export_tree(bytes, h, rules, out, answer)
 }
 
+// The strict object of a text's records.
+#[no_mangle]
+pub extern "C" fn sarpukten_import_tree(
+    text: &[u8],
+    h: usize,
+    rules: u16,
+    out: &mut [u8],
+    answer: &mut [usize; 4],
+) -> usize
+    ensures { λ r. ⌜ r ≡ importAnswered rules h (now (text .entry)) (now (out .entry)) .verdict .number ⌝ }
+    ensures { λ _. ⌜ now (answer .exit) ≡ answerNumbers (importAnswered rules h (now (text .entry)) (now (out .entry))) ⌝ }
+    ensures { λ _. ⌜ now (out .exit) ≡ importOutput rules h (now (text .entry)) (now (out .entry)) ⌝ }
+{
+    border_text::import_tree(text, h, rules, out, answer)
+}
+
 // A bundle checked whole.
 #[no_mangle]
 pub extern "C" fn sarpukten_check_bundle(bundle: &[u8], answer: &mut [usize; 6]) -> usize
@@ -412,6 +432,24 @@ pub extern "C" fn sarpukten_follow_path(
     border_bundle::follow_path(bundle, root, path, answer, id)
 }
 
+// What differs between two trees of a bundle, by the ids of the two.
+#[no_mangle]
+pub extern "C" fn sarpukten_compare_trees(
+    bundle: &[u8],
+    left: &[u8],
+    right: &[u8],
+    items: &mut [usize],
+    paths: &mut [u8],
+    answer: &mut [usize; 4],
+) -> usize
+    ensures { λ r. ⌜ r ≡ compareAnswered (now (bundle .entry)) (now (left .entry)) (now (right .entry)) (now (items .entry)) (now (paths .entry)) .verdict .number ⌝ }
+    ensures { λ _. ⌜ now (answer .exit) ≡ answerNumbers (compareAnswered (now (bundle .entry)) (now (left .entry)) (now (right .entry)) (now (items .entry)) (now (paths .entry))) ⌝ }
+    ensures { λ _. ⌜ now (items .exit) ≡ compareItems (now (bundle .entry)) (now (left .entry)) (now (right .entry)) (now (items .entry)) (now (paths .entry)) ⌝ }
+    ensures { λ _. ⌜ now (paths .exit) ≡ comparePaths (now (bundle .entry)) (now (left .entry)) (now (right .entry)) (now (items .entry)) (now (paths .entry)) ⌝ }
+{
+    border_difference::compare_trees(bundle, left, right, items, paths, answer)
+}
+
 // A name put into a tree object with its mode and id.
 #[no_mangle]
 pub extern "C" fn sarpukten_put_in_tree(
@@ -446,4 +484,52 @@ pub extern "C" fn sarpukten_remove_from_tree(
     ensures { λ _. ⌜ now (out .exit) ≡ removeOutput rules h (now (bytes .entry)) (now (name .entry)) (now (out .entry)) ⌝ }
 {
     border_edit::remove_from_tree(bytes, h, rules, name, out, answer)
+}
+
+// A strict check of an object that arrives in pieces begins.
+#[no_mangle]
+pub extern "C" fn sarpukten_check_start(
+    h: usize,
+    rules: u16,
+    marks: &mut [usize; 18],
+    first: &mut [u8; 8],
+) -> usize
+    ensures { λ r. ⌜ r ≡ startOf h rules .verdict .number ⌝ }
+    ensures { λ _. ⌜ now (marks .exit) ≡ marksNumbers (startOf h rules) ⌝ }
+    ensures { λ _. ⌜ now (first .exit) ≡ startOf h rules .head ⌝ }
+{
+    border_pieces::check_start(h, rules, marks, first)
+}
+
+// A piece more of it.
+#[no_mangle]
+pub extern "C" fn sarpukten_check_piece(
+    held: &mut [u8; 4096],
+    ends: &mut [u32; 4097],
+    marks: &mut [usize; 18],
+    first: &mut [u8; 8],
+    piece: &[u8],
+) -> usize
+    ensures { λ r. ⌜ r
+        ≡ fedOf (now (held .entry)) (now (ends .entry)) (now (marks .entry)) (now (first .entry)) (now (piece .entry)) .marks .verdict .number ⌝ }
+    ensures { λ _. ⌜ now (held .exit) ≡ fedOf (now (held .entry)) (now (ends .entry)) (now (marks .entry)) (now (first .entry)) (now (piece .entry)) .held ⌝ }
+    ensures { λ _. ⌜ now (ends .exit) ≡ fedOf (now (held .entry)) (now (ends .entry)) (now (marks .entry)) (now (first .entry)) (now (piece .entry)) .ends ⌝ }
+    ensures { λ _. ⌜ now (marks .exit) ≡ fedNumbers (now (held .entry)) (now (ends .entry)) (now (marks .entry)) (now (first .entry)) (now (piece .entry)) ⌝ }
+    ensures { λ _. ⌜ now (first .exit)
+        ≡ fedOf (now (held .entry)) (now (ends .entry)) (now (marks .entry)) (now (first .entry)) (now (piece .entry)) .marks .head ⌝ }
+{
+    border_pieces::check_piece(held, ends, marks, first, piece)
+}
+
+// The answer of the check if the object ends here.
+#[no_mangle]
+pub extern "C" fn sarpukten_check_end(
+    marks: &[usize; 18],
+    first: &[u8; 8],
+    answer: &mut [usize; 4],
+) -> usize
+    ensures { λ r. ⌜ r ≡ endSaid (now (marks .entry)) (now (first .entry)) .verdict .number ⌝ }
+    ensures { λ _. ⌜ now (answer .exit) ≡ answerNumbers (endSaid (now (marks .entry)) (now (first .entry))) ⌝ }
+{
+    border_pieces::check_end(marks, first, answer)
 }

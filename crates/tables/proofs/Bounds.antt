@@ -34,6 +34,7 @@ use Rattle.commit_read.specs.Read.{refusedRead, commitAnswer, commitOutcome}
 use Rattle.commit_read.proofs.Laws.{outcome-shut, answer-fails}
 use Rattle.commit_check.specs.Check.{after, checked}
 use Rattle.commit_write.specs.Write as write
+use Rattle.difference.specs.Whole as difference
 use Rattle.tables.specs.Bounds.{Over, OneLength, two, OverLaws}
 
 size-over : (bytes records : ℕ) → Over bytes records → sizeGate bytes records ≡ Shut two
@@ -98,6 +99,11 @@ unfold-over : (s : List ℕ) (x : HeaderRecord) (out : List ℕ) → Over (max (
 unfolding unfoldPlan gatePlan answerOf
 unfold-over s x out o = rw (size-over (max (length s) (length out)) 0 o)
 
+compare-over : (s left right : List ℕ) (bytes room : ℕ) → Over (max (max (length s) bytes) (max (length left) (length right))) room
+    → difference.answer s left right bytes room ≡ refused two
+unfolding difference.answer difference.found difference.gated difference.fitted
+compare-over s left right bytes room o = rw (size-over (max (max (length s) bytes) (max (length left) (length right))) room o)
+
 pub over-laws : OverLaws
 over-laws =
     record {
@@ -112,4 +118,5 @@ over-laws =
       commit-sizes = commit-size-over;
       unfolds = unfold-over;
       modes = λ t o. alone-shut t two (size-over (length t) 0 o);
+      compares = compare-over;
     }

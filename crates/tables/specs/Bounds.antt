@@ -27,6 +27,7 @@ use Rattle.unfold.specs.Unfold.{unfoldAnswer}
 use Rattle.commit_read.specs.Fields.{refusal}
 use Rattle.commit_read.specs.Read.{refusedRead, commitAnswer}
 use Rattle.commit_write.specs.Write as write
+use Rattle.difference.specs.Whole as difference
 
 -- so many bytes, or so many records, are over their bound
 abbrev pub Over : ℕ → ℕ → Type 0
@@ -64,3 +65,6 @@ pub record OverLaws : Type 0 where
   pub unfolds : (s : List ℕ) (x : HeaderRecord) (out : List ℕ) → Over (max (length s) (length out)) 0 → unfoldAnswer s x out ≡ refused two
   -- a mode text alone
   pub modes : (i : List ℕ) → Over (length i) 0 → modeAlone i ≡ rejected two
+  -- the bundle, the bytes for paths, a root id, or the items
+  pub compares : (s left right : List ℕ) (bytes room : ℕ) → Over (max (max (length s) bytes) (max (length left) (length right))) room
+      → difference.answer s left right bytes room ≡ refused two

@@ -2,7 +2,10 @@ pub mod Examples
 pub mod Numbers
 pub mod Bounds
 pub mod Texts
-pub mod Arrays
 pub mod Bundles
 pub mod Exports
+pub mod Imports
 pub mod Edits
+pub mod Mends
+pub mod Pieces
+pub mod Differences

@@ -1,1 +1,1 @@
-// The worked examples, each number in its case and the border's arrays, as computed tables, and no code.
+// The worked examples and each number in its case, as computed tables, and no code.

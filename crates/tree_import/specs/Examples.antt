@@ -20,7 +20,7 @@ use Rattle.hex.specs.Hex.{hexValue}
 use Rattle.id_of_hex.specs.Id.{bytesOf}
 use Rattle.tree_text.specs.Text.{sortWord, frontText}
 use Rattle.text_form.specs.Form.{between, within, allWithin, wordLen, frontLen, nameFrom}
-use Rattle.tree_import.specs.Record.{frontMode, pared, nameEnd, nameIn, idIn, formed, textNumber, entryIn, sizeIn}
+use Rattle.text_record.specs.Record.{frontMode, pared, nameEnd, nameIn, idIn, formed, saidNumber, textNumber, entryIn, sizeIn}
 use Rattle.tree_import.specs.Import.{readFrom, entriesIn, ending, compareSame, nameSame, anyBefore, repeated, importVerdict, imported, countedOf, importAnswer}
 
 -- digits and word, forty times a digit, and a name
@@ -64,5 +64,5 @@ examples =
     ∷ []
 
 pub answers-hold : map (λ (e : Example). importAnswer (e .rules) 20 (e .text) 100) examples ≡ map (λ (e : Example). e .answer) examples
-unfolding examples commonStart idLength sizeGate fitted gated valueOf sortOf isTree rows trimmed writeMode byNumber next nameOrder entryBytes asWritten isPlain isDotGit bareNumber standsBefore groupRow isSet ruleGate insertBy sortBy hexValue bytesOf sortWord frontText between within allWithin wordLen frontLen nameFrom frontMode pared nameEnd nameIn idIn formed textNumber entryIn sizeIn readFrom entriesIn ending compareSame nameSame anyBefore repeated importVerdict imported countedOf importAnswer
+unfolding examples commonStart idLength sizeGate fitted gated valueOf sortOf isTree rows trimmed writeMode byNumber next nameOrder entryBytes asWritten isPlain isDotGit bareNumber standsBefore groupRow isSet ruleGate insertBy sortBy hexValue bytesOf sortWord frontText between within allWithin wordLen frontLen nameFrom frontMode pared nameEnd nameIn idIn formed saidNumber textNumber entryIn sizeIn readFrom entriesIn ending compareSame nameSame anyBefore repeated importVerdict imported countedOf importAnswer
 answers-hold = refl

@@ -18,7 +18,7 @@ use Rattle.entry.specs.Entry.{Entry, asWritten}
 use Rattle.rules.specs.Rules.{standsBefore}
 use Rattle.rules.specs.Gate.{ruleGate}
 use Rattle.sorting.specs.Sort.{sortBy}
-use Rattle.tree_import.specs.Record.{textNumber, entryIn, sizeIn}
+use Rattle.text_record.specs.Record.{textNumber, entryIn, sizeIn}
 
 -- the records in turn, each with the position of its first byte and its entry; then the end of the text, or the refusal that reading met
 pub data Texts : Type 0 where

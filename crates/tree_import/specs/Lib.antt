@@ -1,3 +1,3 @@
-pub mod Record
 pub mod Import
+pub mod Code
 pub mod Examples

@@ -27,7 +27,7 @@ use mode_text::ShortText;
 use output::fit;
 use output::put;
 use output::put_ended;
-use scan::count_to;
+use scan::find_nul;
 
 // The number that refuses a record, or 0.
 fn refuse(bytes: &[u8], h: usize, writing: bool, e: EntryRecord) -> usize
@@ -37,7 +37,7 @@ fn refuse(bytes: &[u8], h: usize, writing: bool, e: EntryRecord) -> usize
         if writing {
             let start = e.name_start;
             let end = e.name_end;
-            if count_to(&bytes[start..end], 0) == end - start {
+            if find_nul(&bytes[start..end], 0) == end - start {
                 return DONE;
             }
             return NUL_IN_NAME;

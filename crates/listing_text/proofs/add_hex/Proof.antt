@@ -6,8 +6,9 @@ use native.Mathlib.Omega.{arith}
 use mathlib.Core.Path.{_≡_, refl, sym, _∙_}
 use Prim.Native.Nat.{_+_, _-_, _*_, _≤_}
 use lib.ListN.{length, drop}
-use Rattle.listing_text.specs.Text.{hexOf}
-use Rattle.listing_text.proofs.Laws.{Rest, rest-all, hex-turn, rest-none, hex-end}
+use Rattle.hex_of_id.specs.Hex.{hexOf}
+use Rattle.hex_of_id.proofs.Laws.{hex-none}
+use Rattle.listing_text.proofs.Laws.{Rest, rest-all, hex-turn, rest-none}
 
 abbrev Inv-loop : tie.InvT-loop
 Inv-loop out₀ at bytes p₀ i₀ out p i =
@@ -22,11 +23,11 @@ loop-holds c = (refl, omega arith, omega arith, rest-all _ _ _)
 shared-slice-read-b : tie.Need-shared-slice-read-b Inv-loop μ-loop
 shared-slice-read-b c = search needs
 
-hex-digit-requires : tie.Need-hex-digit-requires Inv-loop μ-loop
-hex-digit-requires c κs = search needs
+digit-of-requires : tie.Need-digit-of-requires Inv-loop μ-loop
+digit-of-requires c κs = search needs
 
-hex-digit-requires-2 : tie.Need-hex-digit-requires-2 Inv-loop μ-loop
-hex-digit-requires-2 c κs = search needs
+digit-of-requires-2 : tie.Need-digit-of-requires-2 Inv-loop μ-loop
+digit-of-requires-2 c κs = search needs
 
 slice-aggregate-add : tie.Need-slice-aggregate-add Inv-loop μ-loop
 slice-aggregate-add c = search needs
@@ -43,9 +44,9 @@ loop-less c = search needs
 loop-again : tie.Need-loop-again Inv-loop μ-loop
 loop-again c =
     let at-add = c .before .before in
-    let at-hex-digit2 = at-add .before .before in
-    let at-hex-digit = at-hex-digit2 .before in
-    let at-loop-test = at-hex-digit .before .before .before in
+    let at-digit-of2 = at-add .before .before in
+    let at-digit-of = at-digit-of2 .before in
+    let at-loop-test = at-digit-of .before .before .before in
     let at-loop = at-loop-test .before in
     let at-args = at-loop .before .before .before in
     let l = at-loop .loop in
@@ -54,7 +55,7 @@ loop-again c =
       omega arith,
       omega (arith, e .place, l .inv .2),
       hex-turn (at-args .args .bytes .now)
-          (l .i) (at-loop-test .loop-test .taken) (l .inv .3) (at-hex-digit .hex-digit .ensures) (at-hex-digit2 .hex-digit2 .ensures) e,
+          (l .i) (at-loop-test .loop-test .taken) (omega (arith, at-digit-of .before .before .shared-slice-known2 .given (l .i))) (l .inv .3) (at-digit-of .digit-of .ensures) (at-digit-of2 .digit-of2 .ensures) e,
     )
 
 same-length : tie.Need-same-length Inv-loop μ-loop
@@ -65,7 +66,7 @@ returns c =
     let at-loop = c .before in
     let at-args = at-loop .before .before .before in
     let l = at-loop .loop in
-    (rest-none (l .inv .3) (hex-end (at-args .args .bytes .now) (l .i) (c .loop-test .left)), omega (arith, l .inv .1, l .inv .2, at-args .pre .1))
+    (rest-none (l .inv .3) (hex-none (at-args .args .bytes .now) (l .i) (c .loop-test .left)), omega (arith, l .inv .1, l .inv .2, at-args .pre .1))
 
 pub add-hex-spec : {M : Type 1} → statement M
 add-hex-spec =
@@ -75,8 +76,8 @@ add-hex-spec =
     μ-loop
     loop-holds
     shared-slice-read-b
-    hex-digit-requires
-    hex-digit-requires-2
+    digit-of-requires
+    digit-of-requires-2
     slice-aggregate-add
     add-requires
     add-i

@@ -1,12 +1,11 @@
 -- `mend::mend_large` meets its contract: it calls itself only on a way that its `requires` shuts. Assumes nothing.
 use Prim.Native.Nat.{ℕ, _<_, _≤_}
-use native.Mathlib.Omega.{arith}
 use mathlib.Core.Path.{sym, subst}
 use lib.ListN.{length-replicate}
 use borrow.Fn.Kinds.{In}
 use borrow.Fn.PlainCycle.{Measures, is, falls, and}
 use Rattle.ground.specs.Verdict.{mostRecords}
-use Rattle.mend.proofs.Whole.{most-le}
+use Rattle.mend.proofs.Whole.{most-le, over}
 use Rattle.mend.proofs.mend_large.Reads as mend-large
 use Rattle.mend.proofs.mend_large.Kinds as mend-large-kinds
 use Rattle.mend.proofs.+mend_large.Lts-mend_large as mend-large-lts
@@ -27,16 +26,24 @@ abbrev claims : ℕ → mend-large-lts.Claims
 claims t = (mend-large-below t, mend-large.Post, mend-with-reads.Asked, mend-with-reads.Learnt)
 
 mend-large-requires : (t : ℕ) → mend-large-lts.Need-mend-large-requires (claims t) (mend-large-at t) mend-large.Post
-mend-large-requires t c κs = absurd (omega arith)
+mend-large-requires t c κs =
+    let root = c .before .before .before .before .before .before in
+    absurd (over (root .args .count) (root .pre .1 .1 .1 .1) (c .before .before .if1 .taken))
 
 same-length : (t : ℕ) → mend-large-lts.Need-same-length (claims t) (mend-large-at t) mend-large.Post
-same-length t c = absurd (omega arith)
+same-length t c =
+    let root = c .before .before .before .before .before .before .before .before .before .before .before in
+    absurd (over (root .args .count) (root .pre .1 .1 .1 .1) (c .before .before .before .before .before .before .before .if1 .taken))
 
 same-length-2 : (t : ℕ) → mend-large-lts.Need-same-length-2 (claims t) (mend-large-at t) mend-large.Post
-same-length-2 t c = absurd (omega arith)
+same-length-2 t c =
+    let root = c .before .before .before .before .before .before .before .before .before .before .before in
+    absurd (over (root .args .count) (root .pre .1 .1 .1 .1) (c .before .before .before .before .before .before .before .if1 .taken))
 
 returns : (t : ℕ) → mend-large-lts.Need-returns (claims t) (mend-large-at t) mend-large.Post
-returns t c = absurd (omega arith)
+returns t c =
+    let root = c .before .before .before .before .before .before .before .before .before .before .before in
+    absurd (over (root .args .count) (root .pre .1 .1 .1 .1) (c .before .before .before .before .before .before .before .if1 .taken))
 
 slice-aggregate-mend-with : (t : ℕ) → mend-large-lts.Need-slice-aggregate-mend-with (claims t) (mend-large-at t) mend-large.Post
 slice-aggregate-mend-with t c = sym (length-replicate {A = ℕ} 1048576 0)

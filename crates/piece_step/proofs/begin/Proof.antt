@@ -7,7 +7,7 @@ use Rattle.piece_step.proofs.begin.Lts as lts
 use Rattle.mode.proofs.EntryMode.extract_at.Reads as extract-at-reads
 use Rattle.piece_step.proofs.begun.Reads as begun-reads
 use Rattle.piece_step.proofs.bodies.Reads as bodies-reads
-use Rattle.piece_step.proofs.fresh.Reads as fresh-reads
+use Rattle.piece_marks.proofs.fresh.Reads as fresh-reads
 use mathlib.Core.Path.{ap, sym, _∙_}
 use native.Mathlib.Omega.{arith}
 use lib.ListN.{drop}

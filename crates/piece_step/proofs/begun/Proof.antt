@@ -5,7 +5,7 @@ use Rattle.piece_step.proofs.begun.Tie as tie
 use Rattle.piece_step.proofs.begun.Reads as reads
 use Rattle.piece_step.proofs.begun.Lts as lts
 use Rattle.mode.proofs.EntryMode.is_tree.Reads as is-tree-reads
-use Rattle.piece_step.proofs.placed_at.Reads as placed-at-reads
+use Rattle.piece_marks.proofs.placed_at.Reads as placed-at-reads
 use Rattle.piece_step.proofs.seven_back.Reads as seven-back-reads
 use Rattle.rules.proofs.mode_permitted.Reads as mode-permitted-reads
 use mathlib.Core.Path.{sym, _∙_}

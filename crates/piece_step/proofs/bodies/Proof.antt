@@ -4,13 +4,13 @@ use Rattle.piece_step.proofs.bodies.Statement.{statement}
 use Rattle.piece_step.proofs.bodies.Tie as tie
 use Rattle.piece_step.proofs.bodies.Reads as reads
 use Rattle.piece_step.proofs.bodies.Lts as lts
-use Rattle.piece_step.proofs.body.Reads as body-reads
 use mathlib.Core.Path.{_≡_, refl, sym, _∙_}
 use Prim.Native.Nat.{_+_, _-_, _≤_}
 use native.Mathlib.Omega.{arith}
 use lib.ListN.{drop}
 use Rattle.arriving.specs.Feed.{together, bodies}
 use Rattle.arriving.proofs.Laws.{bodies-turn, bodies-end}
+use Rattle.piece_body.proofs.Laws.{within}
 
 abbrev Inv-loop : tie.InvT-loop
 Inv-loop held₀ ends₀ n head out₀ k₀ held ends out k =
@@ -25,8 +25,8 @@ loop-holds c = (refl, search needs)
 array-read-b : tie.Need-array-read-b Inv-loop μ-loop
 array-read-b c = search needs
 
-body-requires : tie.Need-body-requires Inv-loop μ-loop
-body-requires c κs = search needs
+body-within-requires : tie.Need-body-within-requires Inv-loop μ-loop
+body-within-requires c κs = search needs
 
 add-k : tie.Need-add-k Inv-loop μ-loop
 add-k c = search needs
@@ -35,7 +35,7 @@ loop-less : tie.Need-loop-less Inv-loop μ-loop
 loop-less c = search needs
 
 loop-again : tie.Need-loop-again Inv-loop μ-loop
-loop-again c = bodies-turn _ (together (c .before .before .before .before .loop .held) (c .before .before .before .before .loop .ends) (c .before .before .before .before .loop .out)) (c .before .before .before .before .before .args .t4) (c .before .before .before .before .loop .k) 2147483648 (omega arith) _ (c .body .ensures) (c .before .before .before .before .loop .inv)
+loop-again c = bodies-turn _ (together (c .before .before .before .before .loop .held) (c .before .before .before .before .loop .ends) (c .before .before .before .before .loop .out)) (c .before .before .before .before .before .args .t4) (c .before .before .before .before .loop .k) 2147483648 (omega arith) _ (within (together (c .before .before .before .before .loop .held) (c .before .before .before .before .loop .ends) (c .before .before .before .before .loop .out)) _ (omega arith) (c .body-within .ensures)) (c .before .before .before .before .loop .inv)
 
 returns : tie.Need-returns Inv-loop μ-loop
 returns c = sym (c .before .loop .inv .0 ∙ bodies-end (together (c .before .loop .held) (c .before .loop .ends) (c .before .loop .out)) (c .before .before .args .t4) (c .before .loop .k) (omega arith))
@@ -48,7 +48,7 @@ bodies-spec =
     μ-loop
     loop-holds
     array-read-b
-    body-requires
+    body-within-requires
     add-k
     loop-less
     loop-again

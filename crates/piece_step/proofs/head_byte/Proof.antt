@@ -5,9 +5,9 @@ use Rattle.piece_step.proofs.head_byte.Tie as tie
 use Rattle.piece_step.proofs.head_byte.Reads as reads
 use Rattle.piece_step.proofs.head_byte.Lts as lts
 use Rattle.piece_step.proofs.begin.Reads as begin-reads
-use Rattle.piece_step.proofs.is_full.Reads as is-full-reads
-use Rattle.piece_step.proofs.placed_at.Reads as placed-at-reads
-use Rattle.piece_step.proofs.fresh.Reads as fresh-reads
+use Rattle.piece_marks.proofs.is_full.Reads as is-full-reads
+use Rattle.piece_marks.proofs.placed_at.Reads as placed-at-reads
+use Rattle.piece_marks.proofs.fresh.Reads as fresh-reads
 use mathlib.Core.Path.{ap, _∙_}
 use Rattle.arriving.specs.Feed.{together}
 use Rattle.arriving.specs.declared.Marks.{Marks}

@@ -4,7 +4,7 @@ use Rattle.pieces.proofs.id_some.Statement.{statement}
 use Rattle.pieces.proofs.id_some.Tie as tie
 use Rattle.pieces.proofs.id_some.Reads as reads
 use Rattle.pieces.proofs.id_some.Lts as lts
-use Rattle.piece_step.proofs.placed_at.Reads as placed-at-reads
+use Rattle.piece_marks.proofs.placed_at.Reads as placed-at-reads
 
 add-placed-at : tie.Need-add-placed-at
 add-placed-at c = search needs

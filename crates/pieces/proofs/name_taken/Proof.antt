@@ -4,7 +4,7 @@ use Rattle.pieces.proofs.name_taken.Statement.{statement}
 use Rattle.pieces.proofs.name_taken.Tie as tie
 use Rattle.pieces.proofs.name_taken.Reads as reads
 use Rattle.pieces.proofs.name_taken.Lts as lts
-use Rattle.piece_step.proofs.placed_at.Reads as placed-at-reads
+use Rattle.piece_marks.proofs.placed_at.Reads as placed-at-reads
 
 sub-placed-at : tie.Need-sub-placed-at
 sub-placed-at c = search needs

@@ -6,7 +6,7 @@ use Rattle.pieces.proofs.some.Reads as reads
 use Rattle.pieces.proofs.some.Lts as lts
 use Rattle.pieces.proofs.head_some.Reads as head-some-reads
 use Rattle.pieces.proofs.id_some.Reads as id-some-reads
-use Rattle.piece_step.proofs.is_full.Reads as is-full-reads
+use Rattle.piece_marks.proofs.is_full.Reads as is-full-reads
 use Rattle.pieces.proofs.name_some.Reads as name-some-reads
 use Rattle.pieces.proofs.one_less.Reads as one-less-reads
 use Rattle.pieces.proofs.shorter.Reads as shorter-reads

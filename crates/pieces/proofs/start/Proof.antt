@@ -4,7 +4,7 @@ use Rattle.pieces.proofs.start.Statement.{statement}
 use Rattle.pieces.proofs.start.Tie as tie
 use Rattle.pieces.proofs.start.Reads as reads
 use Rattle.pieces.proofs.start.Lts as lts
-use Rattle.piece_step.proofs.fresh.Reads as fresh-reads
+use Rattle.piece_marks.proofs.fresh.Reads as fresh-reads
 use Rattle.rules.proofs.rule_bounds.Reads as rule-bounds-reads
 use mathlib.Core.Path.{sym, _∙_}
 use Rattle.arriving.proofs.Laws.{start-open, start-shut}

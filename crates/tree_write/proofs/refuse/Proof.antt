@@ -4,6 +4,7 @@ use Rattle.tree_write.proofs.refuse.Statement.{statement}
 use Rattle.tree_write.proofs.refuse.Tie as tie
 use Rattle.tree_write.proofs.Laws.{refusal-bad, refusal-size, no-nul, nul-inside}
 use Rattle.entry.specs.Record.{nameOf}
+use Rattle.ground.proofs.Laws.{place-count}
 use Rattle.entry.proofs.Laws.{well-parts}
 use native.Mathlib.Omega.{arith}
 use mathlib.Core.Path.{sym, _∙_}
@@ -11,17 +12,17 @@ use mathlib.Core.Path.{sym, _∙_}
 well-formed-requires : tie.Need-well-formed-requires
 well-formed-requires c κs = search needs
 
-sub-count-to : tie.Need-sub-count-to
-sub-count-to c = omega (arith, well-parts _ _ _ (sym (c .before .before .well-formed .ensures) ∙ c .before .if1 .taken))
+sub-find-nul : tie.Need-sub-find-nul
+sub-find-nul c = omega (arith, well-parts _ _ _ (sym (c .before .before .well-formed .ensures) ∙ c .before .if1 .taken))
 
-part-count-to-start : tie.Need-part-count-to-start
-part-count-to-start c = omega (arith, well-parts _ _ _ (sym (c .before .before .well-formed .ensures) ∙ c .before .if1 .taken))
+part-find-nul-start : tie.Need-part-find-nul-start
+part-find-nul-start c = omega (arith, well-parts _ _ _ (sym (c .before .before .well-formed .ensures) ∙ c .before .if1 .taken))
 
-part-count-to-end : tie.Need-part-count-to-end
-part-count-to-end c = omega (arith, well-parts _ _ _ (sym (c .before .before .well-formed .ensures) ∙ c .before .if1 .taken))
+part-find-nul-end : tie.Need-part-find-nul-end
+part-find-nul-end c = omega (arith, well-parts _ _ _ (sym (c .before .before .well-formed .ensures) ∙ c .before .if1 .taken))
 
-count-to-requires : tie.Need-count-to-requires
-count-to-requires c κs = search needs
+find-nul-requires : tie.Need-find-nul-requires
+find-nul-requires c κs = search needs
 
 sub-if3 : tie.Need-sub-if3
 sub-if3 c =
@@ -34,7 +35,7 @@ returns c =
     let at-if2 = c .before .before .before in
     let at-if1 = at-if2 .before in
     let at-well-formed = at-if1 .before in
-    rw (at-if2 .if2 .taken) (sym (no-nul _ _ _ (sym (at-well-formed .well-formed .ensures) ∙ at-if1 .if1 .taken) (sym (c .before .count-to .ensures) ∙ c .if3 .taken)))
+    rw (at-if2 .if2 .taken) (sym (no-nul _ _ _ (sym (at-well-formed .well-formed .ensures) ∙ at-if1 .if1 .taken) (sym (c .before .find-nul .ensures ∙ place-count _ _) ∙ c .if3 .taken)))
 
 returns-2 : tie.Need-returns-2
 unfolding nameOf
@@ -42,7 +43,7 @@ returns-2 c =
     let at-if2 = c .before .before .before in
     let at-if1 = at-if2 .before in
     let at-well-formed = at-if1 .before in
-    rw (at-if2 .if2 .taken) (sym (nul-inside _ _ _ (sym (at-well-formed .well-formed .ensures) ∙ at-if1 .if1 .taken) (λ q. c .if3 .left (c .before .count-to .ensures ∙ q))))
+    rw (at-if2 .if2 .taken) (sym (nul-inside _ _ _ (sym (at-well-formed .well-formed .ensures) ∙ at-if1 .if1 .taken) (λ q. c .if3 .left (c .before .find-nul .ensures ∙ place-count _ _ ∙ q))))
 
 returns-3 : tie.Need-returns-3
 returns-3 c = rw (c .if2 .left) (sym (refusal-size _ _ _ (sym (c .before .before .well-formed .ensures) ∙ c .before .if1 .taken)))
@@ -55,10 +56,10 @@ refuse-spec =
     tie.close
     (tie.spec
     well-formed-requires
-    sub-count-to
-    part-count-to-start
-    part-count-to-end
-    count-to-requires
+    sub-find-nul
+    part-find-nul-start
+    part-find-nul-end
+    find-nul-requires
     sub-if3
     returns
     returns-2

@@ -1,28 +1,28 @@
--- `replay::numbers_at` meets its contract. Assumes nothing.
+-- `replay::numbers_at` is safe and ends. Assumes nothing.
 use Rattle.replay.proofs.cases.numbers_at.Statement.{statement}
 use Rattle.replay.proofs.cases.numbers_at.Tie as tie
 use borrow.Author.Needs.{needs}
-use mathlib.Core.Path.{_≡_, refl}
+use mathlib.Core.Path.{_≡_}
 use Prim.Native.Nat.{_-_}
 use lib.ListN.{length}
 
 abbrev Inv-loop : tie.InvT-loop
-Inv-loop s at out₀ count next₀ i₀ out next i = length out ≡ length out₀
+Inv-loop s at n out₀ from count next₀ i₀ out next i = length out ≡ length out₀
 
 abbrev μ-loop : tie.MeasureT-loop
-μ-loop s at out₀ count next₀ i₀ out next i = count - i
-
-number-at-requires : tie.Need-number-at-requires Inv-loop μ-loop
-number-at-requires c κs = search needs
+μ-loop s at n out₀ from count next₀ i₀ out next i = count - i
 
 least-requires : tie.Need-least-requires Inv-loop μ-loop
 least-requires c κs = search needs
 
 loop-holds : tie.Need-loop-holds Inv-loop μ-loop
-loop-holds c = refl
+loop-holds c = search needs
 
-number-at-requires-2 : tie.Need-number-at-requires-2 Inv-loop μ-loop
-number-at-requires-2 c κs = search needs
+number-at-requires : tie.Need-number-at-requires Inv-loop μ-loop
+number-at-requires c κs = search needs
+
+wrapping-add-usize-requires : tie.Need-wrapping-add-usize-requires Inv-loop μ-loop
+wrapping-add-usize-requires c κs = search needs
 
 set-number-requires : tie.Need-set-number-requires Inv-loop μ-loop
 set-number-requires c κs = search needs
@@ -48,10 +48,10 @@ numbers-at-spec =
     (tie.spec
     Inv-loop
     μ-loop
-    number-at-requires
     least-requires
     loop-holds
-    number-at-requires-2
+    number-at-requires
+    wrapping-add-usize-requires
     set-number-requires
     add-i
     loop-less

@@ -1,4 +1,4 @@
--- `replay::past_number` meets its contract. Assumes nothing.
+-- `replay::past_number` is safe and ends. Assumes nothing.
 use Rattle.replay.proofs.cases.past_number.Statement.{statement}
 use Rattle.replay.proofs.cases.past_number.Tie as tie
 use borrow.Author.Needs.{needs}

@@ -1,0 +1,7 @@
+pub mod Walks
+pub mod Steps
+pub mod Openings
+pub mod Doing
+pub mod Turning
+pub mod Ending
+pub mod Roots

@@ -1,0 +1,44 @@
+-- `difference::compare_with` meets its contract. Assumes nothing.
+use borrow.Author.Needs.{needs}
+use Rattle.difference.proofs.compare_with.Statement.{statement}
+use Rattle.difference.proofs.compare_with.Tie as tie
+use mathlib.Core.Path.{sym}
+use lib.Seq.{length-take-le}
+use Rattle.indexing.proofs.Laws.{front-index, front-fits}
+
+make-index-requires : tie.Need-make-index-requires
+make-index-requires c κs = search needs
+
+slice-reshare-prefix-measured : tie.Need-slice-reshare-prefix-measured
+slice-reshare-prefix-measured c = front-fits (c .before .before .before .before .before .before .before .before .before .before .before .before .args .bundle .now) (c .before .before .before .before .before .before .before .before .before .before .before .before .args .k) (c .before .before .before .before .before .before .before .before .before .before .before .before .args .list .now) _ _ (c .before .before .before .before .make-index .ensures)
+
+slice-aggregate-measured : tie.Need-slice-aggregate-measured
+slice-aggregate-measured c = sym (length-take-le _ _ (front-fits (c .before .before .before .before .before .before .before .before .before .before .before .before .before .args .bundle .now) (c .before .before .before .before .before .before .before .before .before .before .before .before .before .args .k) (c .before .before .before .before .before .before .before .before .before .before .before .before .before .args .list .now) _ _ (c .before .before .before .before .before .make-index .ensures)))
+
+measured-requires : tie.Need-measured-requires
+measured-requires c κs = (c .before .before .before .before .before .before .before .before .before .before .before .before .before .pre .0, front-index (c .before .before .before .before .before .before .before .before .before .before .before .before .before .args .bundle .now) (c .before .before .before .before .before .before .before .before .before .before .before .before .before .args .k) (c .before .before .before .before .before .before .before .before .before .before .before .before .before .args .list .now) _ _ (c .before .before .before .before .before .before .before .before .before .before .before .before .before .pre .1) (c .before .before .before .before .before .make-index .ensures))
+
+same-length : tie.Need-same-length
+same-length c = search needs
+
+same-length-2 : tie.Need-same-length-2
+same-length-2 c = search needs
+
+same-length-3 : tie.Need-same-length-3
+same-length-3 c = search needs
+
+returns : tie.Need-returns
+returns c = search needs
+
+pub compare-with-spec : {M : Type 1} → statement M
+compare-with-spec =
+    tie.close
+    (tie.spec
+    make-index-requires
+    slice-reshare-prefix-measured
+    slice-aggregate-measured
+    measured-requires
+    same-length
+    same-length-2
+    same-length-3
+    returns)

@@ -1,0 +1,4 @@
+pub mod Items
+pub mod Walk
+pub mod Whole
+pub mod Code

@@ -1,0 +1,5 @@
+pub mod Sorted
+pub mod Theorem
+pub mod Record
+pub mod Back
+pub mod Laid

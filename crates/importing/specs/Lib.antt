@@ -1,0 +1,2 @@
+pub mod Importing
+pub mod Back

@@ -1,0 +1,1 @@
+// Theorems over importing, and no code (specs/Importing.antt, specs/Back.antt).

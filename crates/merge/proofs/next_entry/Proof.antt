@@ -1,0 +1,71 @@
+-- `merge::next_entry` meets its contract. Assumes nothing.
+use borrow.Author.Needs.{needs}
+use Rattle.merge.proofs.next_entry.Statement.{statement}
+use Rattle.merge.proofs.next_entry.Tie as tie
+use Rattle.merge.proofs.Laws as laws
+use native.Mathlib.Omega.{arith}
+
+returns : tie.Need-returns
+returns c = (laws.ahead-none (c .before .before .args .h) (c .before .before .args .bundle .now) (c .before .before .args .c) (c .if1 .taken), tt)
+
+returns-2 : tie.Need-returns-2
+returns-2 c = (laws.ahead-crossed (c .before .before .before .args .h) (c .before .before .before .args .bundle .now) (c .before .before .before .args .c) (c .before .if1 .left) (c .if2 .taken), tt)
+
+returns-3 : tie.Need-returns-3
+returns-3 c = (laws.ahead-outside (c .before .before .before .before .args .h) (c .before .before .before .before .args .bundle .now) (c .before .before .before .before .args .c) (c .before .before .if1 .left) (c .before .if2 .left) (c .if3 .taken), tt)
+
+part-decode-start : tie.Need-part-decode-start
+part-decode-start c = search needs
+
+part-decode-end : tie.Need-part-decode-end
+part-decode-end c = search needs
+
+decode-requires : tie.Need-decode-requires
+decode-requires c κs = search needs
+
+enum-told : tie.Need-enum-told
+enum-told c = search needs
+
+enum-known-e : tie.Need-enum-known-e
+enum-known-e c = search needs
+
+add-name-start : tie.Need-add-name-start
+add-name-start c = let f = laws.ahead-inside (c .before .before .before .before .before .before .before .before .before .before .args .h) (c .before .before .before .before .before .before .before .before .before .before .args .bundle .now) (c .before .before .before .before .before .before .before .before .before .before .args .c) (c .before .before .before .before .before .before .before .before .if1 .left) (c .before .before .before .before .before .before .before .if2 .left) (c .before .before .before .before .before .before .if3 .left) (c .before .before .before .before .decode .result) (c .before .before .before .before .decode .ensures) (c .before .before .e .given .0 .0) (c .before .before .e .given .0 .1 .0) (c .before .before .e .given .1) in omega (arith, f .0, f .1, c .before .before .before .before .before .before .before .before .before .before .good .0 .0)
+
+add-name-end : tie.Need-add-name-end
+add-name-end c = let f = laws.ahead-inside (c .before .before .before .before .before .before .before .before .before .before .before .args .h) (c .before .before .before .before .before .before .before .before .before .before .before .args .bundle .now) (c .before .before .before .before .before .before .before .before .before .before .before .args .c) (c .before .before .before .before .before .before .before .before .before .if1 .left) (c .before .before .before .before .before .before .before .before .if2 .left) (c .before .before .before .before .before .before .before .if3 .left) (c .before .before .before .before .before .decode .result) (c .before .before .before .before .before .decode .ensures) (c .before .before .before .e .given .0 .0) (c .before .before .before .e .given .0 .1 .0) (c .before .before .before .e .given .1) in omega (arith, f .1, c .before .before .before .before .before .before .before .before .before .before .before .good .0 .0)
+
+add-id-start : tie.Need-add-id-start
+add-id-start c = let f = laws.ahead-inside (c .before .before .before .before .before .before .before .before .before .before .before .before .args .h) (c .before .before .before .before .before .before .before .before .before .before .before .before .args .bundle .now) (c .before .before .before .before .before .before .before .before .before .before .before .before .args .c) (c .before .before .before .before .before .before .before .before .before .before .if1 .left) (c .before .before .before .before .before .before .before .before .before .if2 .left) (c .before .before .before .before .before .before .before .before .if3 .left) (c .before .before .before .before .before .before .decode .result) (c .before .before .before .before .before .before .decode .ensures) (c .before .before .before .before .e .given .0 .0) (c .before .before .before .before .e .given .0 .1 .0) (c .before .before .before .before .e .given .1) in omega (arith, f .2, c .before .before .before .before .before .before .before .before .before .before .before .before .good .0 .0)
+
+add-text-start : tie.Need-add-text-start
+add-text-start c = let f = laws.ahead-text (c .before .before .before .before .before .before .before .before .before .before .before .before .before .args .h) (c .before .before .before .before .before .before .before .before .before .before .before .before .before .args .bundle .now) (c .before .before .before .before .before .before .before .before .before .before .before .before .before .args .c) (c .before .before .before .before .before .before .before .before .before .before .before .if1 .left) (c .before .before .before .before .before .before .before .before .before .before .if2 .left) (c .before .before .before .before .before .before .before .before .before .if3 .left) (c .before .before .before .before .before .before .before .decode .result) (c .before .before .before .before .before .before .before .decode .ensures) (c .before .before .before .before .before .e .given .0 .0) (c .before .before .before .before .before .e .given .0 .1 .0) (c .before .before .before .before .before .e .given .1) in omega (arith, f, c .before .before .before .before .before .before .before .before .before .before .before .before .before .good .0 .0)
+
+sub-fewer : tie.Need-sub-fewer
+sub-fewer c = search needs
+
+returns-4 : tie.Need-returns-4
+returns-4 c = (laws.ahead-broken (c .before .before .before .before .before .before .before .before .args .h) (c .before .before .before .before .before .before .before .before .args .bundle .now) (c .before .before .before .before .before .before .before .before .args .c) (c .before .before .before .before .before .before .if1 .left) (c .before .before .before .before .before .if2 .left) (c .before .before .before .before .if3 .left) (c .before .before .decode .result) (c .before .before .decode .ensures) (c .enum-told .given .0 .0) (c .enum-told .given .1), tt)
+
+returns-5 : tie.Need-returns-5
+returns-5 c = (laws.ahead-whole (c .before .before .before .before .before .before .before .before .before .before .before .before .before .args .h) (c .before .before .before .before .before .before .before .before .before .before .before .before .before .args .bundle .now) (c .before .before .before .before .before .before .before .before .before .before .before .before .before .args .c) (c .before .before .before .before .before .before .before .before .before .before .before .if1 .left) (c .before .before .before .before .before .before .before .before .before .before .if2 .left) (c .before .before .before .before .before .before .before .before .before .if3 .left) (c .before .before .before .before .before .before .before .decode .result) (c .before .before .before .before .before .before .before .decode .ensures) (c .before .before .before .before .before .e .given .0 .0) (c .before .before .before .before .before .e .given .0 .1 .0) (c .before .before .before .before .before .e .given .1), (laws.ahead-inside (c .before .before .before .before .before .before .before .before .before .before .before .before .before .args .h) (c .before .before .before .before .before .before .before .before .before .before .before .before .before .args .bundle .now) (c .before .before .before .before .before .before .before .before .before .before .before .before .before .args .c) (c .before .before .before .before .before .before .before .before .before .before .before .if1 .left) (c .before .before .before .before .before .before .before .before .before .before .if2 .left) (c .before .before .before .before .before .before .before .before .before .if3 .left) (c .before .before .before .before .before .before .before .decode .result) (c .before .before .before .before .before .before .before .decode .ensures) (c .before .before .before .before .before .e .given .0 .0) (c .before .before .before .before .before .e .given .0 .1 .0) (c .before .before .before .before .before .e .given .1), (c .before .before .before .before .before .before .before .before .before .before .if2 .left, c .before .before .before .before .before .before .before .before .before .if3 .left), omega (arith, c .before .before .before .before .before .before .before .before .before .before .before .if1 .left)))
+
+pub next-entry-spec : {M : Type 1} → statement M
+next-entry-spec =
+    tie.close
+    (tie.spec
+    returns
+    returns-2
+    returns-3
+    part-decode-start
+    part-decode-end
+    decode-requires
+    enum-told
+    enum-known-e
+    add-name-start
+    add-name-end
+    add-id-start
+    add-text-start
+    sub-fewer
+    returns-4
+    returns-5)

@@ -1,0 +1,89 @@
+-- The first demand of a comparison of two trees, and of what it stands on: every way that its walk ends. Assumes nothing.
+use Prim.Native.Nat.{ℕ, max}
+use mathlib.Core.Path.{_≡_, refl, ap}
+use mathlib.Core.Bool.{Bool, true, false, _&&_, not}
+use mathlib.Core.List.{List, [], _∷_}
+use lib.Dec.{eqb, leb, ltb}
+use lib.ListN.{length}
+use Rattle.ground.specs.Basics.{pick}
+use Rattle.ground.specs.Verdict.{verdict, fine, counted, refused, mostBytes, mostRecords}
+use Rattle.ground.specs.declared.Verdict.{Verdict}
+use Rattle.ground.specs.declared.Answer.{Answer}
+use Rattle.ground.specs.declared.Gate.{Gate}
+use Rattle.ground.proofs.Laws.{stored-refused}
+use Rattle.order.specs.Order.{nameOrder}
+use Rattle.order.specs.declared.Order.{Order}
+use Rattle.order.specs.declared.Order.the-variants.{Below, Same, Above}
+use Rattle.frame.specs.declared.Header.{Header}
+use Rattle.reading.specs.Listing.{tally}
+use Rattle.reading.specs.declared.Counted.{Counted}
+use Rattle.reading.specs.declared.Counted.the-variants.{Total, Stopped}
+use Rattle.rules.specs.Rules.{gitRules}
+use Rattle.strict.specs.Strict.{strictly, strictCount}
+use Rattle.bundle.specs.Bundle.{openOf}
+use Rattle.bundle.specs.declared.Opening.{Opening}
+use Rattle.bundle.specs.declared.Opening.the-variants as opening
+use Rattle.merge.specs.Merge.{byOrder}
+use Rattle.difference.specs.Items.{Side, absent, Named, isFolder, Stored, missing, object, Folder, shut, holds, readStrictly, treeOf, folderOf, join, sameId, sameSide}
+use Rattle.difference.specs.Walk.{Lower, Out, refusedBy, nothing, put, andThen, change, leftOnly, rightOnly, both, rights, against, compareEntries, opened, compareFolders}
+use Rattle.difference.specs.Whole.{storeOf, foldersOf, differences, pathsOf, fitted, rootsOf, walked, gated, found, answer}
+use Rattle.paper.specs.Call.{Fits, none, _and_}
+use Rattle.paper.specs.Calls.{ofAnswer}
+use Rattle.paper.specs.Demand1.{OfDifferences}
+use Rattle.paper.proofs.Laws.{same, two-lists, done, zero, wider, keeps, keeps-stores, each-pick, each-size}
+use Rattle.paper.proofs.Edits.{each-tally}
+use Rattle.paper.proofs.Walking.{Opens, walk-ends}
+use Rattle.paper.proofs.Bundles.{each-opening}
+
+-- ---- every answer
+
+abbrev numbers : List ℕ
+numbers = 0 ∷ 2 ∷ 3 ∷ 4 ∷ 5 ∷ 6 ∷ 7 ∷ 8 ∷ 17 ∷ 18 ∷ 24 ∷ 25 ∷ 27 ∷ 28 ∷ []
+
+abbrev Fine : Verdict → Type 0
+Fine v = Fits numbers (ofAnswer (refused v))
+
+folder-fits : (k h : ℕ) (store : List ℕ → Stored) (id : List ℕ) → Opens Fine (folderOf k h store id)
+unfolding folderOf treeOf readStrictly strictCount
+folder-fits k h store [] = tt
+folder-fits k h store (x ∷ id) = kinds (store (x ∷ id))
+  where
+    kinds : (o : Stored) → Opens Fine (treeOf k h o)
+    kinds missing = zero refl refl
+    kinds (object kind start s) =
+        each-pick (Opens Fine) (eqb kind 2) _ _
+        (each-pick (λ c. Opens Fine (readStrictly k h start s c)) (leb (length s) mostBytes) _ _
+        (each-tally Fine (zero refl refl) (λ at p q. zero refl q) (λ at. zero refl refl) (λ at. zero refl refl) (λ at. zero refl refl) (λ at. zero refl refl) (λ at. zero refl refl) k h s
+        (λ c. Opens Fine (readStrictly k h start s c)) (λ n. tt) (λ v p. p)) (zero refl refl)) (zero refl refl)
+
+found-fits : (s left right : List ℕ) (bytes room : ℕ) → Fine (found s left right bytes room .verdict)
+unfolding found gated rootsOf walked differences
+found-fits s left right bytes room =
+    each-size (λ (g : Gate). Fine (gated s left right g .verdict))
+    (each-pick (λ (o : Opening). Fine (walked s left right o .verdict)) (eqb (length left) (length right)) _ _
+    (each-opening (λ (o : Opening). Fine (walked s left right o .verdict))
+    (λ k. walk-ends Fine (done refl refl) (zero refl refl) (zero refl refl) (foldersOf k s) (folder-fits (k .rules) (k .h) (storeOf s)) 33 [] left right 0)
+    (zero refl refl) (zero refl refl) (zero refl refl) s (length left)) (zero refl refl)) (zero refl refl)
+    (max (max (length s) bytes) (max (length left) (length right))) room
+
+pub compare-fits : (s left right : List ℕ) (bytes room : ℕ) → Fits numbers (ofAnswer (answer s left right bytes room))
+unfolding answer fitted
+compare-fits s left right bytes room =
+    let o : Out = found s left right bytes room in
+    each-pick (λ (a : Answer). Fits numbers (ofAnswer a)) (eqb (o .verdict .number) 0) _ _
+    (each-pick (λ (a : Answer). Fits numbers (ofAnswer a)) (leb (length (o .items)) room) _ _
+    (each-pick (λ (a : Answer). Fits numbers (ofAnswer a)) (leb (length (pathsOf (o .items))) bytes) _ _ (done refl refl) (zero refl refl)) (zero refl refl))
+    (found-fits s left right bytes room)
+
+pub of-differences : OfDifferences
+of-differences = record {
+  difference-questions = ((λ i. tt), (λ i o p. same)) and ((λ i. tt), (λ i o p. same)) and ((λ i. tt), (λ i o p. same)) and none;
+  make-index = keeps-stores _ (λ i. tt) _ _ _ _ (λ i o m. m);
+  compare-trees = keeps _ _ (λ i. tt) (record {
+    answers = λ i. _;
+    hands = λ i. [];
+    leaves = λ i. _;
+    says = λ i. _;
+    told = λ i o m. (m .0, refl, two-lists (m .1 .0) (m .1 .1), ap ofAnswer (m .0));
+  }) (λ i. wider (compare-fits _ _ _ _ _) refl) (λ i z. two-lists (stored-refused _ _ _ z) (stored-refused _ _ _ z));
+}

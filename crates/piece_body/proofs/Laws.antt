@@ -1,0 +1,17 @@
+-- Where fewer bytes have come, which is wherever a step is taken, it is the byte's own step. Assumes nothing.
+use Prim.Native.Nat.{ℕ, _<_}
+use mathlib.Core.Path.{_≡_, ap, _∙_}
+use mathlib.Core.Bool.{Bool}
+use lib.Dec.{ltb}
+use borrow.Author.Tests.{lt-ltb}
+use Rattle.ground.specs.Basics.{pick}
+use Rattle.arriving.specs.Feed.{body}
+use Rattle.arriving.specs.declared.Check.{Check}
+use Rattle.piece_body.specs.Within.{bodyWithin}
+
+within-is : (c : Check) (b : ℕ) → c .marks .at < 4294967296 → bodyWithin c b ≡ body c b
+unfolding bodyWithin
+within-is c b q = ap (λ (t : Bool). pick t (body c b) c) (lt-ltb (c .marks .at) 4294967296 q)
+
+pub within : (c : Check) (b : ℕ) {d : Check} → c .marks .at < 4294967296 → d ≡ bodyWithin c b → d ≡ body c b
+within c b q e = e ∙ within-is c b q

@@ -1,0 +1,22 @@
+-- `text_repeats::repeat_here` meets its contract. Assumes nothing.
+use borrow.Author.Needs.{needs}
+use Rattle.text_repeats.proofs.repeat_here.Statement.{statement}
+use Rattle.text_repeats.proofs.repeat_here.Tie as tie
+use mathlib.Core.Path.{sym, _∙_}
+use Rattle.text_repeats.specs.Least.{sameRecord}
+use Rattle.text_repeats.proofs.Laws.{least-here, least-not}
+
+same-record-requires : tie.Need-same-record-requires
+same-record-requires c κs = search needs
+
+smaller-requires : tie.Need-smaller-requires
+smaller-requires c κs = search needs
+
+returns : tie.Need-returns
+returns c = least-here (sameRecord (c .before .before .before .before .args .text .now)) (c .before .before .before .before .args .x) (c .before .before .before .before .args .y) (c .before .before .before .before .args .least) (sym (c .before .before .same-record .ensures) ∙ c .before .if1 .taken) (c .smaller .ensures)
+
+returns-2 : tie.Need-returns-2
+returns-2 c = least-not (sameRecord (c .before .before .before .args .text .now)) (c .before .before .before .args .x) (c .before .before .before .args .y) (c .before .before .before .args .least) (sym (c .before .same-record .ensures) ∙ c .if1 .left)
+
+pub repeat-here-spec : {M : Type 1} → statement M
+repeat-here-spec = tie.close (tie.spec same-record-requires smaller-requires returns returns-2)
