@@ -52,16 +52,12 @@ def line(shown, number, mode, rest):
 
 
 for sort in range(16):
-    kinds, lengths, back, total = [0] * 5, {1: 0, 5: 0, 6: 0}, [0] * 3, 0
+    total = 0
     for mode in range(sort << 12, sort + 1 << 12):
         text = write(mode)
-        again, rest = read(text + b" a") or (65536, 0)
-        kinds[kind(mode)] += 1
-        lengths[len(text)] += 1
-        back[0 if again == mode else 1 if again == mode - 32768 else 2] += 1
-        for x in [value(mode), kind(mode), *text, again, rest]:
+        for x in [value(mode), kind(mode), *text.ljust(6, b"\0"), *(read(text + b" a") or (65536, 0))]:
             total = (total * 31 + x) % 2**32
-    print(f"{sort << 12:06o} kinds", *kinds, "lengths", *lengths.values(), "back", *back, "sum", total)
+    print(f"{sort << 12:06o}", total)
 for text in ["100644 ", "40000 ", "040000 ", "140755 ", "040755 ", "0000000 x", "00000000 x", "0 abcd e", "0 abc de", " abc", " 12345 x", "200000 ", "1234567", ""]:
     print(line(f"`{text}`", 3, *(read(text.encode()) or (None, 0))))
 for n in [0o300644, 0o200000]:

@@ -31,18 +31,19 @@ use Rattle.tree_write.specs.Write.{refusal, judged, measured, treeSize, treeAns
 use Rattle.loose_header.specs.Header.{kindWord, digits, decimal, looseHeader, headerAnswer}
 use Rattle.actor.specs.Actor.{inClass, isName, isNamed, isZone, isTime, isAddressed, isActor}
 use Rattle.hex.specs.Hex.{hexValue}
-use Rattle.header.specs.Line.{wordAt, idFrom, idAt, lineFrom, lineAt}
-use Rattle.header.specs.Extra.{foldFrom, foldEnd, foldedOr, extraAt, foldedForm}
+use Rattle.commit_line.specs.Line.{wordAt, idFrom, idAt, lineFrom, lineAt}
+use Rattle.extra_header.specs.Extra.{foldFrom, foldEnd, foldedOr, extraAt, foldedForm}
 use Rattle.header.specs.Record.{headerAt}
 use Rattle.header.specs.Record.{wellFormed as headerWell}
 use Rattle.header.specs.declared.CommitParts.{CommitParts}
 use Rattle.unfold.specs.Unfold.{hasForm, plainFrom, plainOf, roomPlan, valuePlan, gatePlan, unfoldPlan, unfoldAnswer}
 use Rattle.unfold.specs.Unfold.{answerOf as planAnswer}
-use Rattle.commit_read.specs.Parents.{parentAt, parentsFrom, restParents}
-use Rattle.commit_read.specs.Headers.{headsFrom, restHeads}
-use Rattle.commit_read.specs.Headers.{tally as headTally}
-use Rattle.commit_read.specs.Fields.{actorOf, actorAt, encodingOf, encodingAt, blankOf, endingOf, withCommitter, withAuthor, peopleOf, fieldsOf}
-use Rattle.commit_read.specs.Read.{roomOf, gatedBy, outcomeOf, answerIn, commitAnswer}
+use Rattle.commit_fields.specs.Parents.{parentAt, parentsFrom, restParents}
+use Rattle.commit_fields.specs.Headers.{headsFrom, restHeads}
+use Rattle.commit_fields.specs.Headers.{tally as headTally}
+use Rattle.commit_fields.specs.Fields.{actorOf, actorAt, encodingOf, encodingAt, blankOf, endingOf, withCommitter, withAuthor, peopleOf, fieldsOf}
+use Rattle.commit_fields.specs.Outcome.{roomOf, gatedBy, outcomeOf}
+use Rattle.commit_read.specs.Read.{answerIn, commitAnswer}
 use Rattle.border.specs.Border.{answerNumbers}
 use Rattle.border_mode.specs.Border.{modeNumbers, modeAsked}
 use Rattle.border_tree.specs.Border.{stepNumbers}

@@ -101,7 +101,7 @@ module _ (last : Last) (held : List ℕ) (written folder : Bool) (room : length 
           ap (λ (j : ℕ). j + 1) x ∙ sym (next-byte a· (length c) (last .folder) (omega (arith, size-is)))
       go false e = sym (next-past a· (length c) (last .folder) (omega (arith, size-is, ltb-false (length c) (last .size) e)))
 
-  over-is : isOver h· last l· (l· .stand) ≡ isBelow (nameOrder a· (last .folder) c folder)
+  pub over-is : isOver h· last l· (l· .stand) ≡ isBelow (nameOrder a· (last .folder) c folder)
   over-is = by-over h· last l· (l· .stand) _ (ap (λ (j : ℕ). ltb j (next [] folder)) next-held) ∙ sym (stand-order c a· (last .folder) folder)
 
   module _ (seen : List Entry) (w : Holds held last seen) (e : Entry) (named : e .name ≡ c) (sort : isTree (e .mode) ≡ folder) (free : freeOf 0 c ≡ true) where

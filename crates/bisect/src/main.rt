@@ -1,8 +1,8 @@
 // Seeks a name in a tree object by order, as a loader does: `./run bisect [sha256] NAME <object`, a folder's name with a slash behind it
 // (docs/FORMAT.md, "Lookup"). Prints the mode, the word of its kind and the id, or a refusal in one line.
 use entry::EntryRecord;
-use entry::WIDTH;
-use entry::entry_at;
+use entry_record::WIDTH;
+use entry_record::entry_at;
 use ground::BOUND;
 use ground::DONE;
 use ground::FINE;

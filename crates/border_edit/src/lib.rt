@@ -40,5 +40,8 @@ pub fn remove_from_tree(
     ensures { λ _. ⌜ now (answer .exit) ≡ answerNumbers (removeAnswered rules h (now (bytes .entry)) (now (name .entry)) (now (out .entry))) ⌝ }
     ensures { λ _. ⌜ now (out .exit) ≡ removeOutput rules h (now (bytes .entry)) (now (name .entry)) (now (out .entry)) ⌝ }
 {
-    hand(edit::remove_from_tree(bytes, h, rules, name, out), answer)
+    hand(
+        edit_remove::remove_from_tree(bytes, h, rules, name, out),
+        answer,
+    )
 }

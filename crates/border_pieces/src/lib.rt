@@ -16,7 +16,7 @@ pub fn check_start(h: usize, rules: u16, marks: &mut [usize; 18], first: &mut [u
     ensures { λ _. ⌜ now (marks .exit) ≡ marksNumbers (startOf h rules) ⌝ }
     ensures { λ _. ⌜ now (first .exit) ≡ startOf h rules .head ⌝ }
 {
-    let m = pieces::start(h, rules);
+    let m = piece_ends::start(h, rules);
     let number = m.verdict.number;
     let head = m.head;
     store_marks(m, marks);
@@ -58,5 +58,5 @@ pub fn check_end(marks: &[usize; 18], first: &[u8; 8], answer: &mut [usize; 4]) 
     ensures { λ r. ⌜ r ≡ endSaid (now (marks .entry)) (now (first .entry)) .verdict .number ⌝ }
     ensures { λ _. ⌜ now (answer .exit) ≡ answerNumbers (endSaid (now (marks .entry)) (now (first .entry))) ⌝ }
 {
-    hand(pieces::finish(marks_said(marks, *first)), answer)
+    hand(piece_ends::finish(marks_said(marks, *first)), answer)
 }

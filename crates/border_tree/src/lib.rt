@@ -16,18 +16,19 @@ pub fn tree_step(bytes: &[u8], h: usize, at: usize, answer: &mut [usize; 10]) ->
 {
     let c = Cursor { at };
     let s = c.step(bytes, h);
-    let number = s.verdict.number;
-    let place = s.verdict.place;
-    let part = s.verdict.part;
-    let found = s.found as usize;
-    let next = s.next.at;
-    let mode = s.entry.mode;
-    let name = s.entry.name_start;
-    let end = s.entry.name_end;
-    let id = s.entry.id_start;
-    let text = s.entry.text_start;
-    *answer = [number, place, part, found, next, mode, name, end, id, text];
-    number
+    *answer = [
+        s.verdict.number,
+        s.verdict.place,
+        s.verdict.part,
+        s.found as usize,
+        s.next.at,
+        s.entry.mode,
+        s.entry.name_start,
+        s.entry.name_end,
+        s.entry.id_start,
+        s.entry.text_start,
+    ];
+    s.verdict.number
 }
 
 // A whole tree object into lent records, plainly.

@@ -17,7 +17,7 @@ use Rattle.ground.specs.declared.Verdict.{Verdict}
 use Rattle.ground.specs.declared.Gate.{Gate}
 use Rattle.ground.specs.declared.Gate.the-variants.{Open, Shut}
 use Rattle.hex.specs.Hex.{isHex}
-use Rattle.header.specs.Extra.{foldedForm}
+use Rattle.extra_header.specs.Extra.{foldedForm}
 use Rattle.header.specs.Record.{width, headerAt, wellFormed, valueOf}
 use Rattle.header.proofs.Laws.{WellFormed, well-parts}
 use Rattle.header.specs.declared.HeaderRecord.{HeaderRecord}
@@ -27,7 +27,7 @@ use Rattle.unfold.specs.Unfold.{hasForm}
 use Rattle.unfold.proofs.Laws.{form-any, form-folded}
 use Rattle.grammar.specs.Named.{idNamed, recordsFrom}
 use Rattle.commit_check.specs.Sound.{Sound}
-use Rattle.commit_check.specs.Check.{headersOf, ranged, idFits, encodingFits, headerFits, tests, passing, judged, after, checked}
+use Rattle.commit_check.specs.Check.{headersOf, ranged, idFits, encodingFits, headerFits, tests, lateTests, lastTests, passing, judged, after, checked}
 
 -- ---- one record
 
@@ -170,24 +170,80 @@ module _ (l : List Bool) where
       go true e z = eqb-true (passing l) (length l) e
       go false e z = absurd (omega arith)
 
+-- ---- records after others, n of which pass
+
+module _ (n : ℕ) (a : Bool) (l : List Bool) where
+  first-bad : a ≡ false → n + passing (a ∷ l) ≡ n
+  first-bad e = rw e (omega arith)
+
+  first-good : a ≡ true → n + passing (a ∷ l) ≡ n + 1 + passing l
+  first-good e = rw e (omega arith)
+
+-- encoding, headers and message: k of the headers pass
+module _ (bytes : List ℕ) (p : CommitParts) (headers : List ℕ) where
+  abbrev heads : List Bool
+  heads = map (headerFits bytes) (headersOf headers)
+
+  abbrev message : List Bool
+  message = ranged (p .«message_start») (p .«message_end») (length bytes) ∷ []
+
+  heads-length : length heads ≡ length headers / width
+  heads-length = length-map (headersOf headers) (headerFits bytes) ∙ records-length 0 (length headers / width) headers
+
+  pub last-encoding : (n : ℕ) → encodingFits (length bytes) p ≡ false → n + passing (lastTests bytes p (headersOf headers)) ≡ n
+  last-encoding n e = first-bad n (encodingFits (length bytes) p) (heads ++ message) e
+
+  module _ (n : ℕ) (e : encodingFits (length bytes) p ≡ true) (k : ℕ) (q : k ≡ passing heads) where
+    given-encoding : n + passing (lastTests bytes p (headersOf headers)) ≡ n + 1 + passing (heads ++ message)
+    given-encoding = first-good n (encodingFits (length bytes) p) (heads ++ message) e
+
+    pub last-header : k < length headers / width → n + passing (lastTests bytes p (headersOf headers)) ≡ n + 1 + k
+    last-header h = given-encoding ∙ omega (arith, q, passing-cut heads message (omega (arith, q, heads-length)))
+
+    module _ (h : length headers / width ≤ k) where
+      all-headers : n + passing (lastTests bytes p (headersOf headers)) ≡ n + 1 + length headers / width + passing message
+      all-headers = given-encoding ∙ omega (arith, heads-length, passing-on heads message (omega (arith, q, heads-length)))
+
+      pub last-message : ranged (p .«message_start») (p .«message_end») (length bytes) ≡ false
+          → n + passing (lastTests bytes p (headersOf headers)) ≡ n + 1 + length headers / width
+      last-message f = all-headers ∙ first-bad (n + 1 + length headers / width) (ranged (p .«message_start») (p .«message_end») (length bytes)) [] f
+
+      pub last-whole : ranged (p .«message_start») (p .«message_end») (length bytes) ≡ true
+          → n + passing (lastTests bytes p (headersOf headers)) ≡ n + 2 + length headers / width
+      last-whole f =
+          all-headers ∙ first-good (n + 1 + length headers / width) (ranged (p .«message_start») (p .«message_end») (length bytes)) [] f ∙ omega arith
+
+-- author, committer and these
+module _ (bytes : List ℕ) (p : CommitParts) (headers : List ℕ) (n : ℕ) where
+  abbrev author : Bool
+  author = ranged (p .«author_start») (p .«author_end») (length bytes)
+
+  abbrev committer : Bool
+  committer = ranged (p .«committer_start») (p .«committer_end») (length bytes)
+
+  pub late-author : author ≡ false → n + passing (lateTests bytes p (headersOf headers)) ≡ n
+  late-author e = first-bad n author (committer ∷ lastTests bytes p (headersOf headers)) e
+
+  module _ (e : author ≡ true) where
+    pub late-committer : committer ≡ false → n + passing (lateTests bytes p (headersOf headers)) ≡ n + 1
+    late-committer f =
+        first-good n author (committer ∷ lastTests bytes p (headersOf headers)) e ∙ first-bad (n + 1) committer (lastTests bytes p (headersOf headers)) f
+
+    pub late-on : committer ≡ true → (r : ℕ) → r ≡ n + 2 + passing (lastTests bytes p (headersOf headers))
+        → n + passing (lateTests bytes p (headersOf headers)) ≡ r
+    late-on f r q =
+        first-good n author (committer ∷ lastTests bytes p (headersOf headers)) e
+        ∙ first-good (n + 1) committer (lastTests bytes p (headersOf headers)) f
+        ∙ omega (arith, q)
+
 -- ---- all records in turn: each that may be the first not to pass
 
 module _ (h : ℕ) (bytes : List ℕ) (p : CommitParts) (parents headers : List ℕ) where
   abbrev ids : List Bool
   ids = map (idFits h bytes) parents
 
-  abbrev heads : List Bool
-  heads = map (headerFits bytes) (headersOf headers)
-
-  abbrev ending : List Bool
-  ending = heads ++ ranged (p .«message_start») (p .«message_end») (length bytes) ∷ []
-
   abbrev late : List Bool
-  late =
-      ranged (p .«author_start») (p .«author_end») (length bytes)
-      ∷ ranged (p .«committer_start») (p .«committer_end») (length bytes)
-      ∷ encodingFits (length bytes) p
-      ∷ ending
+  late = lateTests bytes p (headersOf headers)
 
   abbrev row : List Bool
   row = tests h bytes p parents (headersOf headers)
@@ -195,11 +251,15 @@ module _ (h : ℕ) (bytes : List ℕ) (p : CommitParts) (parents headers : List 
   ids-length : length ids ≡ length parents
   ids-length = length-map parents (idFits h bytes)
 
-  heads-length : length heads ≡ length headers / width
-  heads-length = length-map (headersOf headers) (headerFits bytes) ∙ records-length 0 (length headers / width) headers
-
   pub row-length : length row ≡ length parents + 5 + length headers / width
-  row-length = omega (arith, length-append ids late, length-append heads (ranged (p .«message_start») (p .«message_end») (length bytes) ∷ []), ids-length, heads-length)
+  row-length =
+      omega (
+        arith,
+        length-append ids late,
+        length-append (heads bytes p headers) (message bytes p headers),
+        ids-length,
+        heads-length bytes p headers,
+      )
 
   pub row-tree : idFits h bytes (p .tree) ≡ false → passing row ≡ 0
   row-tree x = rw x
@@ -208,38 +268,8 @@ module _ (h : ℕ) (bytes : List ℕ) (p : CommitParts) (parents headers : List 
     pub row-parent : i < length parents → passing row ≡ i + 1
     row-parent q = rw x (omega (arith, passing-cut ids late (omega (arith, ids-length))))
 
-    module _ (y : length parents ≤ i) where
-      onward : passing row ≡ suc (length parents + passing late)
-      onward = rw x (omega (arith, passing-on ids late (omega (arith, ids-length)), ids-length))
-
-      pub row-author : ranged (p .«author_start») (p .«author_end») (length bytes) ≡ false → passing row ≡ length parents + 1
-      row-author q = onward ∙ rw q (omega arith)
-
-      module _ (q : ranged (p .«author_start») (p .«author_end») (length bytes) ≡ true) where
-        pub row-committer : ranged (p .«committer_start») (p .«committer_end») (length bytes) ≡ false → passing row ≡ length parents + 2
-        row-committer r = onward ∙ rw (q, r) (omega arith)
-
-        module _ (r : ranged (p .«committer_start») (p .«committer_end») (length bytes) ≡ true) where
-          pub row-encoding : encodingFits (length bytes) p ≡ false → passing row ≡ length parents + 3
-          row-encoding s = onward ∙ rw (q, r, s) (omega arith)
-
-          module _ (s : encodingFits (length bytes) p ≡ true) (k : ℕ) (l : k ≡ passing heads) where
-            four : passing row ≡ length parents + 4 + passing ending
-            four = onward ∙ rw (q, r, s) (omega arith)
-
-            pub row-header : k < length headers / width → passing row ≡ length parents + 4 + k
-            row-header u = omega (arith, four, passing-cut heads (ranged (p .«message_start») (p .«message_end») (length bytes) ∷ []) (omega (arith, heads-length)))
-
-            module _ (u : length headers / width ≤ k) where
-              last : passing row ≡ length parents + 4 + length headers / width + passing (ranged (p .«message_start») (p .«message_end») (length bytes) ∷ [])
-              last =
-                  omega (arith, four, passing-on heads (ranged (p .«message_start») (p .«message_end») (length bytes) ∷ []) (omega (arith, heads-length)), heads-length)
-
-              pub row-message : ranged (p .«message_start») (p .«message_end») (length bytes) ≡ false → passing row ≡ length parents + 4 + length headers / width
-              row-message w = last ∙ rw w (omega arith)
-
-              pub row-whole : ranged (p .«message_start») (p .«message_end») (length bytes) ≡ true → passing row ≡ length parents + 5 + length headers / width
-              row-whole w = last ∙ rw w (omega arith)
+    pub row-late : length parents ≤ i → (r : ℕ) → r ≡ length parents + 1 + passing late → passing row ≡ r
+    row-late y r q = rw x (omega (arith, passing-on ids late (omega (arith, ids-length)), ids-length))
 
   -- ---- behind the gate
 
@@ -280,12 +310,12 @@ module _ (h : ℕ) (bytes : List ℕ) (p : CommitParts) (parents headers : List 
       let o = gate-open h (max (length bytes) room) (max (length parents) (length headers / width)) g in
       let a = pass-first (idFits h bytes (p .tree)) (ids h bytes p parents headers ++ late h bytes p parents headers) e in
       let b = pass-both (ids h bytes p parents headers) (late h bytes p parents headers) (a .1) in
-      let l = ending h bytes p parents headers in
+      let l = heads bytes p headers ++ message bytes p headers in
       let m = ranged (p .«committer_start») (p .«committer_end») (length bytes) in
       let c = pass-first (ranged (p .«author_start») (p .«author_end») (length bytes)) (m ∷ encodingFits (length bytes) p ∷ l) (b .1) in
       let d = pass-first m (encodingFits (length bytes) p ∷ l) (c .1) in
       let f = pass-first (encodingFits (length bytes) p) l (d .1) in
-      let i = pass-both (heads h bytes p parents headers) (ranged (p .«message_start») (p .«message_end») (length bytes) ∷ []) (f .1) in
+      let i = pass-both (heads bytes p headers) (message bytes p headers) (f .1) in
       let j = pass-first (ranged (p .«message_start») (p .«message_end») (length bytes)) [] (i .1) in
       record {
         id-length = o .0;
@@ -298,7 +328,7 @@ module _ (h : ℕ) (bytes : List ℕ) (p : CommitParts) (parents headers : List 
         author = c .0;
         committer = d .0;
         encoding = f .0;
-        headers-pass = i .0 ∙ heads-length h bytes p parents headers;
+        headers-pass = i .0 ∙ heads-length bytes p headers;
         message = j .0;
       }
 
@@ -324,9 +354,15 @@ sound-checked h bytes p parents headers room s =
     (gate-fine h (max (length bytes) room) (max (length parents) (length headers / width)) (s .id-length)
     (omega (arith, s .bytes-most, s .room-most)) (omega (arith, s .parents-most, s .headers-most)))
     (length parents + 5 + length headers / width)
-    (sym (row-whole h bytes p parents headers (s .tree) (length parents) (sym (s .parents-pass)) (omega arith) (s .author) (s .committer) (s .encoding)
-    (length headers / width) (sym (s .headers-pass)) (omega arith) (s .message)))
+    (sym (row-late h bytes p parents headers (s .tree) (length parents) (sym (s .parents-pass)) (omega arith) (length parents + 5 + length headers / width) rest))
     (omega arith)
+  where
+    last : length parents + 3 + passing (lastTests bytes p (headersOf headers)) ≡ length parents + 3 + 2 + length headers / width
+    last = last-whole bytes p headers (length parents + 3) (s .encoding) (length headers / width) (sym (s .headers-pass)) (omega arith) (s .message)
+
+    rest : length parents + 5 + length headers / width ≡ length parents + 1 + passing (lateTests bytes p (headersOf headers))
+    rest =
+        sym (late-on bytes p headers (length parents + 1) (s .author) (s .committer) (length parents + 5 + length headers / width) (omega (arith, last)))
 
 -- ---- one after another of records that all pass
 

@@ -37,16 +37,18 @@ unfoldable pub headerFits : List ℕ → HeaderRecord → Bool
 headerFits bytes x = wellFormed x (length bytes) && hasForm (x .mark) (valueOf bytes x)
 
 -- the records in turn, each with whether it passes: tree, parents, author, committer, encoding, headers, message
-abbrev pub tests : ℕ → List ℕ → CommitParts → List ℕ → List HeaderRecord → List Bool
-tests h bytes p parents headers =
-    idFits h bytes (p .tree)
-    ∷ (map (idFits h bytes) parents
-    ++ ranged (p .«author_start») (p .«author_end») (length bytes)
+abbrev pub lastTests : List ℕ → CommitParts → List HeaderRecord → List Bool
+lastTests bytes p headers =
+    encodingFits (length bytes) p ∷ (map (headerFits bytes) headers ++ ranged (p .«message_start») (p .«message_end») (length bytes) ∷ [])
+
+abbrev pub lateTests : List ℕ → CommitParts → List HeaderRecord → List Bool
+lateTests bytes p headers =
+    ranged (p .«author_start») (p .«author_end») (length bytes)
     ∷ ranged (p .«committer_start») (p .«committer_end») (length bytes)
-    ∷ encodingFits (length bytes) p
-    ∷ (map (headerFits bytes) headers
-    ++ ranged (p .«message_start») (p .«message_end») (length bytes)
-    ∷ []))
+    ∷ lastTests bytes p headers
+
+abbrev pub tests : ℕ → List ℕ → CommitParts → List ℕ → List HeaderRecord → List Bool
+tests h bytes p parents headers = idFits h bytes (p .tree) ∷ (map (idFits h bytes) parents ++ lateTests bytes p headers)
 
 -- how many pass before the first that does not
 abbrev pub passing : List Bool → ℕ

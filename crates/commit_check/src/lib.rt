@@ -1,11 +1,12 @@
 // The records of a commit that is to be written, checked one by one (docs/FORMAT.md, "Commit writing").
 ghost use mathlib.Core.Path.{_≡_};
 ghost use mathlib.Core.List.{map};
-ghost use Prim.Native.Nat.{_≤_, _/_};
+ghost use Prim.Native.Nat.{_+_, _≤_, _/_};
 ghost use lib.ListN.{length};
 ghost use Rattle.ground.specs.Verdict.{mostRecords};
 ghost use Rattle.header.specs.Record.{width};
-ghost use Rattle.commit_check.specs.Check.{headersOf, ranged, idFits, encodingFits, headerFits, tests, passing, checked};
+ghost use Rattle.commit_check.specs.Check.{headersOf, ranged, idFits, encodingFits, headerFits, tests, lateTests, lastTests, passing, checked};
+use extra_header::is_folded;
 use ground::BAD_RECORD;
 use ground::FINE;
 use ground::Gate;
@@ -16,7 +17,6 @@ use header::CommitParts;
 use header::HEADER_WIDTH;
 use header::HeaderRecord;
 use header::header_at;
-use header::is_folded;
 use header::well_formed;
 use hex::is_hex;
 
@@ -105,6 +105,39 @@ fn count_headers(bytes: &[u8], headers: &[usize]) -> usize
     i
 }
 
+// Encoding, headers and message: how many records pass, so many before them.
+fn count_last(bytes: &[u8], parts: CommitParts, headers: &[usize], before: usize) -> usize
+    requires { ⌜ (before ≤ 1048579) × (length (now headers) / width ≤ mostRecords) ⌝ }
+    ensures { λ r. ⌜ r ≡ before + passing (lastTests (now (bytes .entry)) parts (headersOf (now (headers .entry)))) ⌝ }
+{
+    let m = headers.len() / HEADER_WIDTH;
+    if is_encoding(bytes.len(), parts) {
+        let k = count_headers(bytes, headers);
+        if k < m {
+            return before + 1 + k;
+        }
+        if is_range(parts.message_start, parts.message_end, bytes.len()) {
+            return before + 2 + m;
+        }
+        return before + 1 + m;
+    }
+    before
+}
+
+// Author, committer and what follows them.
+fn count_late(bytes: &[u8], parts: CommitParts, headers: &[usize], before: usize) -> usize
+    requires { ⌜ (before ≤ 1048577) × (length (now headers) / width ≤ mostRecords) ⌝ }
+    ensures { λ r. ⌜ r ≡ before + passing (lateTests (now (bytes .entry)) parts (headersOf (now (headers .entry)))) ⌝ }
+{
+    if is_range(parts.author_start, parts.author_end, bytes.len()) {
+        if is_range(parts.committer_start, parts.committer_end, bytes.len()) {
+            return count_last(bytes, parts, headers, before + 2);
+        }
+        return before + 1;
+    }
+    before
+}
+
 // How many records pass before the first that does not: tree, parents, author, committer, encoding, headers, message.
 fn count_all(
     bytes: &[u8],
@@ -117,31 +150,12 @@ fn count_all(
     requires { ⌜ length (now headers) / width ≤ mostRecords ⌝ }
     ensures { λ r. ⌜ r ≡ passing (tests h (now (bytes .entry)) parts (now (parents .entry)) (headersOf (now (headers .entry)))) ⌝ }
 {
-    let n = parents.len();
-    let m = headers.len() / HEADER_WIDTH;
-    let len = bytes.len();
     if is_id(bytes, h, parts.tree) {
         let i = count_ids(bytes, h, parents);
-        if i < n {
+        if i < parents.len() {
             return i + 1;
         }
-        if is_range(parts.author_start, parts.author_end, len) {
-            if is_range(parts.committer_start, parts.committer_end, len) {
-                if is_encoding(len, parts) {
-                    let k = count_headers(bytes, headers);
-                    if k < m {
-                        return n + 4 + k;
-                    }
-                    if is_range(parts.message_start, parts.message_end, len) {
-                        return n + 5 + m;
-                    }
-                    return n + 4 + m;
-                }
-                return n + 3;
-            }
-            return n + 2;
-        }
-        return n + 1;
+        return count_late(bytes, parts, headers, parents.len() + 1);
     }
     0
 }

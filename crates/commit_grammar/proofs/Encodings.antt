@@ -12,13 +12,13 @@ use Rattle.ground.specs.Basics.{pick, part}
 use Rattle.ground.specs.Scan.{countTo, freeOf}
 use Rattle.ground.proofs.Laws.{count-free, is-false}
 use Rattle.header.specs.Words.{encodingWord}
-use Rattle.header.specs.Line.{wordAt, lineAt}
-use Rattle.header.specs.declared.Line.{Line}
-use Rattle.header.specs.declared.Line.the-variants.{Value, Missing}
-use Rattle.header.proofs.Laws.{line-no}
-use Rattle.commit_read.specs.Fields.{encodingAt}
-use Rattle.commit_read.specs.declared.Encoding as read
-use Rattle.commit_read.proofs.Laws.{encoding-none, encoding-some}
+use Rattle.commit_line.specs.Line.{wordAt, lineAt}
+use Rattle.commit_line.specs.declared.Line.{Line}
+use Rattle.commit_line.specs.declared.Line.the-variants.{Value, Missing}
+use Rattle.commit_line.proofs.Laws.{line-no}
+use Rattle.commit_fields.specs.Fields.{encodingAt}
+use Rattle.commit_fields.specs.declared.Encoding as read
+use Rattle.commit_fields.proofs.Laws.{encoding-none, encoding-some}
 use Rattle.grammar.specs.Grammar.{Header, Encoding, absent, given, line, encodingBytes, lastLf, headerBytes, headersBytes, foldedLines, FoldedForm, HeaderForm, HeaderForms, EncodingForm, FirstForm}
 use Rattle.commit_grammar.proofs.Pieces.{line-onto, word-read, value-read, value-stands, value-part, line-after}
 

@@ -10,15 +10,15 @@ use Rattle.ground.proofs.Laws.{part-from, is-false}
 use Rattle.actor.proofs.Form.{actor-form, form-actor, actor-one-line}
 use Rattle.actor.specs.Form.{ActorForm}
 use Rattle.header.specs.Words.{treeWord, parentWord, authorWord, committerWord}
-use Rattle.header.specs.Line.{wordAt}
-use Rattle.header.proofs.Laws.{id-line-no}
-use Rattle.commit_read.specs.Parents.{parentAt, parentStarts}
-use Rattle.commit_read.specs.Headers.{heads, recordsOf, tally}
-use Rattle.commit_read.specs.Fields.{actorAt, encodingAt, foundOf, fieldsOf}
-use Rattle.commit_read.specs.declared.Person.the-variants as person
-use Rattle.commit_read.specs.declared.Found.{Found}
-use Rattle.commit_read.specs.declared.Outcome.the-variants.{Whole}
-use Rattle.commit_read.proofs.Laws.{actor-good, actor-parts, ending-is, people-both, fields-are, Parts, fields-parts, blank-fits, tally-count}
+use Rattle.commit_line.specs.Line.{wordAt}
+use Rattle.commit_line.proofs.Laws.{id-line-no}
+use Rattle.commit_fields.specs.Parents.{parentAt, parentStarts}
+use Rattle.commit_fields.specs.Headers.{heads, recordsOf, tally}
+use Rattle.commit_fields.specs.Fields.{actorAt, encodingAt, foundOf, fieldsOf}
+use Rattle.commit_fields.specs.declared.Person.the-variants as person
+use Rattle.commit_fields.specs.declared.Found.{Found}
+use Rattle.commit_fields.specs.declared.Outcome.the-variants.{Whole}
+use Rattle.commit_fields.proofs.Laws.{actor-good, actor-parts, ending-is, people-both, fields-are, Parts, fields-parts, blank-fits, tally-count}
 use Rattle.grammar.specs.Grammar.{Header, Encoding, Commit, line, parentsBytes, encodingBytes, headersBytes, commitBytes, CommitForm}
 use Rattle.grammar.specs.Named.{idNamed, headerNamed, commitOf}
 use Rattle.commit_grammar.proofs.Pieces.{cut, part-none, after, byte-is, byte-after, value-part, line-after, word-read, id-read, id-stands, value-read, value-stands}

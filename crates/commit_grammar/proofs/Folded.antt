@@ -11,8 +11,8 @@ use borrow.Author.Tests.{ne-eqb, not-true}
 use Rattle.ground.specs.Basics.{part}
 use Rattle.ground.specs.Scan.{placeFrom, freeOf}
 use Rattle.ground.proofs.Laws.{equal, and-left, and-right, place-from}
-use Rattle.header.specs.Extra.{foldFrom, foldEnd}
-use Rattle.header.proofs.Laws.{fold-end-here, fold-other, fold-open, fold-next}
+use Rattle.extra_header.specs.Extra.{foldFrom, foldEnd}
+use Rattle.extra_header.proofs.Laws.{fold-end-here, fold-other, fold-open, fold-next}
 use Rattle.grammar.specs.Grammar.{foldedLines, OneLines}
 use Rattle.commit_grammar.proofs.Pieces.{below, cut-part, part-none, free-part, place-is}
 

@@ -12,14 +12,14 @@ use Rattle.ground.specs.Basics.{part}
 use Rattle.ground.specs.Scan.{placeFrom, freeOf}
 use Rattle.ground.proofs.Laws.{and-left, place-end, place-here}
 use Rattle.actor.proofs.Form.{free-both}
-use Rattle.header.specs.Extra.{foldFrom, foldEnd, extraAt}
+use Rattle.extra_header.specs.Extra.{foldFrom, foldEnd, extraAt}
 use Rattle.header.specs.Record.{headerOf}
 use Rattle.header.specs.declared.HeaderRecord.{HeaderRecord}
-use Rattle.header.specs.declared.Extra.{Extra}
-use Rattle.header.specs.declared.Extra.the-variants.{Got, No}
-use Rattle.header.proofs.Laws.{fold-within, extra-unnamed, extra-bare, extra-folded, extra-line, extra-parts, extra-next}
-use Rattle.commit_read.specs.Headers.{Heads, ended, header, headsFrom, restHeads, tally, recordsOf}
-use Rattle.commit_read.proofs.Laws.{heads-end, heads-more}
+use Rattle.extra_header.specs.declared.Extra.{Extra}
+use Rattle.extra_header.specs.declared.Extra.the-variants.{Got, No}
+use Rattle.extra_header.proofs.Laws.{fold-within, extra-unnamed, extra-bare, extra-folded, extra-line, extra-parts, extra-next}
+use Rattle.commit_fields.specs.Headers.{Heads, ended, header, headsFrom, restHeads, tally, recordsOf}
+use Rattle.commit_fields.proofs.Laws.{heads-end, heads-more}
 use Rattle.grammar.specs.Grammar.{Header, lastLf, headerBytes, headersBytes, foldedLines, FoldedForm, HeaderForm, HeaderForms}
 use Rattle.grammar.specs.Named.{headerNamed}
 use Rattle.grammar.proofs.Laws.{part-length}

@@ -11,18 +11,18 @@ use Rattle.ground.specs.Basics.{part}
 use Rattle.ground.specs.Scan.{placeFrom, freeOf}
 use Rattle.ground.proofs.Laws.{equal, place-from, place-end}
 use Rattle.header.specs.Words.{encodingWord}
-use Rattle.header.specs.Line.{lineAt}
-use Rattle.header.specs.Extra.{foldFrom, foldEnd, extraAt}
+use Rattle.commit_line.specs.Line.{lineAt}
+use Rattle.extra_header.specs.Extra.{foldFrom, foldEnd, extraAt}
 use Rattle.header.specs.Record.{headerOf}
-use Rattle.header.specs.declared.Line.{Line}
-use Rattle.header.specs.declared.Line.the-variants.{Value, Missing}
+use Rattle.commit_line.specs.declared.Line.{Line}
+use Rattle.commit_line.specs.declared.Line.the-variants.{Value, Missing}
 use Rattle.header.specs.declared.HeaderRecord.{HeaderRecord}
-use Rattle.header.specs.declared.Extra.{Extra}
-use Rattle.header.specs.declared.Extra.the-variants.{Got, No}
-use Rattle.header.proofs.Laws.{fold-end-here, fold-other, fold-open, fold-next, fold-within, extra-unnamed, extra-folded, extra-line, extra-parts, extra-next}
-use Rattle.commit_read.specs.Headers.{Heads, ended, header, restHeads, tally, recordsOf}
-use Rattle.commit_read.specs.Fields.{encodingAt}
-use Rattle.commit_read.proofs.Laws.{heads-end, heads-more, encoding-none, encoding-some}
+use Rattle.extra_header.specs.declared.Extra.{Extra}
+use Rattle.extra_header.specs.declared.Extra.the-variants.{Got, No}
+use Rattle.extra_header.proofs.Laws.{fold-end-here, fold-other, fold-open, fold-next, fold-within, extra-unnamed, extra-folded, extra-line, extra-parts, extra-next}
+use Rattle.commit_fields.specs.Headers.{Heads, ended, header, restHeads, tally, recordsOf}
+use Rattle.commit_fields.specs.Fields.{encodingAt}
+use Rattle.commit_fields.proofs.Laws.{heads-end, heads-more, encoding-none, encoding-some}
 use Rattle.grammar.specs.Grammar.{
   Header,
   Encoding,

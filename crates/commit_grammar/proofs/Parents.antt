@@ -8,8 +8,8 @@ use native.Mathlib.Omega.{arith}
 use lib.ListN.{length, drop}
 use Rattle.ground.specs.Basics.{pick}
 use Rattle.header.specs.Words.{parentWord}
-use Rattle.commit_read.specs.Parents.{parentAt, parentsFrom, restParents, parentCount, parentStarts}
-use Rattle.commit_read.proofs.Laws.{parent-fits, parents-end, parents-more}
+use Rattle.commit_fields.specs.Parents.{parentAt, parentsFrom, restParents, parentCount, parentStarts}
+use Rattle.commit_fields.proofs.Laws.{parent-fits, parents-end, parents-more}
 use Rattle.grammar.specs.Grammar.{line, parentsBytes, HexForm, HexForms}
 use Rattle.grammar.specs.Named.{idNamed}
 use Rattle.grammar.proofs.Laws.{line-length}

@@ -15,9 +15,9 @@ use Rattle.ground.specs.Basics.{part}
 use Rattle.ground.specs.Scan.{countTo, placeFrom, sameBytes, freeOf}
 use Rattle.ground.proofs.Laws.{and-left, and-right, count-is, count-free, free-count, place-from, same-refl, same-true}
 use Rattle.hex.specs.Hex.{isHex}
-use Rattle.header.specs.Line.{wordAt, idFrom, idAt, lineAt}
-use Rattle.header.specs.declared.Line.the-variants.{Value}
-use Rattle.header.proofs.Laws.{word-is, word-fits, id-yes, id-fits, id-line-is, id-line-parts, line-value, line-parts}
+use Rattle.commit_line.specs.Line.{wordAt, idFrom, idAt, lineAt}
+use Rattle.commit_line.specs.declared.Line.the-variants.{Value}
+use Rattle.commit_line.proofs.Laws.{word-is, word-fits, id-yes, id-fits, id-line-is, id-line-parts, line-value, line-parts}
 use Rattle.grammar.specs.Grammar.{line, HexForm}
 use Rattle.grammar.proofs.Laws.{part-length}
 

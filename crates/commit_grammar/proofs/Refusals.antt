@@ -13,19 +13,19 @@ use Rattle.ground.specs.declared.Gate.{Gate}
 use Rattle.ground.specs.declared.Gate.the-variants.{Open, Shut}
 use Rattle.actor.specs.Actor.{isActor}
 use Rattle.header.specs.Words.{treeWord, authorWord, committerWord}
-use Rattle.header.specs.Line.{idAt, lineAt}
-use Rattle.header.specs.declared.Line.{Line}
-use Rattle.header.specs.declared.Line.the-variants.{Value, Missing}
-use Rattle.commit_read.specs.Parents.{parentCount}
-use Rattle.commit_read.specs.Headers.{heads, tally}
-use Rattle.commit_read.specs.Fields.{refusal, actorOf, actorAt, encodingAt, foundOf, blankOf, endingOf, withCommitter, withAuthor, peopleOf, fieldsOf}
-use Rattle.commit_read.specs.Read.{roomOf, gatedBy, outcomeOf}
-use Rattle.commit_read.specs.declared.Encoding.{Encoding}
-use Rattle.commit_read.specs.declared.HeaderCount.{HeaderCount}
-use Rattle.commit_read.specs.declared.Person.{Person}
-use Rattle.commit_read.specs.declared.Person.the-variants as person
-use Rattle.commit_read.specs.declared.Outcome.{Outcome}
-use Rattle.commit_read.specs.declared.Outcome.the-variants.{Whole, Fails}
+use Rattle.commit_line.specs.Line.{idAt, lineAt}
+use Rattle.commit_line.specs.declared.Line.{Line}
+use Rattle.commit_line.specs.declared.Line.the-variants.{Value, Missing}
+use Rattle.commit_fields.specs.Parents.{parentCount}
+use Rattle.commit_fields.specs.Headers.{heads, tally}
+use Rattle.commit_fields.specs.Fields.{refusal, actorOf, actorAt, encodingAt, foundOf, blankOf, endingOf, withCommitter, withAuthor, peopleOf, fieldsOf}
+use Rattle.commit_fields.specs.Outcome.{roomOf, gatedBy, outcomeOf}
+use Rattle.commit_fields.specs.declared.Encoding.{Encoding}
+use Rattle.commit_fields.specs.declared.HeaderCount.{HeaderCount}
+use Rattle.commit_fields.specs.declared.Person.{Person}
+use Rattle.commit_fields.specs.declared.Person.the-variants as person
+use Rattle.commit_fields.specs.declared.Outcome.{Outcome}
+use Rattle.commit_fields.specs.declared.Outcome.the-variants.{Whole, Fails}
 
 -- a verdict other than "done"
 abbrev pub Bad : Verdict → Type 0

@@ -17,48 +17,27 @@ use Rattle.actor.specs.Actor.{isActor}
 use Rattle.actor.specs.Form.{ActorForm}
 use Rattle.actor.proofs.Form.{actor-form, form-actor, actor-one-line}
 use Rattle.header.specs.Words.{treeWord, parentWord, authorWord, committerWord, encodingWord}
-use Rattle.header.specs.Line.{idAt, lineAt}
-use Rattle.header.specs.Extra.{extraAt}
+use Rattle.commit_line.specs.Line.{idAt, lineAt}
+use Rattle.extra_header.specs.Extra.{extraAt}
 use Rattle.header.specs.Record.{width}
-use Rattle.header.specs.declared.Line.{Line}
-use Rattle.header.specs.declared.Line.the-variants.{Value, Missing}
-use Rattle.header.specs.declared.Extra.{Extra}
-use Rattle.header.specs.declared.Extra.the-variants.{Got, No}
-use Rattle.header.proofs.Laws.{line-parts, line-fits, extra-next}
-use Rattle.commit_read.specs.Parents.{parentAt, parentsFrom, restParents, parentCount, parentStarts}
-use Rattle.commit_read.specs.Headers.{Heads, headsFrom, restHeads, heads, recordsOf, tally}
-use Rattle.commit_read.specs.Fields.{refusal, actorAt, encodingAt, endingOf, peopleOf, fieldsOf}
+use Rattle.commit_line.specs.declared.Line.{Line}
+use Rattle.commit_line.specs.declared.Line.the-variants.{Value, Missing}
+use Rattle.extra_header.specs.declared.Extra.{Extra}
+use Rattle.extra_header.specs.declared.Extra.the-variants.{Got, No}
+use Rattle.commit_line.proofs.Laws.{line-parts, line-fits}
+use Rattle.extra_header.proofs.Laws.{extra-next}
+use Rattle.commit_fields.specs.Parents.{parentAt, parentsFrom, restParents, parentCount, parentStarts}
+use Rattle.commit_fields.specs.Headers.{Heads, headsFrom, restHeads, heads, recordsOf, tally}
+use Rattle.commit_fields.specs.Fields.{refusal, actorAt, encodingAt, endingOf, peopleOf, fieldsOf}
 use Rattle.commit_read.specs.Read.{refusedRead, commitAnswer, commitOutcome}
-use Rattle.commit_read.specs.declared.Refusal.{Refusal}
-use Rattle.commit_read.specs.declared.Person.the-variants as person
-use Rattle.commit_read.specs.declared.Found.{Found}
+use Rattle.commit_fields.specs.declared.Refusal.{Refusal}
+use Rattle.commit_fields.specs.declared.Person.the-variants as person
+use Rattle.commit_fields.specs.declared.Found.{Found}
 use Rattle.commit_read.specs.declared.CommitRead.{CommitRead}
-use Rattle.commit_read.specs.declared.Outcome.{Outcome}
-use Rattle.commit_read.specs.declared.Outcome.the-variants.{Whole, Fails}
-use Rattle.commit_read.proofs.Laws.{
-  parent-fits,
-  parents-fit,
-  actor-missing,
-  actor-bad,
-  actor-good,
-  actor-fits,
-  encoding-none,
-  encoding-some,
-  ending-no,
-  ending-is,
-  people-author,
-  people-committer,
-  people-both,
-  fields-no,
-  fields-are,
-  tree-fits,
-  outcome-field,
-  outcome-parents,
-  outcome-headers,
-  outcome-whole,
-  answer-fails,
-  answer-whole,
-}
+use Rattle.commit_fields.specs.declared.Outcome.{Outcome}
+use Rattle.commit_fields.specs.declared.Outcome.the-variants.{Whole, Fails}
+use Rattle.commit_fields.proofs.Laws.{parent-fits, parents-fit, actor-missing, actor-bad, actor-good, actor-fits, encoding-none, encoding-some, ending-no, ending-is, people-author, people-committer, people-both, fields-no, fields-are, tree-fits, outcome-field, outcome-parents, outcome-headers, outcome-whole}
+use Rattle.commit_read.proofs.Laws.{answer-fails, answer-whole}
 use Rattle.grammar.specs.Grammar.{line, parentsBytes, encodingBytes, headersBytes, HexForms}
 use Rattle.grammar.specs.Named.{idNamed, headerNamed}
 use Rattle.commit_grammar.specs.Refused.{

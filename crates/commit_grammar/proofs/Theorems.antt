@@ -10,13 +10,13 @@ use Rattle.ground.proofs.Laws.{gate-fine}
 use Rattle.header.specs.Record.{width, flat, headerAt}
 use Rattle.header.specs.declared.HeaderRecord.{HeaderRecord}
 use Rattle.header.proofs.Laws.{header-is}
-use Rattle.commit_read.specs.Parents.{parentStarts}
-use Rattle.commit_read.specs.Headers.{heads, recordsOf, flats}
+use Rattle.commit_fields.specs.Parents.{parentStarts}
+use Rattle.commit_fields.specs.Headers.{heads, recordsOf, flats}
 use Rattle.commit_read.specs.Read.{commitOutcome, commitAnswer, commitParents, commitHeaders, answerIn, parentsIn, headersIn}
-use Rattle.commit_read.specs.declared.Found.{Found}
-use Rattle.commit_read.specs.declared.Outcome.{Outcome}
-use Rattle.commit_read.specs.declared.Outcome.the-variants.{Whole, Fails}
-use Rattle.commit_read.proofs.Laws.{starts-length, outcome-inverse, outcome-whole, outcome-fits, tally-count}
+use Rattle.commit_fields.specs.declared.Found.{Found}
+use Rattle.commit_fields.specs.declared.Outcome.{Outcome}
+use Rattle.commit_fields.specs.declared.Outcome.the-variants.{Whole, Fails}
+use Rattle.commit_fields.proofs.Laws.{starts-length, outcome-inverse, outcome-whole, outcome-fits, tally-count}
 use Rattle.grammar.specs.Grammar.{Commit, commitBytes, CommitForm}
 use Rattle.grammar.specs.Named.{headerNamed, recordsFrom}
 use Rattle.commit_grammar.specs.Named.{named}

@@ -12,8 +12,8 @@ use borrow.Author.Tests.{eqb-true, eq-eqb, ne-eqb, eqb-false, not-true, ltb-true
 use Rattle.ground.specs.Basics.{part}
 use Rattle.ground.specs.Scan.{countTo, freeOf}
 use Rattle.ground.proofs.Laws.{and-left, and-right, count-is, count-free, free-count}
-use Rattle.header.specs.Extra.{foldFrom, foldEnd, foldedForm}
-use Rattle.header.proofs.Laws.{form-is}
+use Rattle.extra_header.specs.Extra.{foldFrom, foldEnd, foldedForm}
+use Rattle.extra_header.proofs.Laws.{form-is}
 use Rattle.unfold.specs.Unfold.{plainFrom, plainOf}
 use Rattle.grammar.specs.Grammar.{foldedLines, plainLines, OneLines, FoldedForm}
 use Rattle.grammar.proofs.Laws.{part-length}

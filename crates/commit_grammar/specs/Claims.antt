@@ -6,7 +6,7 @@ use mathlib.Core.List.{List, _∷_, _++_}
 use mathlib.Core.Logic.{_⊎_, _↔_}
 use lib.ListN.{length}
 use Rattle.ground.specs.Verdict.{fine, mostBytes, mostRecords}
-use Rattle.header.specs.Extra.{foldedForm}
+use Rattle.extra_header.specs.Extra.{foldedForm}
 use Rattle.header.specs.Record.{width}
 use Rattle.unfold.specs.Unfold.{plainOf}
 use Rattle.grammar.specs.Grammar.{Commit, commitBytes, plainLines, FoldedForm, CommitForm}

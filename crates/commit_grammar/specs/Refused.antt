@@ -12,7 +12,7 @@ use Rattle.ground.specs.declared.Gate.the-variants.{Open}
 use Rattle.actor.specs.Form.{ActorForm}
 use Rattle.header.specs.Words.{treeWord, parentWord, authorWord, committerWord}
 use Rattle.header.specs.Record.{width}
-use Rattle.commit_read.specs.Fields.{refusal}
+use Rattle.commit_fields.specs.Fields.{refusal}
 use Rattle.commit_read.specs.Read.{refusedRead, commitAnswer}
 use Rattle.grammar.specs.Grammar.{
   Header,

@@ -1,4 +1,2 @@
-pub mod Parents
-pub mod Headers
-pub mod Fields
+pub mod Stored
 pub mod Read

@@ -1,37 +1,18 @@
 -- Reading a commit into lent lists: the answer, and the lists afterwards (docs/FORMAT.md, "Commits" and "Numbers"). Assumes nothing.
-use Prim.Native.Nat.{ℕ, _+_, _*_, _/_, max}
+use Prim.Native.Nat.{ℕ, _+_, _*_, _/_}
 use mathlib.Core.List.{List, _++_}
 use lib.ListN.{length, drop}
-use lib.Dec.{leb}
-use Rattle.ground.specs.Basics.{pick}
-use Rattle.ground.specs.Verdict.{fine, gateOf}
-use Rattle.ground.specs.declared.Gate.{Gate}
-use Rattle.ground.specs.declared.Gate.the-variants.{Open, Shut}
+use Rattle.ground.specs.Verdict.{fine}
 use Rattle.header.specs.Record.{width}
 use Rattle.header.specs.declared.CommitParts.{CommitParts}
-use Rattle.commit_read.specs.Parents.{parentStarts}
-use Rattle.commit_read.specs.Headers.{heads, recordsOf, flats}
-use Rattle.commit_read.specs.Fields.{refusal, fieldsOf}
-use Rattle.commit_read.specs.declared.Refusal.{Refusal}
-use Rattle.commit_read.specs.declared.Found.{Found}
-use Rattle.commit_read.specs.declared.Outcome.{Outcome}
-use Rattle.commit_read.specs.declared.Outcome.the-variants.{Whole, Fails}
+use Rattle.commit_fields.specs.Parents.{parentStarts}
+use Rattle.commit_fields.specs.Headers.{heads, recordsOf, flats}
+use Rattle.commit_fields.specs.Outcome.{outcomeOf}
+use Rattle.commit_fields.specs.declared.Refusal.{Refusal}
+use Rattle.commit_fields.specs.declared.Found.{Found}
+use Rattle.commit_fields.specs.declared.Outcome.{Outcome}
+use Rattle.commit_fields.specs.declared.Outcome.the-variants.{Whole, Fails}
 use Rattle.commit_read.specs.declared.CommitRead.{CommitRead}
-
--- 4 where too few parents are lent, then where too few headers are
-unfoldable pub roomOf : ℕ → ℕ → Outcome → Outcome
-roomOf np nh (Fails r) = Fails r
-roomOf np nh (Whole f) =
-    pick (leb (f .parents) np) (pick (leb (f .headers) nh) (Whole f) (Fails (refusal 4 (f .headers) 0))) (Fails (refusal 4 (f .parents) 0))
-
--- 1 and 2 come before all else
-unfoldable pub gatedBy : Gate → Outcome → Outcome
-gatedBy Open o = o
-gatedBy (Shut v) o = Fails (record { verdict = v; field = 0 })
-
--- all that reading decides, with room for np parents and nh headers
-unfoldable pub outcomeOf : List ℕ → ℕ → ℕ → ℕ → Outcome
-outcomeOf s h np nh = gatedBy (gateOf h (length s) (max np nh)) (roomOf np nh (fieldsOf s h))
 
 abbrev pub noParts : CommitParts
 noParts =

@@ -9,24 +9,26 @@ use native.Mathlib.Omega.{arith}
 use lib.ListN.{length, drop, length-take, length-drop}
 use borrow.Author.Tests.{le-leb}
 use Rattle.header.specs.Words.{authorWord, committerWord, encodingWord}
-use Rattle.header.specs.Line.{lineAt}
-use Rattle.header.specs.Extra.{extraAt}
+use Rattle.commit_line.specs.Line.{lineAt}
+use Rattle.extra_header.specs.Extra.{extraAt}
 use Rattle.header.specs.Record.{headerOf, valueOf}
-use Rattle.header.specs.declared.Line.{Line}
-use Rattle.header.specs.declared.Line.the-variants.{Value, Missing}
-use Rattle.header.specs.declared.Extra.{Extra}
-use Rattle.header.specs.declared.Extra.the-variants.{Got, No}
+use Rattle.commit_line.specs.declared.Line.{Line}
+use Rattle.commit_line.specs.declared.Line.the-variants.{Value, Missing}
+use Rattle.extra_header.specs.declared.Extra.{Extra}
+use Rattle.extra_header.specs.declared.Extra.the-variants.{Got, No}
 use Rattle.header.specs.declared.HeaderRecord.{HeaderRecord}
 use Rattle.header.specs.declared.CommitParts.{CommitParts}
-use Rattle.header.proofs.Laws.{ExtraParts, extra-parts, fold-within, WellFormed, well-made, line-fits}
+use Rattle.extra_header.proofs.Laws.{ExtraParts, extra-parts, fold-within}
+use Rattle.header.proofs.Laws.{WellFormed, well-made}
+use Rattle.commit_line.proofs.Laws.{line-fits}
 use Rattle.unfold.specs.Unfold.{hasForm}
 use Rattle.unfold.proofs.Laws.{form-any, form-folded}
-use Rattle.commit_read.specs.Headers.{Heads, ended, header, headsFrom, heads, tally, recordsOf}
-use Rattle.commit_read.specs.Fields.{encodingAt, foundOf, fieldsOf}
-use Rattle.commit_read.specs.declared.Encoding.{Encoding}
-use Rattle.commit_read.specs.declared.Found.{Found}
-use Rattle.commit_read.specs.declared.Outcome.the-variants.{Whole}
-use Rattle.commit_read.proofs.Laws.{actor-parts, blank-fits, encoding-none, encoding-some, fields-parts}
+use Rattle.commit_fields.specs.Headers.{Heads, ended, header, headsFrom, heads, tally, recordsOf}
+use Rattle.commit_fields.specs.Fields.{encodingAt, foundOf, fieldsOf}
+use Rattle.commit_fields.specs.declared.Encoding.{Encoding}
+use Rattle.commit_fields.specs.declared.Found.{Found}
+use Rattle.commit_fields.specs.declared.Outcome.the-variants.{Whole}
+use Rattle.commit_fields.proofs.Laws.{actor-parts, blank-fits, encoding-none, encoding-some, fields-parts}
 use Rattle.grammar.specs.Grammar.{FoldedForm, HexForm, HexForms}
 use Rattle.grammar.specs.Named.{idNamed}
 use Rattle.commit_grammar.proofs.Headers.{header-read, from-none, from-more}

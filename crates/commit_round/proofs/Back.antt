@@ -33,7 +33,7 @@ use Rattle.grammar.specs.Grammar.{
 }
 use Rattle.commit_grammar.specs.Named.{named}
 use Rattle.commit_grammar.proofs.Theorems.{commit-is-read}
-use Rattle.commit_write.specs.Fold.{foldValue}
+use Rattle.commit_value.specs.Fold.{foldValue}
 use Rattle.commit_write.specs.Written.{lowerDigit, lowerHex, headerWritten, headersWritten, commitWritten}
 use Rattle.commit_write.proofs.Laws.{digit-low, digit-high, digit-letter}
 use Rattle.commit_round.specs.Claims.{ReadsBack, WrittenBack}

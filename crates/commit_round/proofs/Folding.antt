@@ -15,7 +15,7 @@ use Rattle.ground.specs.Scan.{countTo, freeOf}
 use Rattle.ground.proofs.Laws.{and-left, and-right}
 use Rattle.grammar.specs.Grammar.{foldedLines, plainLines, OneLines, FoldedForm}
 use Rattle.commit_grammar.proofs.Unfolded.{unfolds-to-lines}
-use Rattle.commit_write.specs.Fold.{foldRest, foldValue}
+use Rattle.commit_value.specs.Fold.{foldRest, foldValue}
 use Rattle.commit_round.specs.Claims.{FoldUnfolds, UnfoldedFolds, FoldLine, FoldLines, FoldGains, lastOf}
 use Rattle.commit_round.specs.Round.{some, severalLines}
 

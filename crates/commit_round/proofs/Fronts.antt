@@ -10,11 +10,11 @@ use Rattle.ground.specs.Verdict.{fine}
 use Rattle.header.specs.Record.{width, headerAt}
 use Rattle.header.proofs.Laws.{header-is}
 use Rattle.header.specs.declared.HeaderRecord.{HeaderRecord}
-use Rattle.commit_read.specs.Headers.{heads, recordsOf, flats}
+use Rattle.commit_fields.specs.Headers.{heads, recordsOf, flats}
 use Rattle.commit_read.specs.Read.{commitOutcome, commitAnswer, commitParents, commitHeaders, answerIn, headersIn}
-use Rattle.commit_read.specs.declared.Outcome.{Outcome}
-use Rattle.commit_read.specs.declared.Outcome.the-variants.{Whole, Fails}
-use Rattle.commit_read.proofs.Laws.{outcome-fits, tally-count, flats-length}
+use Rattle.commit_fields.specs.declared.Outcome.{Outcome}
+use Rattle.commit_fields.specs.declared.Outcome.the-variants.{Whole, Fails}
+use Rattle.commit_fields.proofs.Laws.{outcome-fits, tally-count, flats-length}
 use Rattle.grammar.specs.Named.{commitOf, recordsFrom}
 use Rattle.commit_grammar.specs.Named.{named}
 use Rattle.commit_grammar.proofs.Refusals.{BadOutcome, outcome-bad}

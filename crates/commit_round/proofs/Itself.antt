@@ -10,12 +10,12 @@ use Rattle.ground.specs.Verdict.{fine, counted, mostBytes}
 use Rattle.ground.proofs.Laws.{gate-open, id-small}
 use Rattle.header.specs.Record.{width}
 use Rattle.header.specs.declared.HeaderRecord.{HeaderRecord}
-use Rattle.commit_read.specs.Headers.{heads, restHeads, recordsOf, flats}
+use Rattle.commit_fields.specs.Headers.{heads, restHeads, recordsOf, flats}
 use Rattle.commit_read.specs.Read.{commitOutcome, commitAnswer, commitParents, commitHeaders, answerIn, headersIn}
-use Rattle.commit_read.specs.declared.Found.{Found}
-use Rattle.commit_read.specs.declared.Outcome.{Outcome}
-use Rattle.commit_read.specs.declared.Outcome.the-variants.{Whole, Fails}
-use Rattle.commit_read.proofs.Laws.{outcome-inverse, outcome-fits, tally-count}
+use Rattle.commit_fields.specs.declared.Found.{Found}
+use Rattle.commit_fields.specs.declared.Outcome.{Outcome}
+use Rattle.commit_fields.specs.declared.Outcome.the-variants.{Whole, Fails}
+use Rattle.commit_fields.proofs.Laws.{outcome-inverse, outcome-fits, tally-count}
 use Rattle.grammar.specs.Grammar.{Encoding, absent, given, Commit, EncodingForm, CommitForm}
 use Rattle.grammar.specs.Named.{recordsFrom}
 use Rattle.commit_grammar.proofs.Refusals.{BadOutcome, outcome-bad}

@@ -12,7 +12,7 @@ use Rattle.unfold.specs.Unfold.{plainOf}
 use Rattle.grammar.specs.Grammar.{given, Commit, commitBytes, plainLines, foldedLines, OneLines, FoldedForm, CommitForm}
 use Rattle.commit_read.specs.Read.{commitAnswer, commitParents, commitHeaders}
 use Rattle.commit_grammar.specs.Named.{named}
-use Rattle.commit_write.specs.Fold.{foldValue}
+use Rattle.commit_value.specs.Fold.{foldValue}
 use Rattle.commit_write.specs.Written.{lowerHex, commitWritten}
 use Rattle.commit_write.specs.Write as write
 use Rattle.commit_round.specs.Round.{commitBack, WritableCommit, LowerIds}

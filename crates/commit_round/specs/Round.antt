@@ -11,7 +11,7 @@ use Rattle.ground.specs.Basics.{pick}
 use Rattle.ground.specs.Scan.{countTo, freeOf}
 use Rattle.actor.specs.Form.{ActorForm}
 use Rattle.grammar.specs.Grammar.{Header, Commit, HexForm, HexForms, FoldedForm, EncodingForm, FirstForm}
-use Rattle.commit_write.specs.Fold.{foldValue}
+use Rattle.commit_value.specs.Fold.{foldValue}
 use Rattle.commit_write.specs.Written.{lowerHex}
 
 -- there are bytes

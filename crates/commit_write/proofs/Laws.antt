@@ -20,6 +20,7 @@ use Rattle.ground.proofs.Laws.{equal, is-false, id-small, free-whole, whole-fre
 use Rattle.output.specs.Output.{fitted}
 use Rattle.output.proofs.Laws.{sets-ended, fitted-bad}
 pub use Rattle.hex.proofs.Laws.{digit-low, digit-high, digit-letter}
+pub use Rattle.commit_value.proofs.Laws.{Left, left-all, left-next, left-none}
 use Rattle.header.specs.Words.{treeWord, parentWord, authorWord, committerWord, encodingWord}
 use Rattle.header.specs.Record.{width, headerAt, nameOf, valueOf}
 use Rattle.header.specs.declared.HeaderRecord.{HeaderRecord}
@@ -30,7 +31,8 @@ use Rattle.grammar.proofs.Laws.{part-length, line-length}
 use Rattle.commit_check.specs.Check.{headersOf, ranged, idFits, encodingFits, headerFits, passing, checked}
 use Rattle.commit_check.specs.Sound.{Sound}
 use Rattle.commit_check.proofs.Laws.{checked-sound, sound-checked, pass-first, records-length, id-inside, range-parts, encoding-one, header-well, records-end, records-more}
-use Rattle.commit_write.specs.Fold.{foldRest, foldValue}
+use Rattle.commit_value.specs.Fold.{foldValue, valueWritten, mostPlace, valueAt}
+use Rattle.commit_value.proofs.Laws.{fold-le, value-inside}
 use Rattle.commit_write.specs.Written.{lowerDigit, lowerHex, headerWritten, headersWritten, commitWritten}
 use Rattle.commit_write.specs.Write.{encodingNamed, written, measured, encodingRefusal, encoded, commitAnswer}
 
@@ -41,35 +43,16 @@ pub record Put (l : List ℕ) (at : ℕ) (p m : List ℕ) (to : ℕ) : Type 0 wh
   pub holds : m ≡ sets l at p
   pub past : to ≡ at + length p
 
+-- what a store promises, as a piece that was put
+pub put-of : (l : List ℕ) (at : ℕ) (p m : List ℕ) (to : ℕ) → to ≡ at + length p → m ≡ sets l at p → Put l at p m to
+put-of l at p m to q e = record { holds = e; past = q }
+
 pub put-then : {l : List ℕ} {at : ℕ} {p m : List ℕ} {to : ℕ} {q r : List ℕ} {next : ℕ} → Put l at p m to → Put m to q r next → Put l at (p ++ q) r next
 put-then {l} {at} {p} {m} {to} {q} {r} {next} a b =
     record {
       holds = b .holds ∙ rw (a .holds, a .past) (sym (sets-append l at p q));
       past = omega (arith, length-append p q, a .past, b .past);
     }
-
-pub put-two : (l : List ℕ) (at a b : ℕ) (m r : List ℕ) → m ≡ set l at a → r ≡ set m (at + 1) b → r ≡ sets l at (a ∷ b ∷ [])
-put-two l at a b m r e f = f ∙ rw (e, add-one at)
-
--- a walk that stores a whole piece by piece: what is left to store from a place on
-pub record Left (l : List ℕ) (at : ℕ) (whole m : List ℕ) (to : ℕ) (rest : List ℕ) : Type 0 where
-  pub holds : sets l at whole ≡ sets m to rest
-  pub past : at + length whole ≡ to + length rest
-
-pub left-all : (l : List ℕ) (at : ℕ) (whole : List ℕ) → Left l at whole l at whole
-left-all l at whole = record { holds = refl; past = refl }
-
-pub left-next : {l : List ℕ} {at : ℕ} {whole m : List ℕ} {to : ℕ} {rest : List ℕ} (p q n : List ℕ) (next : ℕ) → Left l at whole m to rest → rest ≡ p ++ q → n ≡ sets m to p
-    → next ≡ to + length p → Left l at whole n next q
-left-next {l} {at} {whole} {m} {to} {rest} p q n next k e f g =
-    record {
-      holds = k .holds ∙ rw (e, f, g) (sets-append m to p q);
-      past = omega (arith, k .past, ap length e, length-append p q, g);
-    }
-
-pub left-none : {l : List ℕ} {at : ℕ} {whole m : List ℕ} {to : ℕ} {rest : List ℕ} → Left l at whole m to rest → rest ≡ [] → (to ≡ at + length whole) × (m ≡ sets l at whole)
-left-none {l} {at} {whole} {m} {to} {rest} k e =
-    (omega (arith, k .past, ap length e), sym (k .holds ∙ ap (sets m to) e))
 
 -- ---- digits from a place on
 
@@ -101,6 +84,11 @@ pub range-put : (l m r w bytes : List ℕ) (at value end from to : ℕ) → from
 range-put l m r w bytes at value end from to p q e d f g =
     line-put l m r w (part from to bytes) at value end e (omega (arith, part-length bytes from to p q)) f g
 
+-- a piece that lies in a range, and one byte after it
+pub ended-put : (l m bytes : List ℕ) (at from to end b : ℕ) → from ≤ to → to ≤ length bytes → end ≡ at + (to - from) + 1
+    → m ≡ sets l at (part from to bytes ++ b ∷ []) → (end ≡ at + length (part from to bytes ++ b ∷ [])) × (m ≡ sets l at (part from to bytes ++ b ∷ []))
+ended-put l m bytes at from to end b p q e f = (omega (arith, e, length-append (part from to bytes) (b ∷ []), part-length bytes from to p q), f)
+
 -- the same of an id: its digits, then LF
 pub id-put : (l m n r w d : List ℕ) (at from last end k : ℕ) → length d ≡ k → from ≡ at + length w + 1 → last ≡ from + k → end ≡ last + 1
     → m ≡ sets l at (w ++ 32 ∷ []) → n ≡ sets m from (lowerHex d) → r ≡ set n last 10 → Put l at (line w (lowerHex d)) r end
@@ -116,54 +104,12 @@ after-lf l m r v at end k c q e f = record { holds = f ∙ rw (e, add-one at); p
 pub named-length : (h : ℕ) (bytes : List ℕ) (from : ℕ) → from + 2 * h ≤ length bytes → length (idNamed h bytes from) ≡ 2 * h
 named-length h bytes from p = part-length bytes from (from + 2 * h) (omega arith) p ∙ omega arith
 
--- ---- a value from a place on, prev the byte before it
-
-module _ (prev : ℕ) (v : List ℕ) (i : ℕ) where
-  pub fold-done : length v ≤ i → prev ≡ 10 → foldRest prev (drop i v) ≡ []
-  unfolding foldRest
-  fold-done p e = rw (drop-of-length-le v {i = i} p) (simp (eq-eqb prev 10 e))
-
-  pub fold-last : length v ≤ i → (prev ≡ 10 → ⊥) → foldRest prev (drop i v) ≡ 10 ∷ []
-  unfolding foldRest
-  fold-last p e = rw (drop-of-length-le v {i = i} p) (simp (ne-eqb prev 10 e))
-
-  module _ (p : i < length v) where
-    pub fold-space : prev ≡ 10 → foldRest prev (drop i v) ≡ 32 ∷ getD v i 0 ∷ foldRest (getD v i 0) (drop (i + 1) v)
-    unfolding foldRest
-    fold-space e = rw (add-one i, drop-cons v i 0 p) (simp (eq-eqb prev 10 e))
-
-    pub fold-on : (prev ≡ 10 → ⊥) → foldRest prev (drop i v) ≡ getD v i 0 ∷ foldRest (getD v i 0) (drop (i + 1) v)
-    unfolding foldRest
-    fold-on e = rw (add-one i, drop-cons v i 0 p) (simp (ne-eqb prev 10 e))
-
--- a space a byte and an LF at most
-rest-le : (prev : ℕ) (v : List ℕ) → length (foldRest prev v) ≤ 2 * length v + 1
-unfolding foldRest
-rest-le prev [] = go (eqb prev 10)
-  where
-    go : (t : Bool) → length {A = ℕ} (pick t [] (10 ∷ [])) ≤ 1
-    go true = omega arith
-    go false = omega arith
-rest-le prev (b ∷ bs) = go (eqb prev 10) (rest-le b bs)
-  where
-    go : (t : Bool) → length (foldRest b bs) ≤ 2 * length bs + 1 → length (pick t (32 ∷ b ∷ foldRest b bs) (b ∷ foldRest b bs)) ≤ 2 * suc (length bs) + 1
-    go true ih = omega arith
-    go false ih = omega arith
-
-pub fold-le : (v : List ℕ) → length (foldValue v) ≤ 2 * length v + 1
-unfolding foldValue
-fold-le v = rest-le 0 v
-
 -- ---- a header
 
 module _ (bytes : List ℕ) (x : HeaderRecord) where
-  pub header-folded : x .mark ≡ 1 → headerWritten (headerNamed bytes x) ≡ (nameOf bytes x ++ 32 ∷ []) ++ valueOf bytes x
+  header-pieces : headerWritten (headerNamed bytes x) ≡ (nameOf bytes x ++ 32 ∷ []) ++ valueWritten (x .mark) (valueOf bytes x)
   unfolding headerWritten
-  header-folded e = simp (eq-eqb (x .mark) 1 e) (sym (append-snoc (nameOf bytes x) 32 (valueOf bytes x)))
-
-  pub header-plain : (x .mark ≡ 1 → ⊥) → headerWritten (headerNamed bytes x) ≡ (nameOf bytes x ++ 32 ∷ []) ++ foldValue (valueOf bytes x)
-  unfolding headerWritten
-  header-plain e = simp (ne-eqb (x .mark) 1 e) (sym (append-snoc (nameOf bytes x) 32 (foldValue (valueOf bytes x))))
+  header-pieces = sym (append-snoc (nameOf bytes x) 32 (valueWritten (x .mark) (valueOf bytes x)))
 
   pub name-length : headerFits bytes x ≡ true → length (nameOf bytes x) ≡ x .«name_end» - x .«name_start»
   name-length f = let w = header-well bytes x f in part-length bytes (x .«name_start») (x .«name_end») (w .name-forward) (w .name-inside)
@@ -183,22 +129,24 @@ module _ (bytes : List ℕ) (x : HeaderRecord) where
       go true q = let w = header-well bytes x f in omega (arith, q, name-length f, value-length f, w)
       go false q = let w = header-well bytes x f in omega (arith, q, name-length f, value-length f, w, fold-le (valueOf bytes x))
 
-  -- stored: name and space, then the value, folded or not
-  module _ (f : headerFits bytes x ≡ true) (l m r : List ℕ) (at value end : ℕ) (p : value ≡ at + (x .«name_end» - x .«name_start») + 1)
-      (e : m ≡ sets l at (nameOf bytes x ++ 32 ∷ [])) where
-    name-put : Put l at (nameOf bytes x ++ 32 ∷ []) m value
-    name-put = record { holds = e; past = omega (arith, length-append (nameOf bytes x) (32 ∷ []), name-length f) }
+  -- what its name and its value ask where they are stored
+  module _ (f : headerFits bytes x ≡ true) (p : length bytes ≤ mostBytes) (at : ℕ) (m : at + 3221225474 ≤ mostPlace) where
+    pub name-room : ((x .«name_start» ≤ x .«name_end») × (x .«name_end» ≤ length bytes)) × (at + (x .«name_end» - x .«name_start») + 1 < 18446744073709551616)
+    name-room = let w = header-well bytes x f in ((w .name-forward, w .name-inside), omega (arith, w .name-inside))
 
-    pub folded-put : x .mark ≡ 1 → r ≡ sets m value (valueOf bytes x) → end ≡ value + (x .«value_end» - x .«value_start») → Put l at (headerWritten (headerNamed bytes x)) r end
-    folded-put k g q =
-        let y : Put m value (valueOf bytes x) r end = record { holds = g; past = omega (arith, value-length f) } in
-        rw (header-folded k) (put-then name-put y)
-
-    pub plain-put : (x .mark ≡ 1 → ⊥) → r ≡ sets m value (foldValue (valueOf bytes x)) → end ≡ value + length (foldValue (valueOf bytes x))
-        → Put l at (headerWritten (headerNamed bytes x)) r end
-    plain-put k g q =
-        let y : Put m value (foldValue (valueOf bytes x)) r end = record { holds = g; past = q } in
-        rw (header-plain k) (put-then name-put y)
+    -- stored: name and space, then the value
+    pub header-put : (l n r : List ℕ) (value end : ℕ) → value ≡ at + length (nameOf bytes x ++ 32 ∷ []) → n ≡ sets l at (nameOf bytes x ++ 32 ∷ [])
+        → end ≡ value + length (valueAt value (x .mark) (valueOf bytes x)) → r ≡ sets n value (valueAt value (x .mark) (valueOf bytes x))
+        → (end ≡ at + length (headerWritten (headerNamed bytes x))) × (r ≡ sets l at (headerWritten (headerNamed bytes x)))
+    header-put l n r value end a b d g =
+        let w = header-well bytes x f in
+        let near : value ≤ mostPlace = omega (arith, a, length-append (nameOf bytes x) (32 ∷ []), name-length f, w .name-inside) in
+        let short : length (valueOf bytes x) ≤ mostBytes = omega (arith, value-length f, w .value-inside) in
+        let e = value-inside value (x .mark) (valueOf bytes x) near short in
+        let k : Put l at ((nameOf bytes x ++ 32 ∷ []) ++ valueWritten (x .mark) (valueOf bytes x)) r end =
+        put-then (put-of l at (nameOf bytes x ++ 32 ∷ []) n value a b) (put-of n value (valueWritten (x .mark) (valueOf bytes x)) r end (rw e at d) (rw e at g)) in
+        let q : Put l at (headerWritten (headerNamed bytes x)) r end = rw header-pieces k in
+        (q .past, q .holds)
 
 -- ---- the parents from an index on
 
@@ -277,40 +225,13 @@ module _ (bytes : List ℕ) (p : CommitParts) where
 
 -- ---- what refuses an encoding
 
-fault-some : (v : List ℕ) → (length v ≡ 0 → ⊥) → encodingRefusal (given v) ≡ pick (freeOf 10 v) 0 14
-unfolding encodingRefusal
-fault-some [] n = absurd (n refl)
-fault-some (b ∷ bs) n = refl
-
-fault-nothing : (v : List ℕ) → length v ≡ 0 → encodingRefusal (given v) ≡ 13
-unfolding encodingRefusal
-fault-nothing [] n = refl
-fault-nothing (b ∷ bs) n = absurd (omega arith)
-
 module _ (bytes : List ℕ) (p : CommitParts) where
   pub fault-absent : (p .encoding ≡ 1 → ⊥) → encodingRefusal (encodingNamed bytes p) ≡ 0
   unfolding encodingRefusal
   fault-absent e = rw (encoding-absent bytes p e)
 
-  module _ (f : encodingFits (length bytes) p ≡ true) (e : p .encoding ≡ 1) where
-    abbrev value : List ℕ
-    value = part (p .«encoding_start») (p .«encoding_end») bytes
-
-    value-long : length value ≡ p .«encoding_end» - p .«encoding_start»
-    value-long = let r = encoding-range bytes p f e in part-length bytes (p .«encoding_start») (p .«encoding_end») (r .0) (r .1)
-
-    pub fault-empty : p .«encoding_end» ≡ p .«encoding_start» → encodingRefusal (encodingNamed bytes p) ≡ 13
-    fault-empty z = rw (encoding-given bytes p e) (fault-nothing value (omega (arith, value-long)))
-
-    module _ (z : p .«encoding_end» ≡ p .«encoding_start» → ⊥) where
-      some : encodingRefusal (encodingNamed bytes p) ≡ pick (freeOf 10 value) 0 14
-      some = rw (encoding-given bytes p e) (fault-some value (λ q. z (omega (arith, value-long, encoding-range bytes p f e))))
-
-      pub fault-none : countTo 10 value ≡ p .«encoding_end» - p .«encoding_start» → encodingRefusal (encodingNamed bytes p) ≡ 0
-      fault-none c = some ∙ rw (free-whole 10 value (c ∙ sym value-long))
-
-      pub fault-lf : (countTo 10 value ≡ p .«encoding_end» - p .«encoding_start» → ⊥) → encodingRefusal (encodingNamed bytes p) ≡ 14
-      fault-lf c = some ∙ rw (is-false (freeOf 10 value) (λ q. c (whole-free 10 value q ∙ value-long)))
+  pub fault-given : p .encoding ≡ 1 → encodingRefusal (encodingNamed bytes p) ≡ encodingRefusal (given (part (p .«encoding_start») (p .«encoding_end») bytes))
+  fault-given e = ap encodingRefusal (encoding-given bytes p e)
 
 -- ---- the whole
 
@@ -399,10 +320,6 @@ module _ {h : ℕ} {bytes : List ℕ} {p : CommitParts} {parents headers : List 
 
   pub headers-end : {e f : ℕ} → e ≤ 3296723043 → f ≡ e + length (headersWritten (map (headerNamed bytes) (headersOf headers))) → f ≤ 3377703019348067
   headers-end m e = omega (arith, m, e, k .headers-size, k .headers-most)
-
--- what a store promises, as a piece that was put
-pub put-of : (l : List ℕ) (at : ℕ) (p m : List ℕ) (to : ℕ) → to ≡ at + length p → m ≡ sets l at p → Put l at p m to
-put-of l at p m to q e = record { holds = e; past = q }
 
 -- the pieces in turn are the commit
 pub commit-put : (h : ℕ) (bytes : List ℕ) (p : CommitParts) (parents headers : List ℕ) {l l1 l2 l3 l4 l5 l6 l7 : List ℕ} {a b c d e f g : ℕ}

@@ -9,14 +9,14 @@ use Rattle.ground.specs.Verdict.{verdict, counted, refused, idLength, sizeGate,
 use Rattle.ground.specs.declared.Answer.{Answer}
 use Rattle.output.specs.Output.{fitted}
 use Rattle.hex.specs.Hex.{hexValue}
-use Rattle.header.specs.Extra.{foldFrom, foldEnd, foldedForm}
+use Rattle.extra_header.specs.Extra.{foldFrom, foldEnd, foldedForm}
 use Rattle.header.specs.Record.{headerAt, wellFormed}
 use Rattle.header.specs.declared.CommitParts.{CommitParts}
 use Rattle.unfold.specs.Unfold.{hasForm}
 use Rattle.grammar.specs.Grammar.{parentsBytes, encodingBytes}
 use Rattle.grammar.specs.Named.{recordsFrom}
 use Rattle.commit_check.specs.Check.{ranged, idFits, encodingFits, headerFits, judged, after, checked}
-use Rattle.commit_write.specs.Fold.{foldRest, foldValue}
+use Rattle.commit_value.specs.Fold.{foldRest, foldValue}
 use Rattle.commit_write.specs.Written.{lowerDigit, headerWritten, headersWritten, commitWritten}
 use Rattle.commit_write.specs.Write.{written, measured, encodingRefusal, encoded, commitSize, commitAnswer}
 

@@ -1,4 +1,3 @@
-pub mod Fold
 pub mod Written
 pub mod Write
 pub mod Examples

@@ -1,11 +1,10 @@
 -- What writing a commit answers, and its size asked alone (docs/FORMAT.md, "Commit writing"). Assumes nothing.
 use Prim.Native.Nat.{ℕ}
 use mathlib.Core.Bool.{_&&_, not}
-use mathlib.Core.List.{List, [], _∷_}
+use mathlib.Core.List.{List}
 use lib.Dec.{eqb}
 use lib.ListN.{length}
 use Rattle.ground.specs.Basics.{pick, part}
-use Rattle.ground.specs.Scan.{freeOf}
 use Rattle.ground.specs.Verdict.{verdict, counted, refused}
 use Rattle.ground.specs.declared.Answer.{Answer}
 use Rattle.output.specs.Output.{fitted}
@@ -13,6 +12,7 @@ use Rattle.header.specs.declared.CommitParts.{CommitParts}
 use Rattle.grammar.specs.Grammar.{Encoding, absent, given, Commit}
 use Rattle.grammar.specs.Named.{commitOf}
 use Rattle.commit_check.specs.Check.{headersOf, checked}
+unfoldable pub use Rattle.commit_value.specs.Encoding.{encodingRefusal}
 use Rattle.commit_write.specs.Written.{commitWritten}
 
 -- the commit that the parts and the lent lists name
@@ -33,12 +33,6 @@ measured h bytes p parents headers room =
     pick (eqb (checked h bytes p parents headers room .number) 0)
     (counted (length (written h bytes p parents headers)))
     (refused (checked h bytes p parents headers room))
-
--- the number that refuses an encoding, or 0: 13 where it is empty, 14 where it has an LF
-unfoldable pub encodingRefusal : Encoding → ℕ
-encodingRefusal absent = 0
-encodingRefusal (given []) = 13
-encodingRefusal (given (b ∷ bs)) = pick (freeOf 10 (b ∷ bs)) 0 14
 
 -- an answer that is done is refused where the encoding is
 unfoldable pub encoded : Encoding → Answer → Answer

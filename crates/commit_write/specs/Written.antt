@@ -7,7 +7,7 @@ unfoldable pub use Rattle.hex.specs.Hex.{lowerDigit}
 pub use Rattle.hex.specs.Hex.{lowerHex}
 use Rattle.header.specs.Words.{treeWord, authorWord, committerWord}
 use Rattle.grammar.specs.Grammar.{Header, Commit, line, parentsBytes, encodingBytes}
-use Rattle.commit_write.specs.Fold.{foldValue}
+use Rattle.commit_value.specs.Fold.{foldValue}
 
 -- name, space, value: a folded one as it stands
 unfoldable pub headerWritten : Header → List ℕ

@@ -2,9 +2,9 @@
 // One walk serves both: it stores what has room and gives the place past it, so with no room it measures.
 ghost use mathlib.Core.Path.{_≡_};
 ghost use mathlib.Core.Bool.{true};
-ghost use mathlib.Core.List.{map, _∷_};
+ghost use mathlib.Core.List.{map, [], _∷_, _++_};
 ghost use Prim.Native.Nat.{_+_, _-_, _*_, _/_, _<_, _≤_};
-ghost use lib.ListN.{length, set};
+ghost use lib.ListN.{length};
 ghost use lib.Seq.{sets};
 ghost use Rattle.ground.specs.Basics.{part};
 ghost use Rattle.ground.specs.Verdict.{mostBytes, mostRecords, stored};
@@ -12,34 +12,25 @@ ghost use Rattle.header.specs.Record.{width};
 ghost use Rattle.grammar.specs.Grammar.{line, parentsBytes, encodingBytes};
 ghost use Rattle.grammar.specs.Named.{idNamed, headerNamed};
 ghost use Rattle.commit_check.specs.Check.{headersOf, idFits, encodingFits, headerFits, passing, checked};
-ghost use Rattle.commit_write.specs.Fold.{foldValue};
+ghost use Rattle.commit_value.specs.Fold.{mostPlace};
 ghost use Rattle.commit_write.specs.Written.{lowerHex, headerWritten, headersWritten};
 ghost use Rattle.commit_write.specs.Write.{encodingNamed, written, encodingRefusal, measured, commitSize, commitAnswer};
 use commit_check::check_commit;
+use commit_value::encoding_fault;
+use commit_value::put_byte;
+use commit_value::put_value;
 use ground::Answer;
 use ground::DONE;
-use ground::EMPTY_ENCODING;
 use ground::FINE;
-use ground::LF_IN_ENCODING;
 use ground::Verdict;
 use header::CommitParts;
 use header::HEADER_WIDTH;
 use header::HeaderRecord;
 use header::header_at;
-use hex::lower;
+use hex_letter::lower;
 use output::fit;
 use output::put;
 use output::put_ended;
-use scan::count_to;
-
-// Stores a byte where it has room.
-fn put_byte(out: &mut [u8], at: usize, b: u8)
-    ensures { λ _. ⌜ now (out .exit) ≡ set (now (out .entry)) at b ⌝ }
-{
-    if at < out.len() {
-        out[at] = b;
-    }
-}
 
 // Stores the digits of an id in lower case.
 fn put_digits(out: &mut [u8], at: usize, digits: &[u8])
@@ -84,54 +75,28 @@ fn put_line(out: &mut [u8], at: usize, word: &[u8], bytes: &[u8], from: usize, t
     end + 1
 }
 
-// Stores a value with a space before each line but the first, and an LF at the end.
-fn put_folded(out: &mut [u8], at: usize, v: &[u8]) -> usize
-    requires { ⌜ at + (2 * length (now v) + 1) < 18446744073709551616 ⌝ }
-    ensures { λ r. ⌜ r ≡ at + length (foldValue (now (v .entry))) ⌝ }
-    ensures { λ _. ⌜ now (out .exit) ≡ sets (now (out .entry)) at (foldValue (now (v .entry))) ⌝ }
+// Stores a header's name, which lies in a range, and a space.
+fn put_name(out: &mut [u8], at: usize, bytes: &[u8], from: usize, to: usize) -> usize
+    requires { ⌜ (from ≤ to) × (to ≤ length (now bytes)) ⌝ }
+    requires { ⌜ at + (to - from) + 1 < 18446744073709551616 ⌝ }
+    ensures { λ r. ⌜ r ≡ at + length (part from to (now (bytes .entry)) ++ 32 ∷ []) ⌝ }
+    ensures { λ _. ⌜ now (out .exit) ≡ sets (now (out .entry)) at (part from to (now (bytes .entry)) ++ 32 ∷ []) ⌝ }
 {
-    let mut to = at;
-    let mut prev: u8 = 0;
-    let mut i = 0;
-    while i < v.len() {
-        if prev == b'\n' {
-            put_byte(out, to, b' ');
-            prev = v[i];
-            put_byte(out, to + 1, prev);
-            to += 2;
-            i += 1;
-            continue;
-        }
-        prev = v[i];
-        put_byte(out, to, prev);
-        to += 1;
-        i += 1;
-    }
-    if prev == b'\n' {
-        return to;
-    }
-    put_byte(out, to, b'\n');
-    to + 1
+    put_ended(out, at, &bytes[from..to], b' ');
+    at + (to - from) + 1
 }
 
 // Stores a header: a folded value as it stands.
 fn put_header(out: &mut [u8], at: usize, bytes: &[u8], x: HeaderRecord) -> usize
     requires { ⌜ headerFits (now bytes) x ≡ true ⌝ }
-    requires { ⌜ (length (now bytes) ≤ mostBytes) × (at + 3221225474 < 18446744073709551616) ⌝ }
+    requires { ⌜ (length (now bytes) ≤ mostBytes) × (at + 3221225474 ≤ mostPlace) ⌝ }
     ensures { λ r. ⌜ r ≡ at + length (headerWritten (headerNamed (now (bytes .entry)) x)) ⌝ }
     ensures { λ _. ⌜ now (out .exit) ≡ sets (now (out .entry)) at (headerWritten (headerNamed (now (bytes .entry)) x)) ⌝ }
 {
-    let start = x.name_start;
-    let end = x.name_end;
+    let value = put_name(out, at, bytes, x.name_start, x.name_end);
     let from = x.value_start;
     let to = x.value_end;
-    let value = at + (end - start) + 1;
-    put_ended(out, at, &bytes[start..end], b' ');
-    if x.mark == 1 {
-        put(out, value, &bytes[from..to]);
-        return value + (to - from);
-    }
-    put_folded(out, value, &bytes[from..to])
+    put_value(out, value, &bytes[from..to], x.mark)
 }
 
 // Stores the lines of all parents.
@@ -153,7 +118,7 @@ fn put_parents(out: &mut [u8], at: usize, bytes: &[u8], h: usize, parents: &[usi
 // Stores all headers.
 fn put_headers(out: &mut [u8], at: usize, bytes: &[u8], headers: &[usize]) -> usize
     requires { ⌜ passing (map (headerFits (now bytes)) (headersOf (now headers))) ≡ length (now headers) / width ⌝ }
-    requires { ⌜ (length (now bytes) ≤ mostBytes) × (at + (length (now headers) / width) * 3221225474 < 18446744073709551616) ⌝ }
+    requires { ⌜ (length (now bytes) ≤ mostBytes) × (at + (length (now headers) / width) * 3221225474 ≤ mostPlace) ⌝ }
     ensures { λ r. ⌜ r ≡ at + length (headersWritten (map (headerNamed (now (bytes .entry))) (headersOf (now (headers .entry))))) ⌝ }
     ensures { λ _. ⌜ now (out .exit) ≡ sets (now (out .entry)) at (headersWritten (map (headerNamed (now (bytes .entry))) (headersOf (now (headers .entry))))) ⌝ }
 {
@@ -237,21 +202,15 @@ fn put_commit(
     put_message(out, f, bytes, parts.message_start, parts.message_end)
 }
 
-// The number that refuses an encoding, or 0.
-fn encoding_fault(bytes: &[u8], p: CommitParts) -> usize
+// The number that refuses the encoding, or 0.
+fn encoding_refusal(bytes: &[u8], p: CommitParts) -> usize
     requires { ⌜ encodingFits (length (now bytes)) p ≡ true ⌝ }
     ensures { λ r. ⌜ r ≡ encodingRefusal (encodingNamed (now (bytes .entry)) p) ⌝ }
 {
     if p.encoding == 1 {
         let from = p.encoding_start;
         let to = p.encoding_end;
-        if to == from {
-            return EMPTY_ENCODING;
-        }
-        if count_to(&bytes[from..to], b'\n') == to - from {
-            return DONE;
-        }
-        return LF_IN_ENCODING;
+        return encoding_fault(&bytes[from..to]);
     }
     DONE
 }
@@ -310,7 +269,7 @@ pub fn write_commit(
     if refusal != DONE {
         return a;
     }
-    let fault = encoding_fault(bytes, parts);
+    let fault = encoding_refusal(bytes, parts);
     if fault != DONE {
         return Answer {
             verdict: Verdict {

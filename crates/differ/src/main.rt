@@ -61,21 +61,25 @@ fn mode(n: usize) {
     say(b" ");
 }
 
+// As many zeros as an id of h bytes has digits.
+fn zeros(h: usize) {
+    let digits = [b'0'; 64];
+    say(part(&digits, 0, 40));
+    if h == 32 {
+        say(part(&digits, 40, 64));
+    }
+}
+
 // The id of h bytes at a place in hex; zeros where the side is not there.
 fn id(bundle: &[u8], h: usize, mode: usize, at: usize) {
-    let mut digits = [b'0'; 64];
     if mode == 0 {
-        say(part(&digits, 0, 40));
-        if h == 32 {
-            say(part(&digits, 40, 64));
-        }
-        say(b" ");
+        zeros(h);
         return;
     }
+    let mut digits = [b'0'; 64];
     let rest = part(bundle, at, bundle.len());
     let a = hex_of_id(part(rest, 0, h), &mut digits);
     say(part(&digits, 0, a.count));
-    say(b" ");
 }
 
 // Git's letter: added, deleted, another sort of thing, or modified.
@@ -109,25 +113,34 @@ fn is_odd(b: u8) -> bool {
     b == b'\\'
 }
 
+// The letter that stands for a byte behind a backslash; 0 where none does.
+fn short(b: u8) -> u8 {
+    match b {
+        7 => b'a',
+        8 => b'b',
+        9 => b't',
+        10 => b'n',
+        11 => b'v',
+        12 => b'f',
+        13 => b'r',
+        34 => b'"',
+        92 => b'\\',
+        _ => 0,
+    }
+}
+
 // A byte that Git writes in quotes, escaped as it does.
 fn escaped(b: u8) {
     say(b"\\");
-    match b {
-        7 => say(b"a"),
-        8 => say(b"b"),
-        9 => say(b"t"),
-        10 => say(b"n"),
-        11 => say(b"v"),
-        12 => say(b"f"),
-        13 => say(b"r"),
-        34 => say(b"\""),
-        92 => say(b"\\"),
-        _ => {
-            let n = b as usize;
-            let text = [digit(n / 64), digit(n / 8), digit(n)];
-            say(&text);
-        }
+    let named = short(b);
+    if named != 0 {
+        let one = [named];
+        say(&one);
+        return;
     }
+    let n = b as usize;
+    let text = [digit(n / 64), digit(n / 8), digit(n)];
+    say(&text);
 }
 
 // Whether Git writes a path in quotes.
@@ -172,23 +185,33 @@ fn path(s: &[u8]) {
     say(s);
 }
 
+// Both modes, both ids and the letter.
+fn change(bundle: &[u8], h: usize, left: usize, right: usize, i: usize, j: usize) {
+    say(b":");
+    mode(left);
+    mode(right);
+    id(bundle, h, left, i);
+    say(b" ");
+    id(bundle, h, right, j);
+    say(b" ");
+    letter(left, right);
+}
+
 // The line of item i.
 fn line(bundle: &[u8], h: usize, items: &[usize], paths: &[u8], i: usize) {
     if items.len() / ITEM <= i {
         return;
     }
     let at = i * ITEM;
-    let start = items[at];
-    let end = items[at + 1];
-    let left = items[at + 2];
-    let right = items[at + 3];
-    say(b":");
-    mode(left);
-    mode(right);
-    id(bundle, h, left, items[at + 4]);
-    id(bundle, h, right, items[at + 5]);
-    letter(left, right);
-    path(part(paths, start, end));
+    change(
+        bundle,
+        h,
+        items[at + 2],
+        items[at + 3],
+        items[at + 4],
+        items[at + 5],
+    );
+    path(part(paths, items[at], items[at + 1]));
     say(b"\n");
 }
 
@@ -211,32 +234,37 @@ fn compare(bundle: &[u8], left: &[u8], right: &[u8], items: &mut [usize], paths:
     lines(bundle, left.len(), items, paths, a.count);
 }
 
-// The two words, the empty line behind them, and the bundle.
-fn differ(s: &[u8], items: &mut [usize], paths: &mut [u8]) {
-    let mut from = [0u8; 32];
+// The second word, the empty line behind it, and the bundle.
+fn with_left(s: &[u8], at: usize, left: &[u8], items: &mut [usize], paths: &mut [u8]) {
     let mut to = [0u8; 32];
-    let left = word_at(s, 0);
-    let right = word_at(s, left.next);
-    let blank = word_at(s, right.next);
-    let a = id_of_hex(part(s, left.start, left.end), &mut from);
-    let v = a.verdict;
-    if v.number != DONE {
-        refused(v);
-        return;
-    }
+    let right = word_at(s, at);
     let b = id_of_hex(part(s, right.start, right.end), &mut to);
     let w = b.verdict;
     if w.number != DONE {
         refused(w);
         return;
     }
+    let blank = word_at(s, right.next);
     compare(
         part(s, blank.next, s.len()),
-        part(&from, 0, a.count),
+        left,
         part(&to, 0, b.count),
         items,
         paths,
     );
+}
+
+// The first word, and what is behind it.
+fn differ(s: &[u8], items: &mut [usize], paths: &mut [u8]) {
+    let mut from = [0u8; 32];
+    let left = word_at(s, 0);
+    let a = id_of_hex(part(s, left.start, left.end), &mut from);
+    let v = a.verdict;
+    if v.number != DONE {
+        refused(v);
+        return;
+    }
+    with_left(s, left.next, part(&from, 0, a.count), items, paths);
 }
 
 // Reads standard input into the lent bytes.

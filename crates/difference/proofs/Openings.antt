@@ -5,23 +5,24 @@ use mathlib.Core.Path.{_≡_, refl, ap, sym, _∙_}
 use mathlib.Core.List.{List, [], _∷_}
 use native.Mathlib.Numerals.{sub-one}
 use lib.Dec.{eqb, eqb·suc-zero}
-use lib.ListN.{length}
 use Rattle.ground.specs.Basics.{pick, part}
 use Rattle.ground.specs.Verdict.{verdict}
 use Rattle.ground.specs.declared.Verdict.{Verdict}
 use Rattle.frame.specs.Place.{placeOf}
 use Rattle.frame.specs.declared.Header.{Header}
-use Rattle.frame.specs.declared.Frame.{Frame}
 use Rattle.frame.specs.declared.Placed.{Placed}
 use Rattle.frame.specs.declared.Placed.the-variants.{At, Absent}
 use Rattle.reading.specs.declared.Counted.{Counted}
 use Rattle.reading.specs.declared.Counted.the-variants.{Total, Stopped}
 use Rattle.strict.specs.Strict.{strictCount}
 use Rattle.merge.specs.declared.Rest.{Rest}
-use Rattle.opening.specs.Opening.{openCounted, openPlaced, openBy, openAt}
+use Rattle.seeking.specs.Index.{IsIndex}
+use Rattle.opening.specs.Opening.{openCounted, openPlaced, openBy, openAt, pairOf, openBoth}
 use Rattle.opening.specs.declared.Opened.{Opened}
 use Rattle.opening.specs.declared.Opened.the-variants.{Shut, Entries}
-use Rattle.opening.proofs.Laws.{strict-exact}
+use Rattle.opening.specs.declared.Pair.{Pair}
+use Rattle.opening.specs.declared.Pair.the-variants.{Closed, Both}
+use Rattle.opening.proofs.Laws.{strict-exact, both-indexed}
 use Rattle.difference.specs.Items.{Named, shut, readStrictly, treeOf, folderOf}
 use Rattle.difference.specs.Walk.{Out, refusedBy, compareEntries, opened, compareFolders}
 use Rattle.difference.specs.Whole.{storedAt, storeOf, foldersOf}
@@ -58,32 +59,34 @@ module _ (hd : Header) (s : List ℕ) (go : List Named → Out) where
 
 -- ---- two folders
 
-module _ (d : ℕ) (hd : Header) (s prefix a b : List ℕ) (n : ℕ) where
-  pub trees-deep : d ≡ 0 → compareFolders (foldersOf hd s) d prefix a b n ≡ refusedBy (verdict 27 0)
-  unfolding compareFolders
-  trees-deep e = rw e
+-- the entries of two trees that were opened are gone on with
+unfoldable pub onPair : ℕ → List ℕ → Pair → (List Named → List Named → Out) → Out
+onPair h s (Closed v) go = refusedBy v
+onPair h s (Both l r) go = go (entriesFrom h s l) (entriesFrom h s r)
 
-  module _ (e : d ≡ 0 → ⊥) (x : Opened) (ex : x ≡ openAt hd s a) where
-    trees : compareFolders (foldersOf hd s) d prefix a b n
-        ≡ onOpening (hd .h) s x (λ ls. onOpening (hd .h) s (openAt hd s b) (λ rs. compareEntries (compareFolders (foldersOf hd s) (d - 1)) prefix ls n rs))
-    unfolding compareFolders
-    trees = go d e
-      where
-        go : (d : ℕ) → (d ≡ 0 → ⊥) → compareFolders (foldersOf hd s) d prefix a b n
-            ≡ onOpening (hd .h) s x (λ ls. onOpening (hd .h) s (openAt hd s b) (λ rs. compareEntries (compareFolders (foldersOf hd s) (d - 1)) prefix ls n rs))
-        go zero g = absurd (g refl)
-        go (suc d) g = simp (opens hd s, ex, sub-one)
+on-both : (h : ℕ) (s : List ℕ) (go : List Named → List Named → Out) (x y : Opened) → onOpening h s x (λ ls. onOpening h s y (λ rs. go ls rs)) ≡ onPair h s (pairOf x y) go
+unfolding onOpening onPair pairOf
+on-both h s go (Shut v) y = refl
+on-both h s go (Entries l) (Shut w) = refl
+on-both h s go (Entries l) (Entries r) = refl
 
-    pub trees-left : (v : Verdict) → x ≡ Shut v → compareFolders (foldersOf hd s) d prefix a b n ≡ refusedBy v
-    unfolding onOpening
-    trees-left v k = trees ∙ rw k
+module _ (d : ℕ) (hd : Header) (s prefix a b : List ℕ) (n : ℕ) (index : List ℕ) (x : IsIndex s hd index) (t : Pair) (e : t ≡ openBoth hd s a b d index) where
+  trees : compareFolders (foldersOf hd s) d prefix a b n ≡ onPair (hd .h) s t (λ ls rs. compareEntries (compareFolders (foldersOf hd s) (d - 1)) prefix ls n rs)
+  unfolding compareFolders onPair
+  trees = go d ∙ ap (λ (p : Pair). onPair (hd .h) s p (λ ls rs. compareEntries (compareFolders (foldersOf hd s) (d - 1)) prefix ls n rs)) (sym (e ∙ both-indexed hd s a b d index x))
+    where
+      go : (d : ℕ) → compareFolders (foldersOf hd s) d prefix a b n
+          ≡ onPair (hd .h) s (pick (eqb d 0) (Closed (verdict 27 0)) (pairOf (openAt hd s a) (openAt hd s b))) (λ ls rs. compareEntries (compareFolders (foldersOf hd s) (d - 1)) prefix ls n rs)
+      go zero = refl
+      go (suc d) =
+          simp (opens hd s, sub-one, eqb·suc-zero)
+          (on-both (hd .h) s (λ ls rs. compareEntries (compareFolders (foldersOf hd s) d) prefix ls n rs) (openAt hd s a) (openAt hd s b))
 
-    module _ (l : Rest) (k : x ≡ Entries l) (y : Opened) (ey : y ≡ openAt hd s b) where
-      pub trees-right : (v : Verdict) → y ≡ Shut v → compareFolders (foldersOf hd s) d prefix a b n ≡ refusedBy v
-      unfolding onOpening
-      trees-right v t = trees ∙ rw (k, ← ey, t)
+  pub trees-closed : (v : Verdict) → t ≡ Closed v → compareFolders (foldersOf hd s) d prefix a b n ≡ refusedBy v
+  unfolding onPair
+  trees-closed v k = trees ∙ rw k
 
-      pub trees-both : (r : Rest) → y ≡ Entries r
-          → compareFolders (foldersOf hd s) d prefix a b n ≡ compareEntries (compareFolders (foldersOf hd s) (d - 1)) prefix (entriesFrom (hd .h) s l) n (entriesFrom (hd .h) s r)
-      unfolding onOpening
-      trees-both r t = trees ∙ rw (k, ← ey, t)
+  pub trees-both : (l r : Rest) → t ≡ Both l r
+      → compareFolders (foldersOf hd s) d prefix a b n ≡ compareEntries (compareFolders (foldersOf hd s) (d - 1)) prefix (entriesFrom (hd .h) s l) n (entriesFrom (hd .h) s r)
+  unfolding onPair
+  trees-both l r k = trees ∙ rw k

@@ -21,7 +21,7 @@ use Rattle.bundle.specs.Bundle.{openBy, openFrom, openOf}
 use Rattle.bundle.specs.declared.Opening.{Opening}
 use Rattle.bundle.specs.declared.Opening.the-variants as opening
 use Rattle.twice.proofs.Laws.{head-few}
-use Rattle.opening.specs.Index.{IsIndex}
+use Rattle.seeking.specs.Index.{IsIndex}
 use Rattle.difference.specs.Whole.{rootsOf}
 
 -- roots of two lengths
@@ -76,3 +76,7 @@ module _ (s : List ℕ) (a b : ℕ) (o : Opening) (e : o ≡ rootsOf s a b) wher
 
   pub roots-few : (k : Header) → o ≡ opening.Open k → k .count ≤ mostRecords
   roots-few k q = head-few s k (roots-indexed k q .head)
+
+-- a bundle with more objects than there may be is not opened
+pub never : (n : ℕ) → mostRecords < n → n ≤ mostRecords → ⊥
+never n p q = omega arith

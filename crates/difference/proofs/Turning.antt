@@ -1,29 +1,29 @@
 -- The loop over two folders' entries turn by turn, and two folders by their ids. Assumes nothing.
 use Prim.Native.Nat.{ℕ, zero, suc, _+_, _-_, _*_, _≤_, _<_}
-use mathlib.Core.Bool.{Bool, true, false}
-use mathlib.Core.Path.{_≡_, refl, ap, sym, subst, _∙_}
-use mathlib.Core.List.{List, [], _∷_}
+use mathlib.Core.Bool.{true, false}
+use mathlib.Core.Path.{_≡_, refl, ap, _∙_}
+use mathlib.Core.List.{List}
 use native.Mathlib.Omega.{arith}
 use lib.ListN.{length, replicate, length-replicate}
 use Rattle.ground.specs.Verdict.{verdict, fine}
 use Rattle.ground.specs.declared.Verdict.{Verdict}
 use Rattle.difference.specs.Items.{join}
 use Rattle.difference.specs.Walk.{Out, put, Lower, compareEntries, compareFolders}
-use Rattle.difference.specs.Whole.{foldersOf, pathsOf}
+use Rattle.difference.specs.Whole.{foldersOf}
 use Rattle.frame.specs.declared.Header.{Header}
 use Rattle.merge.specs.Merge.{Within, stepAt, idIn, SideWithin, ChangeWithin}
 use Rattle.merge.proofs.Laws.{same-leads, differs-leads}
-use Rattle.opening.specs.Opening.{openAt, OpenWithin}
-use Rattle.opening.proofs.Laws.{open-within}
+use Rattle.seeking.specs.Index.{IsIndex}
+use Rattle.opening.specs.Opening.{openBoth}
 use Rattle.difference.specs.Code.{entriesFrom, nameOfChange, itemOf, joinLength, Held, Did, Small, Added, Short}
 use Rattle.merge.specs.declared.Rest.{Rest}
-use Rattle.opening.specs.declared.Opened.{Opened}
-use Rattle.opening.specs.declared.Opened.the-variants.{Shut, Entries}
+use Rattle.opening.specs.declared.Pair.{Pair}
+use Rattle.opening.specs.declared.Pair.the-variants.{Closed, Both}
 use Rattle.merge.specs.declared.Change.{Change}
 use Rattle.merge.specs.declared.Step.{Step}
 use Rattle.merge.specs.declared.Step.the-variants as step
 use Rattle.difference.specs.declared.Mark.{Mark}
-use Rattle.difference.proofs.Openings.{trees-deep, trees-left, trees-right, trees-both}
+use Rattle.difference.proofs.Openings.{trees-closed, trees-both}
 use Rattle.difference.proofs.Doing.{did-none, did-is, arm-done, arm-same, arm-full, arm-used, arm-flat, arm-stop, arm-on}
 
 -- ---- what falls. Shut, so that omega meets no large number
@@ -167,26 +167,15 @@ module _ {below : Lower} {h : ℕ} {s : List ℕ} {ps pl : ℕ} {l₀ r₀ : Res
 
 -- ---- two folders
 
-module _ (d : ℕ) (hd : Header) (s a b : List ℕ) (m : Mark) (C : Type 0) (items paths prefix : List ℕ) where
-  pub tree-deep : d ≡ 0 → Did m C items paths (compareFolders (foldersOf hd s) d prefix a b (m .count)) (record { verdict = verdict 27 0; count = m .count; used = m .used }) items paths
-  tree-deep e = did-is m C items paths _ _ _ items paths (trees-deep d hd s prefix a b (m .count) e) (did-none m C items paths (verdict 27 0))
+module _ (d : ℕ) (hd : Header) (s a b index : List ℕ) (x : IsIndex s hd index) (t : Pair) (e : t ≡ openBoth hd s a b d index) (m : Mark) (C : Type 0) (items paths prefix : List ℕ) where
+  pub tree-closed : (v : Verdict) → t ≡ Closed v
+      → Did m C items paths (compareFolders (foldersOf hd s) d prefix a b (m .count)) (record { verdict = v; count = m .count; used = m .used }) items paths
+  tree-closed v k = did-is m C items paths _ _ _ items paths (trees-closed d hd s prefix a b (m .count) index x t e v k) (did-none m C items paths v)
 
-  module _ (e : d ≡ 0 → ⊥) (x : Opened) (ex : x ≡ openAt hd s a) where
-    pub tree-left : (v : Verdict) → x ≡ Shut v → Did m C items paths (compareFolders (foldersOf hd s) d prefix a b (m .count)) (record { verdict = v; count = m .count; used = m .used }) items paths
-    tree-left v k = did-is m C items paths _ _ _ items paths (trees-left d hd s prefix a b (m .count) e x ex v k) (did-none m C items paths v)
-
-    module _ (l : Rest) (k : x ≡ Entries l) (y : Opened) (ey : y ≡ openAt hd s b) where
-      pub tree-right : (v : Verdict) → y ≡ Shut v → Did m C items paths (compareFolders (foldersOf hd s) d prefix a b (m .count)) (record { verdict = v; count = m .count; used = m .used }) items paths
-      tree-right v t = did-is m C items paths _ _ _ items paths (trees-right d hd s prefix a b (m .count) e x ex l k y ey v t) (did-none m C items paths v)
-
-      pub tree-both : (r : Rest) → y ≡ Entries r → (w : Mark) (items′ paths′ : List ℕ)
-          → Did m C items paths (compareEntries (compareFolders (foldersOf hd s) (d - 1)) prefix (entriesFrom (hd .h) s l) (m .count) (entriesFrom (hd .h) s r)) w items′ paths′
-          → Did m C items paths (compareFolders (foldersOf hd s) d prefix a b (m .count)) w items′ paths′
-      tree-both r t w items′ paths′ g = did-is m C items paths _ _ w items′ paths′ (trees-both d hd s prefix a b (m .count) e x ex l k y ey r t) g
-
--- a tree that was opened lies inside the bundle
-pub open-in : (hd : Header) (s id : List ℕ) (x : Opened) (c : Rest) → x ≡ openAt hd s id → x ≡ Entries c → Within s c × (c .left ≤ 1048576)
-open-in hd s id x c e k = subst (λ (u : Opened). OpenWithin s u) (sym e ∙ k) (open-within hd s id)
+  pub tree-both : (l r : Rest) → t ≡ Both l r → (w : Mark) (items′ paths′ : List ℕ)
+      → Did m C items paths (compareEntries (compareFolders (foldersOf hd s) (d - 1)) prefix (entriesFrom (hd .h) s l) (m .count) (entriesFrom (hd .h) s r)) w items′ paths′
+      → Did m C items paths (compareFolders (foldersOf hd s) d prefix a b (m .count)) w items′ paths′
+  tree-both l r k w items′ paths′ g = did-is m C items paths _ _ w items′ paths′ (trees-both d hd s prefix a b (m .count) index x t e l r k) g
 
 pub short-next : (pl depth : ℕ) → (depth ≡ 0 → ⊥) → Short pl depth → Short pl (depth - 1 + 1)
 short-next pl depth e h =

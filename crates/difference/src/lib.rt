@@ -7,7 +7,7 @@ ghost use lib.ListN.{length, drop};
 ghost use lib.Seq.{paste, sets};
 ghost use Rattle.ground.specs.Verdict.{mostBytes, mostRecords, stored};
 ghost use Rattle.merge.specs.Merge.{Within, ChangeWithin};
-ghost use Rattle.opening.specs.Index.{IsIndex};
+ghost use Rattle.seeking.specs.Index.{IsIndex};
 ghost use Rattle.difference.specs.Items.{join};
 ghost use Rattle.difference.specs.Walk.{put, compareEntries, compareFolders};
 ghost use Rattle.difference.specs.Whole.{foldersOf, differences, fitted, numbersOf, pathsOf, rootsOf, answer, itemsAfter, pathsAfter, itemsIn};
@@ -24,7 +24,6 @@ use ground::Gate;
 use ground::MOST_RECORDS;
 use ground::NOT_FRAMED;
 use ground::SHORT_OUTPUT;
-use ground::TOO_DEEP;
 use ground::Verdict;
 use ground::longer;
 use ground::sizes;
@@ -33,8 +32,8 @@ use merge::Change;
 use merge::Rest;
 use merge::Step;
 use merge::merge_step;
-use opening::Opened;
-use opening::open_tree;
+use opening::Pair;
+use opening::open_both;
 
 // The numbers of an item, as they lie in a flat list: where its path starts and ends, both modes, and where both ids start.
 pub const ITEM: usize = 6;
@@ -154,7 +153,7 @@ fn add(
     }
 }
 
-// Two folders by their ids, compared by their entries: the left is opened first.
+// Two folders by their ids, compared by their entries.
 fn compare_folders(
     bundle: &[u8],
     k: Header,
@@ -178,42 +177,25 @@ fn compare_folders(
 {
     let count = m.count;
     let used = m.used;
-    if depth == 0 {
-        return Mark {
-            verdict: Verdict {
-                number: TOO_DEEP,
-                ..FINE
-            },
-            count,
-            used,
-        };
-    }
-    match open_tree(bundle, k, a, index) {
-        Opened::Shut(v) => Mark {
+    match open_both(bundle, k, a, b, depth, index) {
+        Pair::Closed(v) => Mark {
             verdict: v,
             count,
             used,
         },
-        Opened::Entries(l) => match open_tree(bundle, k, b, index) {
-            Opened::Shut(w) => Mark {
-                verdict: w,
-                count,
-                used,
-            },
-            Opened::Entries(r) => compare_entries(
-                bundle,
-                k,
-                l,
-                r,
-                depth - 1,
-                items,
-                paths,
-                m,
-                ps,
-                pl,
-                index,
-            ),
-        },
+        Pair::Both(l, r) => compare_entries(
+            bundle,
+            k,
+            l,
+            r,
+            depth - 1,
+            items,
+            paths,
+            m,
+            ps,
+            pl,
+            index,
+        ),
     }
 }
 
@@ -408,26 +390,7 @@ fn compare_with(
     measured(bundle, k, left, right, items, paths, &list[..n])
 }
 
-// With room for an index of few objects.
-fn compare_small(
-    bundle: &[u8],
-    k: Header,
-    left: &[u8],
-    right: &[u8],
-    items: &mut [usize],
-    paths: &mut [u8],
-) -> Answer
-    requires { ⌜ length (now bundle) ≤ mostBytes ⌝ }
-    requires { ⌜ IsIndex (now bundle) k [] ⌝ }
-    ensures { λ r. ⌜ r ≡ fitted (itemsIn (length (now (items .entry)))) (length (now (paths .entry))) (differences k (now (bundle .entry)) (now (left .entry)) (now (right .entry))) ⌝ }
-    ensures { λ r. ⌜ now (items .exit) ≡ stored (r .verdict) (numbersOf 0 (differences k (now (bundle .entry)) (now (left .entry)) (now (right .entry)) .items)) (now (items .entry)) ⌝ }
-    ensures { λ r. ⌜ now (paths .exit) ≡ stored (r .verdict) (pathsOf (differences k (now (bundle .entry)) (now (left .entry)) (now (right .entry)) .items)) (now (paths .entry)) ⌝ }
-{
-    let mut list = [0u32; 1024];
-    compare_with(bundle, k, left, right, items, paths, &mut list)
-}
-
-// The same with room for all: four mebibytes of the stack. The call of itself is never reached. It is there because the compiler
+// With room for an index of all objects: four mebibytes of the stack. The call of itself is never reached. It is there because the compiler
 // lays no function that calls itself into its callers: only such a bundle takes this one's stack.
 fn compare_large(
     bundle: &[u8],
@@ -468,7 +431,8 @@ fn compare_in(
     ensures { λ r. ⌜ now (paths .exit) ≡ stored (r .verdict) (pathsOf (differences k (now (bundle .entry)) (now (left .entry)) (now (right .entry)) .items)) (now (paths .entry)) ⌝ }
 {
     if k.count <= 1024 {
-        return compare_small(bundle, k, left, right, items, paths);
+        let mut list = [0u32; 1024];
+        return compare_with(bundle, k, left, right, items, paths, &mut list);
     }
     compare_large(bundle, k, left, right, items, paths)
 }

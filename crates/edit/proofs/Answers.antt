@@ -45,6 +45,10 @@ Both r a l out after = (r ≡ a) × (after ≡ stored (r .verdict) l out)
 both : (r a : Answer) (l out after : List ℕ) → (r ≡ a) × (after ≡ stored (a .verdict) l out) → Both r a l out after
 both r a l out after p = (p .0, p .1 ∙ ap (λ (x : Answer). stored (x .verdict) l out) (sym (p .0)))
 
+-- the same of an answer that has another name
+pub named : {r q : Answer} (a : Answer) (l out after : List ℕ) → r ≡ q → Both q a l out after → Both r a l out after
+named a l out after e p = (e ∙ p .0, p .1 ∙ ap (λ (x : Answer). stored (x .verdict) l out) (sym e))
+
 -- ---- putting
 
 module _ (number n : ℕ) (new : Entry) (es : List Entry) (l out : List ℕ) (q : number ≡ n) where

@@ -1,17 +1,17 @@
-// One entry of a strict tree object changed: a name put with its mode and id, or removed (docs/FORMAT.md, "Edits").
+// A name put into a strict tree object with its mode and id, in the place of any entry of that name (docs/FORMAT.md, "Edits").
 // The walk of `edit_walk` measures first and then writes.
 ghost use mathlib.Core.Path.{_≡_};
 ghost use Prim.Native.Nat.{_≤_, _<_};
 ghost use lib.ListN.{length};
-ghost use Rattle.ground.specs.Verdict.{mostBytes, stored};
+ghost use Rattle.ground.specs.Verdict.{verdict, refused, mostBytes, stored};
 ghost use Rattle.entry.specs.Entry.{asWritten};
 ghost use Rattle.rules.specs.Rules.{modesOf, gitRules};
 ghost use Rattle.reading.specs.Listing.{tally};
 ghost use Rattle.strict.specs.Strict.{strictly};
 ghost use Rattle.one_listing.specs.Sound.{isMode};
 ghost use Rattle.edit_walk.specs.Walk.{newEntry};
-ghost use Rattle.edit.specs.Table.{removeFrom, putIn};
-ghost use Rattle.edit.specs.Edit.{entriesIn, newNo, putting, removing, putAnswer, removeAnswer, putOutput, removeOutput};
+ghost use Rattle.edit.specs.Table.{putIn};
+ghost use Rattle.edit.specs.Edit.{entriesIn, newNo, putting, putAnswer, putOutput};
 use edit_walk::walk;
 use ground::Answer;
 use ground::BAD_RECORD;
@@ -22,7 +22,6 @@ use ground::Gate;
 use ground::MODE_TEXT;
 use ground::MOST_RECORDS;
 use ground::NAME;
-use ground::NOT_THERE;
 use ground::SHORT_OUTPUT;
 use ground::Verdict;
 use ground::longer;
@@ -66,6 +65,20 @@ fn new_number(h: usize, rules: u16, mode: usize, name: &[u8], id: &[u8]) -> usiz
     MODE_TEXT
 }
 
+// Refused, with a place.
+fn refuse(number: usize, place: usize) -> Answer
+    ensures { λ r. ⌜ r ≡ refused (verdict number place) ⌝ }
+{
+    Answer {
+        verdict: Verdict {
+            number,
+            place,
+            ..FINE
+        },
+        count: 0,
+    }
+}
+
 // Puts an entry into an object of so many entries: its refusal, 2, 8, then the walk that writes.
 fn put_counted(
     bytes: &[u8],
@@ -84,78 +97,19 @@ fn put_counted(
 {
     let number = new_number(h, rules, mode, name, id);
     if number != DONE {
-        return Answer {
-            verdict: Verdict { number, ..FINE },
-            count: 0,
-        };
+        return refuse(number, 0);
     }
     let m = mode as u16;
     let mut nothing = [0u8; 0];
     let w = walk(bytes, h, n, m, name, id, false, &mut nothing);
     let used = w.used;
     if MOST_RECORDS <= w.kept {
-        return Answer {
-            verdict: Verdict {
-                number: BOUND,
-                ..FINE
-            },
-            count: 0,
-        };
+        return refuse(BOUND, 0);
     }
     if out.len() < used {
-        return Answer {
-            verdict: Verdict {
-                number: SHORT_OUTPUT,
-                place: used,
-                ..FINE
-            },
-            count: 0,
-        };
+        return refuse(SHORT_OUTPUT, used);
     }
     walk(bytes, h, n, m, name, id, false, out);
-    Answer {
-        verdict: FINE,
-        count: used,
-    }
-}
-
-// Removes a name from an object of so many entries: 15, 8, then the walk that writes. Nothing is put, so the walk's mode and id are of no account.
-fn remove_counted(
-    bytes: &[u8],
-    h: usize,
-    rules: u16,
-    n: usize,
-    name: &[u8],
-    out: &mut [u8],
-) -> Answer
-    requires { ⌜ tally 0 (strictly (gitRules rules) h (now bytes)) ≡ Counted.Total n ⌝ }
-    requires { ⌜ (6 < h) × (length (now bytes) ≤ mostBytes) × (length (now name) ≤ mostBytes) ⌝ }
-    ensures answer { λ r. ⌜ r ≡ removing (length (now (out .entry))) (now (name .entry)) (entriesIn h (now (bytes .entry))) ⌝ }
-    ensures out { λ r. ⌜ now (out .exit) ≡ stored (r .verdict) (asWritten (removeFrom (now (name .entry)) (entriesIn h (now (bytes .entry))))) (now (out .entry)) ⌝ }
-{
-    let mut nothing = [0u8; 0];
-    let w = walk(bytes, h, n, 0, name, name, true, &mut nothing);
-    let used = w.used;
-    if w.kept == n {
-        return Answer {
-            verdict: Verdict {
-                number: NOT_THERE,
-                ..FINE
-            },
-            count: 0,
-        };
-    }
-    if out.len() < used {
-        return Answer {
-            verdict: Verdict {
-                number: SHORT_OUTPUT,
-                place: used,
-                ..FINE
-            },
-            count: 0,
-        };
-    }
-    walk(bytes, h, n, 0, name, name, true, out);
     Answer {
         verdict: FINE,
         count: used,
@@ -187,27 +141,6 @@ pub fn put_in_tree(
                 count: 0,
             },
             Counted::Total(n) => put_counted(bytes, h, rules, n, mode, name, id, out),
-        },
-    }
-}
-
-// Removes a name from a strict object.
-pub fn remove_from_tree(bytes: &[u8], h: usize, rules: u16, name: &[u8], out: &mut [u8]) -> Answer
-    ensures answer { λ r. ⌜ r ≡ removeAnswer rules h (now (bytes .entry)) (now (name .entry)) (length (now (out .entry))) ⌝ }
-    ensures out { λ r. ⌜ now (out .exit) ≡ removeOutput rules h (now (bytes .entry)) (now (name .entry)) (now (out .entry)) ⌝ }
-{
-    let most = longer(bytes.len(), longer(name.len(), out.len()));
-    match rule_bounds(rules, h, most, 0) {
-        Gate::Shut(v) => Answer {
-            verdict: v,
-            count: 0,
-        },
-        Gate::Open => match strict_count(bytes, h, rules) {
-            Counted::Stopped(w) => Answer {
-                verdict: w,
-                count: 0,
-            },
-            Counted::Total(n) => remove_counted(bytes, h, rules, n, name, out),
         },
     }
 }

@@ -4,7 +4,7 @@ ghost use mathlib.Core.Path.{_≡_};
 ghost use Rattle.edit_turn.specs.Turns.{fateOf, turnAt};
 use entry::Cursor;
 use entry::Decoded;
-use entry::is_folder;
+use entry_record::is_folder;
 use order::Order;
 use order::name_order;
 use scan::same_bytes;

@@ -11,7 +11,7 @@ use borrow.Author.Tests.{eq-eqb, ne-eqb, lt-ltb, le-ltb, le-leb, lt-leb, leb-tru
 use Rattle.ground.specs.Basics.{pick}
 use Rattle.ground.specs.Scan.{countTo, placeFrom}
 use Rattle.ground.specs.Verdict.{fine, broken, isPart, gateOf}
-use Rattle.ground.proofs.Laws.{and-left, and-right, place-within}
+use Rattle.ground.proofs.Laws.{and-left, and-right, place-within, same-test}
 use Rattle.ground.specs.declared.Verdict.{Verdict}
 use Rattle.ground.specs.declared.Gate.the-variants.{Open, Shut}
 use Rattle.mode.specs.Mode.{topBits, valueOf, sortOf, isTree}
@@ -80,6 +80,13 @@ well-made h len e a b c d f =
       le-leb (e .«id_start» + h) len d,
       le-leb (e .«text_start») (e .«name_start») f,
     )
+
+-- an id of h bytes lies inside, told without their sum
+pub id-inside : (h len id : ℕ) → h ≤ len → leb id (len - h) ≡ leb (id + h) len
+id-inside h len id p =
+    same-test (leb id (len - h)) (leb (id + h) len)
+    (λ e. le-leb (id + h) len (omega (arith, leb-true id (len - h) e)))
+    (λ e. le-leb id (len - h) (omega (arith, leb-true (id + h) len e)))
 
 -- a folder's mode is told by its low 16 bits
 pub folder-low : (m : ℕ) → isTree (m % 65536) ≡ isTree m

@@ -1,8 +1,7 @@
-// One tree entry: its record, and the cursor that steps over an object (docs/FORMAT.md, "Entries"). Follows tree/ref_iter.rs.
+// One tree entry, and the cursor that steps over an object (docs/FORMAT.md, "Entries"). Follows tree/ref_iter.rs.
 ghost use mathlib.Core.Path.{_≡_};
-ghost use lib.ListN.{getD, drop};
-ghost use Rattle.entry.specs.Record.{recordsOf, noRecord, putRecord, wellFormed, folderOf};
-ghost use Rattle.entry.specs.Decode.{brokenAt, shortPart, decode, noEntry, stepOf};
+ghost use lib.ListN.{drop};
+ghost use Rattle.entry.specs.Decode.{brokenAt, shortPart, decode, noEntry, stepOver, stepOf};
 use ground::BROKEN_ENTRY;
 use ground::CUT_ID;
 use ground::FINE;
@@ -15,9 +14,6 @@ use mode::EntryMode;
 use mode::ModeRead;
 use scan::find_nul;
 
-// The numbers of a record, as they lie in a flat list.
-pub const WIDTH: usize = 5;
-
 // An entry by its mode and by positions in the lent bytes; the last is where its mode text starts.
 pub struct EntryRecord {
     pub mode: usize,
@@ -26,6 +22,15 @@ pub struct EntryRecord {
     pub id_start: usize,
     pub text_start: usize,
 }
+
+// What stands for a record that is not there.
+pub const NO_RECORD: EntryRecord = EntryRecord {
+    mode: 0,
+    name_start: 0,
+    name_end: 0,
+    id_start: 0,
+    text_start: 0,
+};
 
 // A place in an object, from which the next entry is read.
 pub struct Cursor {
@@ -44,84 +49,6 @@ pub struct Step {
     pub found: bool,
     pub entry: EntryRecord,
     pub next: Cursor,
-}
-
-// Record i of the flat numbers, or zeros where there is none.
-pub fn entry_at(records: &[usize], i: usize) -> EntryRecord
-    ensures { λ r. ⌜ r ≡ getD (recordsOf (now (records .entry))) i noRecord ⌝ }
-{
-    if records.len() / WIDTH <= i {
-        return EntryRecord {
-            mode: 0,
-            name_start: 0,
-            name_end: 0,
-            id_start: 0,
-            text_start: 0,
-        };
-    }
-    let at = i * WIDTH;
-    let mode = records[at];
-    let name_start = records[at + 1];
-    let name_end = records[at + 2];
-    let id_start = records[at + 3];
-    let text_start = records[at + 4];
-    EntryRecord {
-        mode,
-        name_start,
-        name_end,
-        id_start,
-        text_start,
-    }
-}
-
-// Stores record i in the flat numbers, where there is room for it.
-pub fn put_entry(records: &mut [usize], i: usize, e: EntryRecord)
-    ensures { λ r. ⌜ now (records .exit) ≡ putRecord (now (records .entry)) i e ⌝ }
-{
-    if records.len() / WIDTH <= i {
-        return;
-    }
-    let at = i * WIDTH;
-    records[at] = e.mode;
-    records[at + 1] = e.name_start;
-    records[at + 2] = e.name_end;
-    records[at + 3] = e.id_start;
-    records[at + 4] = e.text_start;
-}
-
-// Whether a record names a mode, a name and an id of h bytes inside so many bytes, and no mode text that starts after the name does.
-pub fn well_formed(h: usize, len: usize, e: EntryRecord) -> bool
-    ensures { λ r. ⌜ r ≡ wellFormed h len e ⌝ }
-{
-    if 65535 < e.mode {
-        return false;
-    }
-    if e.name_end < e.name_start {
-        return false;
-    }
-    if len < e.name_end {
-        return false;
-    }
-    if len < h {
-        return false;
-    }
-    if len - h < e.id_start {
-        return false;
-    }
-    if e.name_start < e.text_start {
-        return false;
-    }
-    true
-}
-
-// Whether a record is a folder's.
-pub fn is_folder(e: EntryRecord) -> bool
-    ensures { λ r. ⌜ r ≡ folderOf e ⌝ }
-{
-    let m = EntryMode {
-        internal: (e.mode % 65536) as u16,
-    };
-    m.is_tree()
 }
 
 // Refusal 3: a part of the entry that starts at a place cannot be read.
@@ -149,14 +76,23 @@ fn no_entry(verdict: Verdict, next: Cursor) -> Step
     Step {
         verdict,
         found: false,
-        entry: EntryRecord {
-            mode: 0,
-            name_start: 0,
-            name_end: 0,
-            id_start: 0,
-            text_start: 0,
-        },
+        entry: NO_RECORD,
         next,
+    }
+}
+
+// The step over what was read, in an object that ends at a place.
+fn stepped(end: usize, d: Decoded) -> Step
+    ensures { λ r. ⌜ r ≡ stepOver end d ⌝ }
+{
+    match d {
+        Decoded::Whole(e, next) => Step {
+            verdict: FINE,
+            found: true,
+            entry: e,
+            next,
+        },
+        Decoded::Broken(w) => no_entry(w, Cursor { at: end }),
     }
 }
 
@@ -173,18 +109,15 @@ impl Cursor {
                 if left <= h {
                     return broken(at, short_part(left));
                 }
-                let id = end + 1;
-                let next = id + h;
-                let mode = m.internal as usize;
                 Decoded::Whole(
                     EntryRecord {
-                        mode,
+                        mode: m.internal as usize,
                         name_start: rest,
                         name_end: end,
-                        id_start: id,
+                        id_start: end + 1,
                         text_start: at,
                     },
-                    Cursor { at: next },
+                    Cursor { at: end + 1 + h },
                 )
             }
             ModeRead::Bad => broken(at, NO_MODE),
@@ -198,20 +131,11 @@ impl Cursor {
         match bounds(h, bytes.len(), 0) {
             Gate::Shut(v) => no_entry(v, self),
             Gate::Open => {
-                let at = self.at;
                 let end = bytes.len();
-                if end <= at {
+                if end <= self.at {
                     return no_entry(FINE, self);
                 }
-                match self.decode(bytes, h) {
-                    Decoded::Whole(e, next) => Step {
-                        verdict: FINE,
-                        found: true,
-                        entry: e,
-                        next,
-                    },
-                    Decoded::Broken(w) => no_entry(w, Cursor { at: end }),
-                }
+                stepped(end, self.decode(bytes, h))
             }
         }
     }

@@ -61,40 +61,58 @@ fn front(text: &[u8], n: usize) -> &[u8] {
     &text[0..n]
 }
 
-fn tell(v: Verdict) {
-    io::write_all(STDOUT_FILENO, b"refused ");
-    io::print_decimal(STDOUT_FILENO, v.number as u64);
-    io::write_all(STDOUT_FILENO, b" at ");
-    io::print_decimal(STDOUT_FILENO, v.place as u64);
-    io::write_all(STDOUT_FILENO, b" part ");
-    io::print_decimal(STDOUT_FILENO, v.part as u64);
-    io::write_all(STDOUT_FILENO, b"\n");
+fn say(s: &[u8]) {
+    io::write_all(STDOUT_FILENO, s);
 }
 
-fn export(object: &[u8], h: usize, rules: u16) {
+// A word, and a number behind it.
+fn say_with(word: &[u8], n: usize) {
+    say(word);
+    io::print_decimal(STDOUT_FILENO, n as u64);
+}
+
+fn refused(v: Verdict) {
+    say_with(b"refused ", v.number);
+    say_with(b" at ", v.place);
+    say_with(b" part ", v.part);
+    say(b"\n");
+}
+
+fn tell(a: Answer, out: &[u8]) {
+    let v = a.verdict;
+    if v.number != DONE {
+        refused(v);
+        return;
+    }
+    say(front(out, a.count));
+}
+
+// An object that is longer than it may be is 2.
+fn export(object: &[u8], h: usize, rules: u16, out: &mut [u8]) -> Answer {
     if LONGEST < object.len() {
-        tell(Verdict {
-            number: BOUND,
-            ..FINE
-        });
-        return;
+        return Answer {
+            verdict: Verdict {
+                number: BOUND,
+                ..FINE
+            },
+            count: 0,
+        };
     }
-    let mut out = [0u8; 262144];
-    let a: Answer = export_tree(object, h, rules, &mut out);
-    let verdict = a.verdict;
-    let number = verdict.number;
-    if number == DONE {
-        io::write_all(STDOUT_FILENO, front(&out, a.count));
-        return;
-    }
-    tell(verdict);
+    export_tree(object, h, rules, out)
+}
+
+fn answer(s: &[u8], out: &mut [u8]) -> Answer {
+    let a = ask(s);
+    export(rest(s, a.from), a.h, a.rules, out)
+}
+
+fn work(input: &mut [u8], out: &mut [u8]) {
+    let n = io::read_full(STDIN_FILENO, input);
+    tell(answer(front(input, n), out), out);
 }
 
 fn main() {
     let mut input = [0u8; 131200];
-    let n = io::read_full(STDIN_FILENO, &mut input);
-    let s = &input[..n];
-    let a = ask(s);
-    let from = a.from;
-    export(rest(s, from), a.h, a.rules);
+    let mut out = [0u8; 262144];
+    work(&mut input, &mut out);
 }

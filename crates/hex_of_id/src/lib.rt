@@ -10,7 +10,7 @@ use ground::DONE;
 use ground::FINE;
 use ground::Gate;
 use ground::bounds;
-use hex::digit_of;
+use hex_letter::digit_of;
 use output::fit;
 
 // How many digits the bytes of an id have.

@@ -1,12 +1,12 @@
--- The index as it is made, and what it is: each of its elements names an object. Assumes nothing.
+-- The index as it is made. Assumes nothing.
 use Prim.Native.Nat.{ℕ, zero, suc, _≤_, _<_}
 use mathlib.Core.Bool.{Bool, true, false}
-use mathlib.Core.Path.{_≡_, refl, ap, sym, subst, _∙_}
-use mathlib.Core.List.{List, [], _++_, List·Memᴰ, List·Memᴰ·not-nil}
+use mathlib.Core.Path.{_≡_, ap, sym, _∙_}
+use mathlib.Core.List.{List, [], _++_}
 use native.Mathlib.Omega.{arith}
 use borrow.Author.Tests.{le-leb, lt-leb}
-use lib.Dec.{eqb, leb}
-use lib.ListN.{length, getD, take, drop, length-append}
+use lib.Dec.{eqb}
+use lib.ListN.{length, take, drop, length-append}
 use lib.Seq.{sets, take-at, drop-at}
 use Rattle.ground.specs.Basics.{pick}
 use Rattle.ground.specs.Verdict.{mostBytes}
@@ -17,11 +17,8 @@ use Rattle.frame.specs.declared.Framed.the-variants.{Whole, Broken}
 use Rattle.frame.specs.declared.Header.{Header}
 use Rattle.keys.specs.Key.{keyAt, belowBy}
 use Rattle.sorting.specs.Sort.{sortBy}
-use Rattle.sorting.proofs.Sorted.{sort-perm, sort-length}
-use Rattle.sorting.proofs.Repeats.{perm-mem, place-mem}
-use Rattle.twice.specs.Sorted.{elementsIn}
-use Rattle.opening.specs.Index.{IsIndex}
-use Rattle.indexing.specs.Indexing.{indexOf}
+use Rattle.sorting.proofs.Sorted.{sort-length}
+use Rattle.indexing.specs.Indexing.{elementsIn, indexOf}
 
 elements-few : (h : ℕ) (s : List ℕ) (n at : ℕ) → length (elementsIn (frames h s n at)) ≤ n
 unfolding frames onward elementsIn
@@ -48,7 +45,7 @@ short-is : (s : List ℕ) (k : Header) (room : ℕ) → length s ≤ mostBytes �
 unfolding indexOf
 short-is s k room p q = rw (le-leb _ _ p, lt-leb _ _ q)
 
-whole-is : (s : List ℕ) (k : Header) (room : ℕ) → length s ≤ mostBytes → k .count ≤ room → indexOf s k room ≡ sortBy (belowBy (keyAt s 0 (k .h))) (elementsIn (framesBy s k))
+pub whole-is : (s : List ℕ) (k : Header) (room : ℕ) → length s ≤ mostBytes → k .count ≤ room → indexOf s k room ≡ sortBy (belowBy (keyAt s 0 (k .h))) (elementsIn (framesBy s k))
 unfolding indexOf
 whole-is s k room p q = rw (le-leb _ _ p, le-leb _ _ q)
 
@@ -79,25 +76,11 @@ module _ (s : List ℕ) (k : Header) (list : List ℕ) where
               ∙ ap (λ (x : List ℕ). x ++ drop (length l) list) (sym i) ∙ ap (λ (j : ℕ). indexOf s k (length list) ++ drop j list) (sym m),
         )
 
--- it is an index of the bundle, and stands at the front of the list
-module _ (s : List ℕ) (k : Header) (e : IsIndex s k []) (room : ℕ) where
-  member : (x : ℕ) → List·Memᴰ x (indexOf s k room) → List·Memᴰ x (elementsIn (framesBy s k))
-  unfolding indexOf
-  member x = go (leb (length s) mostBytes) (leb (k .count) room)
-    where
-      go : (t u : Bool) → List·Memᴰ x (pick t (pick u (sortBy (belowBy (keyAt s 0 (k .h))) (elementsIn (framesBy s k))) []) []) → List·Memᴰ x (elementsIn (framesBy s k))
-      go true true m = perm-mem (sort-perm (belowBy (keyAt s 0 (k .h))) (elementsIn (framesBy s k))) m
-      go true false m = absurd (List·Memᴰ·not-nil m)
-      go false u m = absurd (List·Memᴰ·not-nil m)
-
-  pub is-index : IsIndex s k (indexOf s k room)
-  is-index = record { head = e .head; once = e .once; places = λ i l. member (getD (indexOf s k room) i 0) (place-mem 0 (indexOf s k room) i l) }
-
-pub front-index : (s : List ℕ) (k : Header) (list after : List ℕ) (n : ℕ) → IsIndex s k [] → Made s k list n after → IsIndex s k (take n after)
-front-index s k list after n e m =
+-- it stands at the front of the list
+pub front-is : (s : List ℕ) (k : Header) (list after : List ℕ) (n : ℕ) → Made s k list n after → take n after ≡ indexOf s k (length list)
+front-is s k list after n m =
     let i : List ℕ = indexOf s k (length list) in
-    let f : take n after ≡ i = ap (take n) (m .1) ∙ take-at i (drop (length i) list) n (sym (m .0)) in
-    subst (λ (l : List ℕ). IsIndex s k l) (sym f) (is-index s k e (length list))
+    ap (take n) (m .1) ∙ take-at i (drop (length i) list) n (sym (m .0))
 
 pub front-fits : (s : List ℕ) (k : Header) (list after : List ℕ) (n : ℕ) → Made s k list n after → n ≤ length after
 front-fits s k list after n m =

@@ -1,4 +1,4 @@
-// An index of a bundle's objects, for the crate `opening`: the places of their ids, sorted by the ids in a list of the caller's.
+// An index of a bundle's objects: the places of their ids, sorted by the ids in a list of the caller's.
 ghost use mathlib.Core.Path.{_≡_};
 ghost use mathlib.Core.List.{_++_};
 ghost use Prim.Native.Nat.{_≤_};
@@ -6,8 +6,7 @@ ghost use lib.ListN.{length, drop};
 ghost use lib.Seq.{sets};
 ghost use Rattle.ground.specs.Verdict.{mostBytes};
 ghost use Rattle.frame.specs.Frame.{frames};
-ghost use Rattle.twice.specs.Sorted.{elementsIn};
-ghost use Rattle.indexing.specs.Indexing.{indexOf};
+ghost use Rattle.indexing.specs.Indexing.{elementsIn, indexOf};
 use frame::Framed;
 use frame::Header;
 use frame::frame_at;

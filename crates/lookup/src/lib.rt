@@ -27,12 +27,12 @@ pub fn most_comparisons(n: usize) -> usize
     64 - usize::leading_zeros(n) as usize
 }
 
-// Record i of the flat numbers, which is there: as `entry::entry_at`, without its test, which would divide at each comparison.
+// Record i of the flat numbers, which is there: as `entry_record::entry_at`, without its test, which would divide at each comparison.
 fn record_at(records: &[usize], i: usize) -> EntryRecord
     requires { ⌜ i < many (length (now records)) ⌝ }
     ensures { λ r. ⌜ r ≡ nth (recordsOf (now (records .entry))) i ⌝ }
 {
-    let at = i * entry::WIDTH;
+    let at = i * entry_record::WIDTH;
     let mode = records[at];
     let name_start = records[at + 1];
     let name_end = records[at + 2];
@@ -53,17 +53,17 @@ fn searched(object: &[u8], h: usize, records: &[usize], name: &[u8], folder: boo
     ensures { λ r. ⌜ r ≡ lookupIn h (now (object .entry)) (recordsOf (now (records .entry))) (now (name .entry)) folder ⌝ }
 {
     let mut low: usize = 0;
-    let mut high = records.len() / entry::WIDTH;
+    let mut high = records.len() / entry_record::WIDTH;
     let mut compared: usize = 0;
     while low < high {
         let middle = low + (high - low) / 2;
         let e = record_at(records, middle);
-        if entry::well_formed(h, object.len(), e) {
+        if entry_record::well_formed(h, object.len(), e) {
             compared += 1;
             let first = e.name_start;
             let end = e.name_end;
-            let tree = entry::is_folder(e);
-            match order::name_order(&object[first..end], tree, name, folder) {
+            let tree = entry_record::is_folder(e);
+            match compare::name_order(&object[first..end], tree, name, folder) {
                 Order::Below => {
                     low = middle + 1;
                     continue;
@@ -105,7 +105,7 @@ fn searched(object: &[u8], h: usize, records: &[usize], name: &[u8], folder: boo
 pub fn bisect_entry(object: &[u8], h: usize, records: &[usize], name: &[u8], folder: bool) -> Looked
     ensures { λ r. ⌜ r ≡ lookupIn h (now (object .entry)) (recordsOf (now (records .entry))) (now (name .entry)) folder ⌝ }
 {
-    let n = records.len() / entry::WIDTH;
+    let n = records.len() / entry_record::WIDTH;
     match ground::bounds(h, ground::longer(object.len(), name.len()), n) {
         Gate::Open => searched(object, h, records, name, folder),
         Gate::Shut(v) => Looked {

@@ -7,7 +7,7 @@ ghost use lib.ListN.{length, getD, take, drop};
 ghost use lib.Seq.{sets};
 ghost use Rattle.ground.specs.Verdict.{stored};
 ghost use Rattle.lookups.specs.Many.{width, many, noSought, soughtOf, oneAnswer, firstBad, kept, allKept, firstGate, unlessBad, manyAnswer, answersAfter};
-use entry::WIDTH;
+use entry_record::WIDTH;
 use ground::Answer;
 use ground::BAD_RECORD;
 use ground::DONE;

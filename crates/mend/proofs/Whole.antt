@@ -6,7 +6,7 @@ use mathlib.Core.Logic.{⊎-elim}
 use mathlib.Core.Bool.{Bool, true, false, false≢true}
 use mathlib.Core.List.{List, [], _∷_, _++_, map}
 use lib.Dec.{eqb, leb}
-use lib.ListN.{length, take, drop, length-append, length-drop, length-take}
+use lib.ListN.{length, take, drop, replicate, length-append, length-drop, length-take, length-replicate}
 use lib.Seq.{sets, length-sets, take-append-seam, take-at}
 use borrow.Author.Tests.{le-leb, lt-leb, leb-true, leb-false}
 use Rattle.ground.specs.Basics.{pick}
@@ -251,6 +251,16 @@ sets-of out q = ap (sets out 0) q
 
 pub written-front : (h : ℕ) (s out after l d : List ℕ) → l ≡ d → after ≡ sets out 0 (allBytes h s l) → after ≡ sets out 0 (allBytes h s d)
 written-front h s out after l d q w = w ∙ ap (λ (x : List ℕ). sets out 0 (allBytes h s x)) q
+
+-- a list of n zeros, n a variable, so that no proof computes a long one: its length, and room
+pub made-of : (n : ℕ) → n ≡ length (replicate {A = ℕ} n 0)
+made-of n = sym (length-replicate n 0)
+
+pub room-for : (n c : ℕ) → c ≤ n → c ≤ length (replicate {A = ℕ} n 0)
+room-for n c p = omega (arith, length-replicate {A = ℕ} n 0)
+
+pub no-more : (n m : ℕ) → n ≤ m → length (replicate {A = ℕ} n 0) ≤ m
+no-more n m p = omega (arith, length-replicate {A = ℕ} n 0)
 
 pub most-le : 1048576 ≤ mostRecords
 most-le = omega arith

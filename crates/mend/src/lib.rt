@@ -3,11 +3,12 @@
 // then by Git's order to write those that are kept.
 ghost use mathlib.Core.Path.{_≡_};
 ghost use mathlib.Core.Bool.{true, false};
+ghost use mathlib.Core.List.{[], _∷_, _++_};
 ghost use Prim.Native.Nat.{_+_, _*_, _/_, _≤_, _<_};
 ghost use lib.ListN.{length, take, drop, set};
 ghost use lib.Seq.{sets};
 ghost use Rattle.ground.specs.Basics.{pick};
-ghost use Rattle.ground.specs.Verdict.{mostBytes, mostRecords, stored};
+ghost use Rattle.ground.specs.Verdict.{verdict, mostBytes, mostRecords, stored};
 ghost use Rattle.entry.specs.Record.{nameOf};
 ghost use Rattle.entry.specs.Decode.{decode};
 ghost use Rattle.reading.specs.Listing.{listing, tally, recordsIn};
@@ -15,12 +16,13 @@ ghost use Rattle.reading.specs.Whole.{inRoom as noRoom};
 ghost use Rattle.reading.specs.declared.Counted.the-variants.{Total};
 ghost use Rattle.keys.specs.Key.{keyAt, belowBy};
 ghost use Rattle.sorting.specs.Sort.{Ascends, sortBy};
+ghost use Rattle.fate.specs.Fate.{ownText};
 ghost use Rattle.mend.specs.Mend.{fatesOf, mended, notMended, inRoom, countedAnswer, mendAnswer};
 ghost use Rattle.mend.specs.Code.{Inside, chosen, elementOf, elements, Lowest, Known, hasName, earlier, codeFate, codeFates, keptSize, codeSize, bytesAt, allBytes};
 use entry::Cursor;
 use entry::Decoded;
 use entry::EntryRecord;
-use entry::is_folder;
+use entry_record::is_folder;
 use fate::fate_of;
 use fate::may_stay;
 use fate::own_text;
@@ -245,6 +247,19 @@ fn settle(s: &[u8], h: usize, list: &[u32], fates: &mut [usize]) -> usize
     size
 }
 
+// Stores the text of a kind's own mode and a space at a place, as far as there is room, and gives the place past them.
+fn put_own(out: &mut [u8], at: usize, mode: usize) -> usize
+    requires { ⌜ at ≤ 4611686018427387904 ⌝ }
+    ensures { λ r. ⌜ (r ≡ at + length (ownText mode) + 1) × (r ≤ at + 7) ⌝ }
+    ensures { λ _. ⌜ now (out .exit) ≡ sets (now (out .entry)) at (ownText mode ++ 32 ∷ []) ⌝ }
+{
+    let own = own_text(mode);
+    let digits = own.bytes;
+    let n = own.len;
+    put_ended(out, at, &digits[..n], b' ');
+    at + n + 1
+}
+
 // Writes the entry of an element at a place, with its kind's own mode, and gives the place past it.
 fn write_one(out: &mut [u8], at: usize, s: &[u8], h: usize, x: u32) -> usize
     requires { ⌜ length (now s) ≤ mostBytes ⌝ }
@@ -256,13 +271,9 @@ fn write_one(out: &mut [u8], at: usize, s: &[u8], h: usize, x: u32) -> usize
     match c.decode(s, h) {
         Decoded::Broken(_) => at,
         Decoded::Whole(e, next) => {
-            let own = own_text(e.mode);
-            let digits = own.bytes;
-            let n = own.len;
+            let name = put_own(out, at, e.mode);
             let start = e.name_start;
             let end = next.at;
-            let name = at + n + 1;
-            put_ended(out, at, &digits[..n], b' ');
             put(out, name, &s[start..end]);
             name + (end - start)
         }
@@ -315,6 +326,17 @@ fn measure(s: &[u8], h: usize, list: &[u32]) -> usize
     settle(s, h, list, &mut none)
 }
 
+// Refused: the new object needs so much room.
+fn too_short(need: usize) -> Mended
+    ensures { λ r. ⌜ r ≡ notMended (verdict 8 need) ⌝ }
+{
+    no_mending(Verdict {
+        number: SHORT_OUTPUT,
+        place: need,
+        ..FINE
+    })
+}
+
 // Mends an object of so many entries, with room for as many elements.
 fn mend_with(
     s: &[u8],
@@ -334,11 +356,7 @@ fn mend_with(
     let m = sorted(s, h, fates, false, list);
     let need = measure(s, h, &list[..m]);
     if out.len() < need {
-        return no_mending(Verdict {
-            number: SHORT_OUTPUT,
-            place: need,
-            ..FINE
-        });
+        return too_short(need);
     }
     settle(s, h, &list[..m], fates);
     write_sorted(s, h, fates, out, list);

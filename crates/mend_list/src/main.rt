@@ -1,8 +1,8 @@
 // Says what mending does to each entry of a tree object: `./run mend [sha256] <object` (docs/FORMAT.md, "Mending"). A line an entry, in the object's
 // order: its mode text as it stands, what is done in words, a colon, its name. A refusal is one line with its number, place and part.
 use entry::EntryRecord;
-use entry::WIDTH;
-use entry::entry_at;
+use entry_record::WIDTH;
+use entry_record::entry_at;
 use fate::CHANGED;
 use fate::KEPT;
 use fate::NO_NAME;

@@ -6,6 +6,7 @@ use ground::FINE;
 use ground::Verdict;
 use libc::STDIN_FILENO;
 use libc::STDOUT_FILENO;
+use mend::Mended;
 use mend::mend_tree;
 use words::id_length;
 use words::word_at;
@@ -19,17 +20,16 @@ fn say(s: &[u8]) {
     io::write_all(STDOUT_FILENO, s);
 }
 
-fn number(n: usize) {
+// A word, and a number behind it.
+fn say_with(word: &[u8], n: usize) {
+    say(word);
     io::print_decimal(STDOUT_FILENO, n as u64);
 }
 
 fn refused(v: Verdict) {
-    say(b"refused ");
-    number(v.number);
-    say(b" at ");
-    number(v.place);
-    say(b" part ");
-    number(v.part);
+    say_with(b"refused ", v.number);
+    say_with(b" at ", v.place);
+    say_with(b" part ", v.part);
     say(b"\n");
 }
 
@@ -44,36 +44,48 @@ fn part(s: &[u8], from: usize, to: usize) -> &[u8] {
     &s[from..to]
 }
 
-fn mend(object: &[u8], h: usize) {
-    let mut fates = [0usize; MOST];
-    let mut out = [0u8; LONGEST];
-    let a = mend_tree(object, h, &mut fates, &mut out);
+fn tell(a: Mended, out: &[u8]) {
     let v = a.verdict;
     if v.number != DONE {
         refused(v);
         return;
     }
-    say(part(&out, 0, a.count));
+    say(part(out, 0, a.count));
 }
 
 // The word, the empty line behind it, and the object.
-fn work(s: &[u8]) {
+fn mended(s: &[u8], fates: &mut [usize], out: &mut [u8]) -> Mended {
     let ids = id_length(s);
     let blank = word_at(s, ids.next);
-    mend(part(s, blank.next, s.len()), ids.h);
+    mend_tree(part(s, blank.next, s.len()), ids.h, fates, out)
 }
 
-// Reads standard input; longer than it may be it is 2.
-fn main() {
-    let mut all = [0u8; LONGEST];
+// How many bytes standard input has, which are read to the front; where it has more, one more than there are.
+fn read(all: &mut [u8]) -> usize {
     let mut more = [0u8; 1];
-    let n = io::read_full(STDIN_FILENO, &mut all);
+    let n = io::read_full(STDIN_FILENO, all);
     if libc::read(STDIN_FILENO, &mut more) != 0 {
+        return LONGEST + 1;
+    }
+    n
+}
+
+// An input that is longer than it may be is 2.
+fn work(all: &mut [u8], fates: &mut [usize], out: &mut [u8]) {
+    let n = read(all);
+    if LONGEST < n {
         refused(Verdict {
             number: BOUND,
             ..FINE
         });
         return;
     }
-    work(part(&all, 0, n));
+    tell(mended(part(all, 0, n), fates, out), out);
+}
+
+fn main() {
+    let mut all = [0u8; LONGEST];
+    let mut fates = [0usize; MOST];
+    let mut out = [0u8; LONGEST];
+    work(&mut all, &mut fates, &mut out);
 }

@@ -162,6 +162,10 @@ module _ (h : ℕ) (s : List ℕ) (l r : Rest) (x y : Ahead) (ex : x ≡ aheadAt
 pub entry-in : (h : ℕ) (s : List ℕ) (c : Rest) (x : Ahead) (e : EntryRecord) (next : Rest) → AheadWithin h s c x → x ≡ Entry e next → EntryWithin h (length s) e
 entry-in h s c x e next w k = subst (λ (u : Ahead). AheadWithin h s c u) k w .0
 
+-- an id that lies inside ends at a number
+pub id-fits : (h len : ℕ) (e : EntryRecord) → EntryWithin h len e → len < 18446744073709551616 → e .«id_start» + h < 18446744073709551616
+id-fits h len e f g = omega (arith, f .2)
+
 -- ---- where a step leads
 
 both-within : (h : ℕ) (s : List ℕ) (l r : Rest) (a b : EntryRecord) (l′ r′ : Rest) → EntryWithin h (length s) a → EntryWithin h (length s) b → Leads s l r l′ r′

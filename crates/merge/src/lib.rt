@@ -1,12 +1,14 @@
 // One step of the merge of two trees' entries in Git's order (docs/FORMAT.md, "Differences"): what is only left, only right, or in both.
 ghost use mathlib.Core.Path.{_≡_};
-ghost use Prim.Native.Nat.{_+_, _<_};
+ghost use Prim.Native.Nat.{_+_, _≤_, _<_};
 ghost use lib.ListN.{length};
-ghost use Rattle.merge.specs.Merge.{aheadAt, AheadWithin, EntryWithin, noSide, sideOf, leftChange, rightChange, bothOf, stepAt};
+ghost use Rattle.entry.specs.Record.{folderOf};
+ghost use Rattle.order.specs.Order.{nameOrder};
+ghost use Rattle.merge.specs.Merge.{aheadAt, AheadWithin, EntryWithin, nameIn, noSide, sideOf, leftChange, rightChange, bothOf, stepAt};
 use entry::Cursor;
 use entry::Decoded;
 use entry::EntryRecord;
-use entry::is_folder;
+use entry_record::is_folder;
 use order::Order;
 use order::name_order;
 use scan::same_bytes;
@@ -196,6 +198,24 @@ fn only_right(h: usize, e: EntryRecord) -> Change
     }
 }
 
+// Git's order of two entries, by name and sort.
+fn order_of(bundle: &[u8], a: EntryRecord, b: EntryRecord) -> Order
+    requires { ⌜ (a .«name_start» ≤ a .«name_end») × (a .«name_end» ≤ length (now bundle)) ⌝ }
+    requires { ⌜ (b .«name_start» ≤ b .«name_end») × (b .«name_end» ≤ length (now bundle)) ⌝ }
+    ensures { λ r. ⌜ r ≡ nameOrder (nameIn (now (bundle .entry)) a) (folderOf a) (nameIn (now (bundle .entry)) b) (folderOf b) ⌝ }
+{
+    let i = a.name_start;
+    let i_end = a.name_end;
+    let j = b.name_start;
+    let j_end = b.name_end;
+    name_order(
+        &bundle[i..i_end],
+        is_folder(a),
+        &bundle[j..j_end],
+        is_folder(b),
+    )
+}
+
 // The next step, whatever the two rests name: one that does not lie inside the bundle is at its end.
 pub fn merge_step(bundle: &[u8], h: usize, l: Rest, r: Rest) -> Step
     ensures { λ t. ⌜ t ≡ stepAt h (now (bundle .entry)) l r ⌝ }
@@ -209,22 +229,11 @@ pub fn merge_step(bundle: &[u8], h: usize, l: Rest, r: Rest) -> Step
         },
         Ahead::Entry(a, next) => match y {
             Ahead::End => Step::Differs(only_left(h, a), next, r),
-            Ahead::Entry(b, other) => {
-                let i = a.name_start;
-                let i_end = a.name_end;
-                let j = b.name_start;
-                let j_end = b.name_end;
-                match name_order(
-                    &bundle[i..i_end],
-                    is_folder(a),
-                    &bundle[j..j_end],
-                    is_folder(b),
-                ) {
-                    Order::Below => Step::Differs(only_left(h, a), next, r),
-                    Order::Same => in_both(bundle, h, a, b, next, other),
-                    Order::Above => Step::Differs(only_right(h, b), l, other),
-                }
-            }
+            Ahead::Entry(b, other) => match order_of(bundle, a, b) {
+                Order::Below => Step::Differs(only_left(h, a), next, r),
+                Order::Same => in_both(bundle, h, a, b, next, other),
+                Order::Above => Step::Differs(only_right(h, b), l, other),
+            },
         },
     }
 }

@@ -2,7 +2,7 @@
 use native.Mathlib.Omega.{arith}
 use Prim.Native.Nat.{ℕ, _+_, _/_, _%_, _<_, _≤_}
 use mathlib.Core.Path.{_≡_, refl, ap, sym, _∙_}
-use mathlib.Core.Bool.{or-true}
+use mathlib.Core.Bool.{Bool, true, false, not, _||_, or-true, false≢true}
 use mathlib.Core.List.{List, [], _∷_, _++_}
 use lib.Bits.{bitAnd, and-high}
 use lib.Dec.{eqb}
@@ -50,21 +50,39 @@ test k e = ap (λ (v : ℕ). eqb v k) e
 -- ---- a mode from a number: a tree's, one without bit 15, one with it
 
 module _ (n : ℕ) where
-  pub number-tree : n ≡ 0o40000 → fromNumber n ≡ accepted (record { internal = 0o40000 })
+  number-tree : n ≡ 0o40000 → fromNumber n ≡ accepted (record { internal = 0o40000 })
   unfolding fromNumber
   number-tree e = simp e
 
-  pub number-bad : (n ≡ 0o40000 → ⊥) → bitAnd n 0o100000 ≡ 0 → fromNumber n ≡ rejected (verdict 23 0)
+  number-low : (n ≡ 0o40000 → ⊥) → bitAnd n 0o100000 ≡ 0 → fromNumber n ≡ rejected (verdict 23 0)
   unfolding fromNumber
-  number-bad h e =
+  number-low h e =
       let z : n / 0o100000 % 2 ≡ 0 = omega (arith, and-high n 1 15) in
       simp (ne-eqb n 16384 h, ne-eqb n 40960 (λ q. omega arith), ne-eqb n 57344 (λ q. omega arith), z)
 
-  pub number-good : (bitAnd n 0o100000 ≡ 0 → ⊥) → fromNumber n ≡ accepted (record { internal = n % 0o200000 })
+  number-high : (bitAnd n 0o100000 ≡ 0 → ⊥) → fromNumber n ≡ accepted (record { internal = n % 0o200000 })
   unfolding fromNumber
-  number-good h =
+  number-high h =
       let z : n / 0o100000 % 2 ≡ 1 = omega (arith, and-high n 1 15) in
       simp (z, or-true)
+
+  -- by the one test that the code makes
+  pub number-good : (eqb n 0o40000 || not (eqb (bitAnd n 0o100000) 0)) ≡ true → fromNumber n ≡ accepted (record { internal = n % 0o200000 })
+  number-good e = go (eqb n 0o40000) refl (eqb (bitAnd n 0o100000) 0) refl e
+    where
+      go : (v : Bool) → eqb n 0o40000 ≡ v → (w : Bool) → eqb (bitAnd n 0o100000) 0 ≡ w → (v || not w) ≡ true
+          → fromNumber n ≡ accepted (record { internal = n % 0o200000 })
+      go true q w r e = let z = eqb-true n 0o40000 q in number-tree z ∙ rw z
+      go false q false r e = number-high (λ z. false≢true (sym r ∙ eq-eqb (bitAnd n 0o100000) 0 z))
+      go false q true r e = absurd (false≢true e)
+
+  pub number-bad : (eqb n 0o40000 || not (eqb (bitAnd n 0o100000) 0)) ≡ false → fromNumber n ≡ rejected (verdict 23 0)
+  number-bad e = go (eqb n 0o40000) refl (eqb (bitAnd n 0o100000) 0) refl e
+    where
+      go : (v : Bool) → eqb n 0o40000 ≡ v → (w : Bool) → eqb (bitAnd n 0o100000) 0 ≡ w → (v || not w) ≡ false → fromNumber n ≡ rejected (verdict 23 0)
+      go true q w r e = absurd (false≢true (sym e))
+      go false q false r e = absurd (false≢true (sym e))
+      go false q true r e = number-low (λ z. false≢true (sym q ∙ eq-eqb n 0o40000 z)) (eqb-true (bitAnd n 0o100000) 0 r)
 
 -- ---- reading: what `mode_text` says of a text, of the mode that it makes
 

@@ -3,9 +3,11 @@
 ghost use mathlib.Core.Path.{_≡_};
 ghost use mathlib.Core.Bool.{not};
 ghost use lib.Dec.{eqb};
+ghost use Rattle.ground.specs.Basics.{pick};
 ghost use Rattle.mode_text.specs.Write.{modeText};
 ghost use Rattle.mode_table.specs.Kind.{isExecutable, isFileOrLink};
-ghost use Rattle.mode.specs.Mode.{valueOf, sortOf, executes, kindOf, wordOf, isTree, accepted, rejected, fromNumber};
+ghost use Rattle.mode_table.specs.declared.EntryKind.the-variants.{Blob, BlobExecutable};
+ghost use Rattle.mode.specs.Mode.{valueOf, sortOf, executes, kindOf, wordOf, isTree, rejected, fromNumber};
 ghost use Rattle.mode.specs.Read.{readModeAt, alone, modeAlone};
 use ground::BROKEN_ENTRY;
 use ground::FINE;
@@ -38,16 +40,27 @@ pub struct ModeAnswer {
     pub mode: EntryMode,
 }
 
-impl ModeAnswer {
-    fn done(mode: EntryMode) -> ModeAnswer
-        ensures { λ r. ⌜ r ≡ accepted mode ⌝ }
-    {
-        ModeAnswer {
-            verdict: FINE,
-            mode: mode,
-        }
-    }
+// The answer to a text that stands alone and is no mode's: refusal 3, part 1.
+const NO_TEXT: ModeAnswer = ModeAnswer {
+    verdict: Verdict {
+        number: BROKEN_ENTRY,
+        place: 0,
+        part: NO_MODE,
+    },
+    mode: EntryMode { internal: 0 },
+};
 
+// The answer to a number that is no mode's: refusal 23.
+const NO_NUMBER: ModeAnswer = ModeAnswer {
+    verdict: Verdict {
+        number: NO_MODE_OR_KIND,
+        place: 0,
+        part: 0,
+    },
+    mode: EntryMode { internal: 0 },
+};
+
+impl ModeAnswer {
     fn refused(v: Verdict) -> ModeAnswer
         ensures { λ r. ⌜ r ≡ rejected v ⌝ }
     {
@@ -57,17 +70,16 @@ impl ModeAnswer {
         }
     }
 
-    // A mode text that stands alone: refusal 3, part 1, where it cannot be read.
+    // A mode text that stands alone.
     fn alone(read: ModeRead) -> ModeAnswer
         ensures { λ r. ⌜ r ≡ alone read ⌝ }
     {
         match read {
-            ModeRead::Mode(m, _) => ModeAnswer::done(m),
-            ModeRead::Bad => ModeAnswer::refused(Verdict {
-                number: BROKEN_ENTRY,
-                part: NO_MODE,
-                ..FINE
-            }),
+            ModeRead::Mode(m, _) => ModeAnswer {
+                verdict: FINE,
+                mode: m,
+            },
+            ModeRead::Bad => NO_TEXT,
         }
     }
 }
@@ -114,6 +126,17 @@ impl EntryMode {
         self.value() & EntryMode::EXECUTE == EntryMode::EXECUTE
     }
 
+    // The kind of a file.
+    fn file_kind(self) -> EntryKind
+        ensures { λ r. ⌜ r ≡ pick (executes (self .internal)) BlobExecutable Blob ⌝ }
+    {
+        if self.executes() {
+            EntryKind::BlobExecutable
+        } else {
+            EntryKind::Blob
+        }
+    }
+
     pub fn is_tree(self) -> bool
         ensures { λ r. ⌜ r ≡ isTree (self .internal) ⌝ }
     {
@@ -147,19 +170,11 @@ impl EntryMode {
     pub fn kind(self) -> EntryKind
         ensures { λ r. ⌜ r ≡ kindOf (self .internal) ⌝ }
     {
-        let sort = self.sort();
-        if sort == EntryMode::BLOB {
-            if self.executes() {
-                EntryKind::BlobExecutable
-            } else {
-                EntryKind::Blob
-            }
-        } else if sort == EntryMode::LINK {
-            EntryKind::Link
-        } else if sort == EntryMode::TREE {
-            EntryKind::Tree
-        } else {
-            EntryKind::Commit
+        match self.sort() {
+            EntryMode::BLOB => self.file_kind(),
+            EntryMode::LINK => EntryKind::Link,
+            EntryMode::TREE => EntryKind::Tree,
+            _ => EntryKind::Commit,
         }
     }
 
@@ -194,17 +209,15 @@ impl EntryMode {
     pub fn from_u32(n: u32) -> ModeAnswer
         ensures { λ r. ⌜ r ≡ fromNumber n ⌝ }
     {
-        if n == 0o40000 {
-            return ModeAnswer::done(EntryMode { internal: 0o40000 });
+        if (n == 0o40000) | (n & 0o100000 != 0) {
+            return ModeAnswer {
+                verdict: FINE,
+                mode: EntryMode {
+                    internal: (n % 0o200000) as u16,
+                },
+            };
         }
-        if n & 0o100000 == 0 {
-            return ModeAnswer::refused(Verdict {
-                number: NO_MODE_OR_KIND,
-                ..FINE
-            });
-        }
-        let low = (n % 0o200000) as u16;
-        ModeAnswer::done(EntryMode { internal: low })
+        NO_NUMBER
     }
 
     // A mode from a text that stands alone: refusals 2 and 3, at 0.

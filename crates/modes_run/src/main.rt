@@ -1,6 +1,5 @@
 // Runs every mode and the mode texts of docs/FORMAT.md, "Modes", and writes what comes of them; expected.py computes the same without Rattle.
-// A line for each of the 16 sorts: the sort in octal; how many of its 4,096 modes are of each kind, in the table's order; how many texts have
-// 1, 5 and 6 bytes; how many, read back, give the mode itself, the mode less 32768, and anything else; and a sum.
+// A line for each of the 16 sorts: the sort in octal, and the sum over its 4,096 modes.
 use libc::STDOUT_FILENO;
 use mode::EntryMode;
 use mode::ModeAnswer;
@@ -26,42 +25,21 @@ fn text(t: ShortText) {
     }
 }
 
-fn count_at(counts: &[u64], i: usize) -> u64 {
-    if i < counts.len() { counts[i] } else { 0 }
-}
-
-// A word and the counts from one place up to another.
-fn row(word: &[u8], counts: &[u64], from: usize, to: usize) {
-    say(word);
-    let mut i = from;
-    while i < to {
-        number(count_at(counts, i));
-        i += 1;
-    }
-}
-
 // The sum takes a number x: sum * 31 + x, modulo 2^32.
 fn take(sum: u64, x: u64) -> u64 {
     (sum % 4294967296 * 31 + x % 4294967296) % 4294967296
 }
 
-fn take_bytes(sum: u64, s: &[u8]) -> u64 {
+// The six bytes of a text, with 0 behind it.
+fn take_text(sum: u64, t: ShortText) -> u64 {
+    let bytes = t.bytes;
     let mut all = sum;
     let mut i: usize = 0;
-    while i < s.len() {
-        all = take(all, s[i] as u64);
+    while i < 6 {
+        all = take(all, bytes[i] as u64);
         i += 1;
     }
     all
-}
-
-fn take_text(sum: u64, t: ShortText) -> u64 {
-    let bytes = t.bytes;
-    let n = t.len;
-    if n <= 6 {
-        return take_bytes(sum, &bytes[..n]);
-    }
-    sum
 }
 
 fn take_read(sum: u64, r: ModeRead) -> u64 {
@@ -71,51 +49,14 @@ fn take_read(sum: u64, r: ModeRead) -> u64 {
     }
 }
 
-// One more at a place of the counts; a place past them counts nowhere.
-fn bump(counts: &mut [u64], k: usize) {
-    if k < counts.len() {
-        counts[k] = std::num::wrapping_add_u64(counts[k], 1);
-    }
-}
-
-// Counts 0 to 4: the kinds.
-fn kind_place(k: EntryKind) -> usize {
+// A kind's place in the table.
+fn kind_place(k: EntryKind) -> u64 {
     match k {
         EntryKind::Tree => 0,
         EntryKind::Blob => 1,
         EntryKind::BlobExecutable => 2,
         EntryKind::Link => 3,
         EntryKind::Commit => 4,
-    }
-}
-
-// Counts 5 to 7: a text's length.
-fn length_place(n: usize) -> usize {
-    if n == 1 {
-        return 5;
-    }
-    if n == 5 {
-        return 6;
-    }
-    if n == 6 { 7 } else { 11 }
-}
-
-// Counts 8 to 10: what a text reads back as.
-fn back_place(m: u16, r: ModeRead) -> usize {
-    match r {
-        ModeRead::Mode(b, _) => {
-            let back = b.internal;
-            if back == m {
-                8
-            } else if m < 32768 {
-                10
-            } else if back == m - 32768 {
-                9
-            } else {
-                10
-            }
-        }
-        ModeRead::Bad => 10,
     }
 }
 
@@ -133,51 +74,32 @@ fn read_back(t: ShortText) -> ModeRead {
     EntryMode::extract_at(&line[..end], 0)
 }
 
-// One mode: its three counts, and what the sum takes of it, in this order: the value, the kind's place, each byte of the text, the mode read
-// back (65536 if refused), and where the rest begins (0 if refused).
-fn one_mode(m: u16, counts: &mut [u64], sum: u64) -> u64 {
+// What the sum takes of a mode, in this order: the value, the kind's place, the text, the mode read back (65536 if refused), and where the rest
+// begins (0 if refused).
+fn one_mode(m: u16, sum: u64) -> u64 {
     let mode = EntryMode { internal: m };
-    let kind = kind_place(mode.kind());
     let t = mode.as_bytes();
-    let back = read_back(t);
-    bump(counts, kind);
-    bump(counts, length_place(t.len));
-    bump(counts, back_place(m, back));
-    let a = take(take(sum, mode.value() as u64), kind as u64);
-    take_read(take_text(a, t), back)
+    let a = take(take(sum, mode.value() as u64), kind_place(mode.kind()));
+    take_read(take_text(a, t), read_back(t))
 }
 
-// All modes of a sort, in ascending order: their counts, and the sum, which begins with 0.
-fn all_modes(sort: u16, counts: &mut [u64]) -> u64 {
+// All modes of a sort, in ascending order: the sum, which begins with 0.
+fn all_modes(sort: u16) -> u64 {
     let mut sum: u64 = 0;
     let mut low: u16 = 0;
     while low < 4096 {
-        sum = one_mode(sort % 16 * 4096 + low, counts, sum);
+        sum = one_mode(sort % 16 * 4096 + low, sum);
         low += 1;
     }
     sum
 }
 
-fn sort_name(sort: u16) {
+fn one_sort(sort: u16) {
     let high = 48 + (sort % 16 / 8) as u8;
     let next = 48 + (sort % 8) as u8;
     say(&[high, next, 48, 48, 48, 48]);
-}
-
-fn sort_line(counts: &[u64], sum: u64) {
-    row(b" kinds", counts, 0, 5);
-    row(b" lengths", counts, 5, 8);
-    row(b" back", counts, 8, 11);
-    say(b" sum");
-    number(sum);
+    number(all_modes(sort));
     say(b"\n");
-}
-
-fn one_sort(sort: u16) {
-    let mut counts = [0u64; 11];
-    let sum = all_modes(sort, &mut counts);
-    sort_name(sort);
-    sort_line(&counts, sum);
 }
 
 // Number, mode, where the rest begins, value, kind word and written text; or the refusal.

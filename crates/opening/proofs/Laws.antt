@@ -1,120 +1,38 @@
--- An object sought with an index, and a tree that is opened, way by way. Assumes nothing.
-use Prim.Native.Nat.{ℕ, zero, suc, _+_, _-_, _/_, _≤_, _<_, min}
-use mathlib.Core.Bool.{Bool, true, false}
+-- A tree that is opened, and two of them, way by way. Assumes nothing.
+use Prim.Native.Nat.{ℕ, zero, suc, _+_, _-_, _≤_}
+use mathlib.Core.Bool.{Bool, true, false, false≢true}
 use mathlib.Core.Path.{_≡_, refl, ap, sym, subst, _∙_}
 use mathlib.Core.List.{List, [], _∷_}
 use native.Mathlib.Omega.{arith}
-use borrow.Author.Tests.{eq-eqb, ne-eqb, lt-ltb, le-ltb}
-use lib.Dec.{eqb, leb, ltb}
-use lib.ListN.{length, getD, take, drop}
+use borrow.Author.Tests.{eq-eqb, ne-eqb}
+use lib.Dec.{eqb, leb}
+use lib.ListN.{length, drop}
 use Rattle.ground.specs.Basics.{pick, part}
-use Rattle.ground.specs.Scan.{sameBytes}
 use Rattle.ground.specs.Verdict.{verdict, mostBytes, mostRecords}
 use Rattle.ground.specs.declared.Verdict.{Verdict}
-use Rattle.order.specs.Order.{nameOrder}
-use Rattle.order.specs.declared.Order.{Order}
-use Rattle.frame.specs.Frame.{headOf, frameAt, frames, framesBy}
-use Rattle.frame.specs.Place.{idIn, firstOf, placeBy, placeOf}
+use Rattle.frame.specs.Place.{placeOf}
 use Rattle.frame.specs.declared.Header.{Header}
-use Rattle.frame.specs.declared.Head.{Head}
-use Rattle.frame.specs.declared.Head.the-variants as head
 use Rattle.frame.specs.declared.Frame.{Frame}
-use Rattle.frame.specs.declared.Framed.{Framed}
-use Rattle.frame.specs.declared.Framed.the-variants.{Whole, Broken}
 use Rattle.frame.specs.declared.Placed.{Placed}
 use Rattle.frame.specs.declared.Placed.the-variants.{At, Absent}
-use Rattle.frame.proofs.Laws.{frame-inside, id-part}
-use Rattle.bundle.proofs.Objects.{first-inside}
 use Rattle.entry.specs.Decode.{decode}
 use Rattle.entry.specs.declared.Decoded.{Decoded}
 use Rattle.entry.specs.declared.Decoded.the-variants as decoded
-use Rattle.reading.specs.Listing.{Listing, done, stop, entry, follow, plain, listing, recordsIn, tally}
+use Rattle.reading.specs.Listing.{entry, follow, plain, listing, tally}
 use Rattle.reading.specs.declared.Counted.{Counted}
 use Rattle.reading.specs.declared.Counted.the-variants.{Total, Stopped}
 use Rattle.reading.proofs.Laws.{plain-none, tally-length}
 use Rattle.rules.specs.Rules.{gitRules}
 use Rattle.strict.specs.Strict.{strictly, strictCount}
 use Rattle.strict.proofs.Laws.{strict-plain}
-use Rattle.merge.specs.Merge.{Within}
+use Rattle.seeking.specs.Index.{IsIndex}
 use Rattle.merge.specs.declared.Rest.{Rest}
-use Rattle.opening.specs.Index.{idAt, looked, seekAt, seekIn, placeIn, IsIndex}
-use Rattle.opening.specs.Opening.{noRest, openCounted, openPlaced, openBy, openAt, openIn, OpenWithin}
+use Rattle.opening.specs.Opening.{noRest, openCounted, openPlaced, openBy, openAt, openIn, pairOf, openBoth, OpenWithin}
 use Rattle.opening.specs.declared.Opened.{Opened}
+use Rattle.opening.specs.declared.Pair.the-variants.{Closed, Both}
 use Rattle.opening.specs.declared.Opened.the-variants.{Shut, Entries}
-use Rattle.opening.proofs.Indexed.{sought}
-
--- ---- an object sought
-
-pub order-part : (o : Order) (x y id : List ℕ) → o ≡ nameOrder x false id false → x ≡ y → o ≡ nameOrder y false id false
-order-part o x y id e q = e ∙ ap (λ (z : List ℕ). nameOrder z false id false) q
-
-module _ (h : ℕ) (s index id : List ℕ) (i : ℕ) (e : i ≡ placeIn h s index id) where
-  pub seek-out : length index ≤ i → placeOf s id ≡ seekIn h s index id
-  unfolding seekIn seekAt
-  seek-out g = rw (← e, le-ltb i (length index) g)
-
-  module _ (g : i < length index) (d : Framed) (q : d ≡ frameAt h (getD index i 0 / 2) (drop (getD index i 0 / 2) s)) where
-    seek-is : looked h s id d ≡ seekIn h s index id
-    unfolding seekIn seekAt
-    seek-is = rw (← e, lt-ltb i (length index) g, ← q)
-
-    pub seek-broken : d ≡ Broken → placeOf s id ≡ seekIn h s index id
-    unfolding looked
-    seek-broken k = ap (looked h s id) (sym k) ∙ seek-is
-
-    module _ (f : Frame) (k : d ≡ Whole f) where
-      whole-is : looked h s id (Whole f) ≡ seekIn h s index id
-      whole-is = ap (looked h s id) (sym k) ∙ seek-is
-
-      pub seek-here : sameBytes (take (f .id + h - f .id) (drop (f .id) s)) id ≡ true → At f ≡ seekIn h s index id
-      unfolding looked
-      seek-here t = let u : sameBytes (idIn h s f) id ≡ true = rw (id-part h s f) at t in sym (rw u) ∙ whole-is
-
-      pub seek-other : sameBytes (take (f .id + h - f .id) (drop (f .id) s)) id ≡ false → placeOf s id ≡ seekIn h s index id
-      unfolding looked
-      seek-other t = let u : sameBytes (idIn h s f) id ≡ false = rw (id-part h s f) at t in sym (rw u) ∙ whole-is
-
-pub short-at : (a n x all : ℕ) → a ≡ min n all → n ≡ x / 2 → a ≡ min (x / 2) all
-short-at a n x all e q = e ∙ rw q
-
-pub seek-framed : (h : ℕ) (s : List ℕ) (d : Framed) (at x : ℕ) → d ≡ frameAt h at (drop at s) → at ≡ x / 2 → d ≡ frameAt h (x / 2) (drop (x / 2) s)
-seek-framed h s d at x e q = e ∙ rw q
-
--- an object that was found lies inside the bundle
-pub place-inside : (s id : List ℕ) (f : Frame) → placeOf s id ≡ At f → (f .start ≤ f .end) × (f .end ≤ length s)
-unfolding placeBy
-place-inside s id f e = placed (headOf s) e
-  where
-    placed : (d : Head) → placeBy s id d ≡ At f → (f .start ≤ f .end) × (f .end ≤ length s)
-    placed (head.Good k) q = first-inside (k .h) s id (k .count) (k .from) f q
-    placed head.Bad q = let z : _≡_ {A = ℕ} 0 1 = cc in absurd (omega arith)
-
--- also where an index proposed it
-pub seek-inside : (h : ℕ) (s index id : List ℕ) (p : Placed) (f : Frame) → p ≡ seekIn h s index id → p ≡ At f → (f .start ≤ f .end) × (f .end ≤ length s)
-unfolding seekIn seekAt looked
-seek-inside h s index id p f e k = go (ltb i (length index)) (sym e ∙ k)
-  where
-    i : ℕ
-    i = placeIn h s index id
-
-    x : ℕ
-    x = getD index i 0 / 2
-
-    chosen : (g : Frame) → frameAt h x (drop x s) ≡ Whole g → (t : Bool) → pick t (At g) (placeOf s id) ≡ At f → (f .start ≤ f .end) × (f .end ≤ length s)
-    chosen g w true q =
-        let r : g ≡ f = cc in
-        let j = frame-inside h x s g w in
-        let y : (g .start ≤ g .end) × (g .end ≤ length s) = (j .forward, j .ends) in
-        rw r at y
-    chosen g w false q = place-inside s id f q
-
-    framed : (d : Framed) → frameAt h x (drop x s) ≡ d → looked h s id d ≡ At f → (f .start ≤ f .end) × (f .end ≤ length s)
-    framed Broken w q = place-inside s id f q
-    framed (Whole g) w q = chosen g w (sameBytes (idIn h s g) id) q
-
-    go : (t : Bool) → pick t (looked h s id (frameAt h x (drop x s))) (placeOf s id) ≡ At f → (f .start ≤ f .end) × (f .end ≤ length s)
-    go true q = framed (frameAt h x (drop x s)) refl q
-    go false q = place-inside s id f q
+use Rattle.seeking.proofs.Indexed.{sought}
+use Rattle.seeking.proofs.Laws.{place-inside}
 
 -- ---- a listing of n entries is read with n as its bound
 
@@ -225,3 +143,49 @@ open-within k s id = empty (eqb (length id) 0)
     empty : (t : Bool) → OpenWithin s (pick t (Entries noRest) (openPlaced k s (placeOf s id)))
     empty true = ((omega arith, omega arith), omega arith)
     empty false = placed (placeOf s id) refl
+
+-- ---- two trees
+
+module _ (k : Header) (s left right : List ℕ) (depth : ℕ) (index : List ℕ) where
+  pub both-deep : depth ≡ 0 → Closed (verdict 27 0) ≡ openBoth k s left right depth index
+  unfolding openBoth
+  both-deep e = rw (eq-eqb _ _ e)
+
+  module _ (e : depth ≡ 0 → ⊥) (x : Opened) (ex : x ≡ openIn k s left index) where
+    pub both-left : (v : Verdict) → x ≡ Shut v → Closed v ≡ openBoth k s left right depth index
+    unfolding openBoth pairOf
+    both-left v q = rw (ne-eqb _ _ e, ← ex, q)
+
+    module _ (l : Rest) (q : x ≡ Entries l) (y : Opened) (ey : y ≡ openIn k s right index) where
+      pub both-right : (w : Verdict) → y ≡ Shut w → Closed w ≡ openBoth k s left right depth index
+      unfolding openBoth pairOf
+      both-right w p = rw (ne-eqb _ _ e, ← ex, q, ← ey, p)
+
+      pub both-open : (r : Rest) → y ≡ Entries r → Both l r ≡ openBoth k s left right depth index
+      unfolding openBoth pairOf
+      both-open r p = rw (ne-eqb _ _ e, ← ex, q, ← ey, p)
+
+  -- with any index the same two trees are opened, and they lie inside
+  module _ (x : IsIndex s k index) where
+    pub both-indexed : openBoth k s left right depth index ≡ pick (eqb depth 0) (Closed (verdict 27 0)) (pairOf (openAt k s left) (openAt k s right))
+    unfolding openBoth
+    both-indexed = rw (open-indexed k s left index x, open-indexed k s right index x)
+
+    pub both-within : (l r : Rest) → openBoth k s left right depth index ≡ Both l r → (depth ≡ 0 → ⊥) × OpenWithin s (Entries l) × OpenWithin s (Entries r)
+    unfolding pairOf
+    both-within l r q = go (eqb depth 0) refl (sym both-indexed ∙ q)
+      where
+        two : (a b : Opened) → OpenWithin s a → OpenWithin s b → pairOf a b ≡ Both l r → OpenWithin s (Entries l) × OpenWithin s (Entries r)
+        two (Shut v) b i j p = let z : _≡_ {A = ℕ} 0 1 = cc in absurd (omega arith)
+        two (Entries c) (Shut w) i j p = let z : _≡_ {A = ℕ} 0 1 = cc in absurd (omega arith)
+        two (Entries c) (Entries d) i j p =
+            let e : c ≡ l = cc in
+            let f : d ≡ r = cc in
+            (subst (λ (u : Rest). OpenWithin s (Entries u)) e i, subst (λ (u : Rest). OpenWithin s (Entries u)) f j)
+
+        go : (t : Bool) → eqb depth 0 ≡ t → pick t (Closed (verdict 27 0)) (pairOf (openAt k s left) (openAt k s right)) ≡ Both l r
+            → (depth ≡ 0 → ⊥) × OpenWithin s (Entries l) × OpenWithin s (Entries r)
+        go true n p = let z : _≡_ {A = ℕ} 0 1 = cc in absurd (omega arith)
+        go false n p =
+            let w = two (openAt k s left) (openAt k s right) (open-within k s left) (open-within k s right) p in
+            (λ z. false≢true (sym n ∙ eq-eqb depth 0 z), w .0, w .1)

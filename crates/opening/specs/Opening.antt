@@ -14,9 +14,11 @@ use Rattle.reading.specs.declared.Counted.the-variants.{Total, Stopped}
 use Rattle.strict.specs.Strict.{strictCount}
 use Rattle.merge.specs.Merge.{Within}
 use Rattle.merge.specs.declared.Rest.{Rest}
-use Rattle.opening.specs.Index.{seekIn}
+use Rattle.seeking.specs.Index.{seekIn}
 use Rattle.opening.specs.declared.Opened.{Opened}
 use Rattle.opening.specs.declared.Opened.the-variants.{Shut, Entries}
+use Rattle.opening.specs.declared.Pair.{Pair}
+use Rattle.opening.specs.declared.Pair.the-variants.{Closed, Both}
 
 -- nothing to read
 abbrev pub noRest : Rest
@@ -43,6 +45,16 @@ openAt k s id = openBy k s id (placeOf s id)
 
 abbrev pub openIn : Header → List ℕ → List ℕ → List ℕ → Opened
 openIn k s id index = openBy k s id (seekIn (k .h) s index id)
+
+-- two trees, the refusal of the left one first
+unfoldable pub pairOf : Opened → Opened → Pair
+pairOf (Shut v) r = Closed v
+pairOf (Entries l) (Shut w) = Closed w
+pairOf (Entries l) (Entries r) = Both l r
+
+-- two trees with so many levels to go: 27 with none, whatever the ids are
+unfoldable pub openBoth : Header → List ℕ → List ℕ → List ℕ → ℕ → List ℕ → Pair
+openBoth k s left right depth index = pick (eqb depth 0) (Closed (verdict 27 0)) (pairOf (openIn k s left index) (openIn k s right index))
 
 -- an opened tree lies inside the bundle, and has as many entries as may be at most
 abbrev pub OpenWithin : List ℕ → Opened → Type 0

@@ -10,22 +10,23 @@ use Rattle.ground.specs.Basics.{part}
 use Rattle.ground.specs.Verdict.{verdict}
 use Rattle.actor.specs.Actor.{isActor}
 use Rattle.header.specs.Words.{treeWord, authorWord, committerWord}
-use Rattle.header.specs.Line.{idAt, lineAt}
+use Rattle.commit_line.specs.Line.{idAt, lineAt}
 use Rattle.header.specs.Record.{wellFormed, valueOf}
 use Rattle.header.specs.declared.HeaderRecord.{HeaderRecord}
-use Rattle.header.specs.declared.Line.{Line}
-use Rattle.header.specs.declared.Line.the-variants.{Value, Missing}
+use Rattle.commit_line.specs.declared.Line.{Line}
+use Rattle.commit_line.specs.declared.Line.the-variants.{Value, Missing}
 use Rattle.unfold.specs.Unfold.{Plan, stores, refuses, hasForm, plainOf, roomPlan, valuePlan, gatePlan, unfoldPlan, answerOf, afterOf}
-use Rattle.commit_read.specs.Headers.{heads, tally}
-use Rattle.commit_read.specs.Fields.{refusal, actorOf, actorAt, encodingAt, foundOf, blankOf, endingOf, withCommitter, withAuthor, peopleOf, fieldsOf}
-use Rattle.commit_read.specs.Read.{roomOf, gatedBy, outcomeOf, answerIn, parentsIn, headersIn}
-use Rattle.commit_read.specs.declared.Found.{Found}
-use Rattle.commit_read.specs.declared.Encoding.{Encoding}
-use Rattle.commit_read.specs.declared.HeaderCount.{HeaderCount}
-use Rattle.commit_read.specs.declared.Person.{Person}
-use Rattle.commit_read.specs.declared.Person.the-variants as person
-use Rattle.commit_read.specs.declared.Outcome.{Outcome}
-use Rattle.commit_read.specs.declared.Outcome.the-variants.{Whole, Fails}
+use Rattle.commit_fields.specs.Headers.{heads, tally}
+use Rattle.commit_fields.specs.Fields.{refusal, actorOf, actorAt, encodingAt, foundOf, blankOf, endingOf, withCommitter, withAuthor, peopleOf, fieldsOf}
+use Rattle.commit_fields.specs.Outcome.{roomOf, gatedBy, outcomeOf}
+use Rattle.commit_read.specs.Read.{answerIn, parentsIn, headersIn}
+use Rattle.commit_fields.specs.declared.Found.{Found}
+use Rattle.commit_fields.specs.declared.Encoding.{Encoding}
+use Rattle.commit_fields.specs.declared.HeaderCount.{HeaderCount}
+use Rattle.commit_fields.specs.declared.Person.{Person}
+use Rattle.commit_fields.specs.declared.Person.the-variants as person
+use Rattle.commit_fields.specs.declared.Outcome.{Outcome}
+use Rattle.commit_fields.specs.declared.Outcome.the-variants.{Whole, Fails}
 use Rattle.paper.specs.Call.{none, _and_, Refusal, Fits}
 use Rattle.paper.specs.Calls.{ofAnswer, ofCommit}
 use Rattle.paper.specs.Demand1.{OfCommits}
@@ -115,7 +116,10 @@ of-commits = record {
     told = λ i o m. (m .0, refl, two-lists (m .1 .0) (m .1 .1), ap ofCommit (m .0));
   }) (λ i. wider (commit-fits _ _ _ _) refl) (λ i z. outcome-kept _ _ _ _ _ z);
   put-header = keeps-stores _ (λ i. tt) _ _ _ _ (λ i o m. (refl, m));
+  put-byte = keeps-stores _ (λ i. tt) _ _ _ _ (λ i o m. (refl, m));
+  put-value = keeps-stores _ (λ i. tt) _ _ _ _ (λ i o m. m);
   commit-questions =
       ((λ i. tt), (λ i o p. same)) and ((λ i. tt), (λ i o p. same)) and ((λ i. tt), (λ i o p. same)) and ((λ i. tt), (λ i o p. same)) and
-      ((λ i. tt), (λ i o p. same)) and ((λ i. tt), (λ i o p. same)) and ((λ i. tt), (λ i o p. same)) and none;
+      ((λ i. tt), (λ i o p. same)) and ((λ i. tt), (λ i o p. same)) and ((λ i. tt), (λ i o p. same)) and
+      ((λ i. tt), (λ i o p. same)) and ((λ i. tt), (λ i o p. same)) and none;
 }

@@ -77,7 +77,7 @@ compare-fits s left right bytes room =
 
 pub of-differences : OfDifferences
 of-differences = record {
-  difference-questions = ((λ i. tt), (λ i o p. same)) and ((λ i. tt), (λ i o p. same)) and ((λ i. tt), (λ i o p. same)) and none;
+  difference-questions = ((λ i. tt), (λ i o p. same)) and ((λ i. tt), (λ i o p. same)) and ((λ i. tt), (λ i o p. same)) and ((λ i. tt), (λ i o p. same)) and none;
   make-index = keeps-stores _ (λ i. tt) _ _ _ _ (λ i o m. m);
   compare-trees = keeps _ _ (λ i. tt) (record {
     answers = λ i. _;

@@ -18,18 +18,19 @@ use Rattle.arriving.specs.Sixteen.{MeetsLong}
 use Rattle.arriving.specs.Claims.{joined, Rooms}
 use Rattle.arriving.specs.declared.Marks.{Marks}
 use Rattle.arriving.specs.declared.Check.{Check}
+use Rattle.piece_ends.proofs as pieceEnds
 use Rattle.pieces.proofs as pieces
 use Rattle.paper.specs.Call.{Call, call, Run, EachOnce}
 
 -- the three calls by their own contracts
 abbrev pub startCall : Call
-startCall = call pieces.start.Kinds.ps pieces.start.Kinds.r pieces.start.Reads.Asked pieces.start.Reads.Post
+startCall = call pieceEnds.start.Kinds.ps pieceEnds.start.Kinds.r pieceEnds.start.Reads.Asked pieceEnds.start.Reads.Post
 
 abbrev pub feedCall : Call
 feedCall = call pieces.feed.Kinds.ps pieces.feed.Kinds.r pieces.feed.Reads.Asked pieces.feed.Reads.Post
 
 abbrev pub finishCall : Call
-finishCall = call pieces.finish.Kinds.ps pieces.finish.Kinds.r pieces.finish.Reads.Asked pieces.finish.Reads.Post
+finishCall = call pieceEnds.finish.Kinds.ps pieceEnds.finish.Kinds.r pieceEnds.finish.Reads.Asked pieceEnds.finish.Reads.Post
 
 -- what a call of `feed` is handed, and what it comes to
 abbrev pub handed : Run feedCall → Check

@@ -8,6 +8,7 @@ use Rattle.ground.specs.declared.Verdict.{Verdict}
 use Rattle.lookup.proofs as lookup
 use Rattle.border.proofs as border
 use Rattle.border_mode.proofs as bm
+use Rattle.border_kind.proofs as bk
 use Rattle.border_tree.proofs as bt
 use Rattle.border_lookup.proofs as bl
 use Rattle.border_hex.proofs as bh
@@ -230,10 +231,10 @@ behind =
     call bm.mode_read.Kinds.ps bm.mode_read.Kinds.r bm.mode_read.Reads.Asked bm.mode_read.Reads.Post
     ∷ call bm.mode_from_number.Kinds.ps bm.mode_from_number.Kinds.r bm.mode_from_number.Reads.Asked bm.mode_from_number.Reads.Post
     ∷ call bm.mode_value.Kinds.ps bm.mode_value.Kinds.r bm.mode_value.Reads.Asked bm.mode_value.Reads.Post
-    ∷ call bm.mode_kind.Kinds.ps bm.mode_kind.Kinds.r bm.mode_kind.Reads.Asked bm.mode_kind.Reads.Post
-    ∷ call bm.mode_ask.Kinds.ps bm.mode_ask.Kinds.r bm.mode_ask.Reads.Asked bm.mode_ask.Reads.Post
-    ∷ call bm.mode_word.Kinds.ps bm.mode_word.Kinds.r bm.mode_word.Reads.Asked bm.mode_word.Reads.Post
-    ∷ call bm.mode_text.Kinds.ps bm.mode_text.Kinds.r bm.mode_text.Reads.Asked bm.mode_text.Reads.Post
+    ∷ call bk.mode_kind.Kinds.ps bk.mode_kind.Kinds.r bk.mode_kind.Reads.Asked bk.mode_kind.Reads.Post
+    ∷ call bk.mode_ask.Kinds.ps bk.mode_ask.Kinds.r bk.mode_ask.Reads.Asked bk.mode_ask.Reads.Post
+    ∷ call bk.mode_word.Kinds.ps bk.mode_word.Kinds.r bk.mode_word.Reads.Asked bk.mode_word.Reads.Post
+    ∷ call bk.mode_text.Kinds.ps bk.mode_text.Kinds.r bk.mode_text.Reads.Asked bk.mode_text.Reads.Post
     ∷ call bl.name_order.Kinds.ps bl.name_order.Kinds.r bl.name_order.Reads.Asked bl.name_order.Reads.Post
     ∷ call bt.tree_step.Kinds.ps bt.tree_step.Kinds.r bt.tree_step.Reads.Asked bt.tree_step.Reads.Post
     ∷ call bt.read_tree.Kinds.ps bt.read_tree.Kinds.r bt.read_tree.Reads.Asked bt.read_tree.Reads.Post

@@ -27,18 +27,23 @@ use Rattle.mode_table.proofs.EntryKind as kinds
 use Rattle.mode.proofs.EntryMode as mode
 use Rattle.mode_code.proofs as mode-code
 use Rattle.order.proofs as order
+use Rattle.compare.proofs as compare
 use Rattle.entry.proofs as entry
+use Rattle.entry_record.proofs as entryRecord
 use Rattle.doubles.proofs as doubles
 use Rattle.rules.proofs as rules
+use Rattle.names.proofs as names
 use Rattle.reading.proofs as reading
 use Rattle.strict.proofs as strict
 use Rattle.lookup.proofs as lookup
 use Rattle.edit_turn.proofs as editTurn
 use Rattle.edit_walk.proofs as editWalk
 use Rattle.edit.proofs as edit
+use Rattle.edit_remove.proofs as editRemove
 use Rattle.fate.proofs as fate
 use Rattle.mend.proofs as mend
 use Rattle.merge.proofs as merge
+use Rattle.seeking.proofs as seeks
 use Rattle.opening.proofs as opens
 use Rattle.indexing.proofs as indexing
 use Rattle.difference.proofs as difference
@@ -55,6 +60,7 @@ use Rattle.tree_write.proofs as tree
 use Rattle.loose_header.proofs as loose
 use Rattle.actor.proofs as actor
 use Rattle.hex.proofs as hex
+use Rattle.hex_letter.proofs as hexLetter
 use Rattle.id_of_hex.proofs as idOf
 use Rattle.hex_of_id.proofs as hexOf
 use Rattle.tree_text.proofs as treeText
@@ -64,7 +70,11 @@ use Rattle.text_record.proofs as textRecord
 use Rattle.text_repeats.proofs as textRepeats
 use Rattle.tree_import.proofs as import
 use Rattle.header.proofs as header
+use Rattle.commit_line.proofs as commitLine
+use Rattle.extra_header.proofs as extraHeader
+use Rattle.commit_value.proofs as commitValue
 use Rattle.unfold.proofs as folded
+use Rattle.commit_fields.proofs as commitFields
 use Rattle.commit_read.proofs as commit
 use Rattle.commit_check.proofs as check
 use Rattle.commit_write.proofs as written
@@ -159,6 +169,7 @@ scans =
     ∷ call scan.find_byte.Kinds.ps scan.find_byte.Kinds.r scan.find_byte.Reads.Asked scan.find_byte.Reads.Post
     ∷ call scan.find_nul.Kinds.ps scan.find_nul.Kinds.r scan.find_nul.Reads.Asked scan.find_nul.Reads.Post
     ∷ call scan.count_to.Kinds.ps scan.count_to.Kinds.r scan.count_to.Reads.Asked scan.count_to.Reads.Post
+    ∷ call scan.count_far.Kinds.ps scan.count_far.Kinds.r scan.count_far.Reads.Asked scan.count_far.Reads.Post
     ∷ call scan.common_start.Kinds.ps scan.common_start.Kinds.r scan.common_start.Reads.Asked scan.common_start.Reads.Post
     ∷ call scan.same_bytes.Kinds.ps scan.same_bytes.Kinds.r scan.same_bytes.Reads.Asked scan.same_bytes.Reads.Post
     ∷ []
@@ -208,6 +219,7 @@ modeQuestions =
 abbrev pub orders : List Call
 orders =
     call order.name_order.Kinds.ps order.name_order.Kinds.r order.name_order.Reads.Asked order.name_order.Reads.Post
+    ∷ call compare.name_order.Kinds.ps compare.name_order.Kinds.r compare.name_order.Reads.Asked compare.name_order.Reads.Post
     ∷ call order.by_next.Kinds.ps order.by_next.Kinds.r order.by_next.Reads.Asked order.by_next.Reads.Post
     ∷ call order.Order.number.Kinds.ps order.Order.number.Kinds.r order.Order.number.Reads.Asked order.Order.number.Reads.Post
     ∷ []
@@ -221,13 +233,13 @@ abbrev pub cursorDecode : Deed
 cursorDecode = reads (call entry.Cursor.decode.Kinds.ps entry.Cursor.decode.Kinds.r entry.Cursor.decode.Reads.Asked entry.Cursor.decode.Reads.Post) (λ i x. ofDecoded x)
 
 abbrev pub putEntry : Deed
-putEntry = stores (call entry.put_entry.Kinds.ps entry.put_entry.Kinds.r entry.put_entry.Reads.Asked entry.put_entry.Reads.Post) (λ i. now (i .args .0)) (λ i o. now (o .last .0))
+putEntry = stores (call entryRecord.put_entry.Kinds.ps entryRecord.put_entry.Kinds.r entryRecord.put_entry.Reads.Asked entryRecord.put_entry.Reads.Post) (λ i. now (i .args .0)) (λ i o. now (o .last .0))
 
 abbrev pub entryQuestions : List Call
 entryQuestions =
-    call entry.entry_at.Kinds.ps entry.entry_at.Kinds.r entry.entry_at.Reads.Asked entry.entry_at.Reads.Post
-    ∷ call entry.well_formed.Kinds.ps entry.well_formed.Kinds.r entry.well_formed.Reads.Asked entry.well_formed.Reads.Post
-    ∷ call entry.is_folder.Kinds.ps entry.is_folder.Kinds.r entry.is_folder.Reads.Asked entry.is_folder.Reads.Post
+    call entryRecord.entry_at.Kinds.ps entryRecord.entry_at.Kinds.r entryRecord.entry_at.Reads.Asked entryRecord.entry_at.Reads.Post
+    ∷ call entryRecord.well_formed.Kinds.ps entryRecord.well_formed.Kinds.r entryRecord.well_formed.Reads.Asked entryRecord.well_formed.Reads.Post
+    ∷ call entryRecord.is_folder.Kinds.ps entryRecord.is_folder.Kinds.r entryRecord.is_folder.Reads.Asked entryRecord.is_folder.Reads.Post
     ∷ []
 
 -- ---- reading
@@ -238,7 +250,7 @@ ruleBounds = reads (call rules.rule_bounds.Kinds.ps rules.rule_bounds.Kinds.r ru
 abbrev pub ruleQuestions : List Call
 ruleQuestions =
     call rules.mode_permitted.Kinds.ps rules.mode_permitted.Kinds.r rules.mode_permitted.Reads.Asked rules.mode_permitted.Reads.Post
-    ∷ call rules.name_number.Kinds.ps rules.name_number.Kinds.r rules.name_number.Reads.Asked rules.name_number.Reads.Post
+    ∷ call names.name_number.Kinds.ps names.name_number.Kinds.r names.name_number.Reads.Asked names.name_number.Reads.Post
     ∷ []
 
 abbrev pub placeEntry : Deed
@@ -282,7 +294,7 @@ putInTree =
 
 abbrev pub removeFromTree : Deed
 removeFromTree =
-    writes (call edit.remove_from_tree.Kinds.ps edit.remove_from_tree.Kinds.r edit.remove_from_tree.Reads.Asked edit.remove_from_tree.Reads.Post) (λ i x. x)
+    writes (call editRemove.remove_from_tree.Kinds.ps editRemove.remove_from_tree.Kinds.r editRemove.remove_from_tree.Reads.Asked editRemove.remove_from_tree.Reads.Post) (λ i x. x)
     (λ i. now (i .args .1 .1 .1 .1 .0)) (λ i o. now (o .last .1 .1 .1 .1 .0))
 
 -- ---- lookup
@@ -350,8 +362,8 @@ abbrev pub hexQuestions : List Call
 hexQuestions =
     call hex.hex_digit.Kinds.ps hex.hex_digit.Kinds.r hex.hex_digit.Reads.Asked hex.hex_digit.Reads.Post
     ∷ call hex.is_hex.Kinds.ps hex.is_hex.Kinds.r hex.is_hex.Reads.Asked hex.is_hex.Reads.Post
-    ∷ call hex.lower.Kinds.ps hex.lower.Kinds.r hex.lower.Reads.Asked hex.lower.Reads.Post
-    ∷ call hex.digit_of.Kinds.ps hex.digit_of.Kinds.r hex.digit_of.Reads.Asked hex.digit_of.Reads.Post
+    ∷ call hexLetter.lower.Kinds.ps hexLetter.lower.Kinds.r hexLetter.lower.Reads.Asked hexLetter.lower.Reads.Post
+    ∷ call hexLetter.digit_of.Kinds.ps hexLetter.digit_of.Kinds.r hexLetter.digit_of.Reads.Asked hexLetter.digit_of.Reads.Post
     ∷ []
 
 abbrev pub idOfHex : Deed
@@ -365,8 +377,9 @@ hexOfId = writes (call hexOf.hex_of_id.Kinds.ps hexOf.hex_of_id.Kinds.r hexOf.he
 abbrev pub differenceQuestions : List Call
 differenceQuestions =
     call merge.merge_step.Kinds.ps merge.merge_step.Kinds.r merge.merge_step.Reads.Asked merge.merge_step.Reads.Post
-    ∷ call opens.seek_object.Kinds.ps opens.seek_object.Kinds.r opens.seek_object.Reads.Asked opens.seek_object.Reads.Post
+    ∷ call seeks.seek_object.Kinds.ps seeks.seek_object.Kinds.r seeks.seek_object.Reads.Asked seeks.seek_object.Reads.Post
     ∷ call opens.open_tree.Kinds.ps opens.open_tree.Kinds.r opens.open_tree.Reads.Asked opens.open_tree.Reads.Post
+    ∷ call opens.open_both.Kinds.ps opens.open_both.Kinds.r opens.open_both.Reads.Asked opens.open_both.Reads.Post
     ∷ []
 
 abbrev pub makeIndex : Deed
@@ -412,6 +425,12 @@ orderList = stores (call textRepeats.order_list.Kinds.ps textRepeats.order_list.
 abbrev pub unfoldValue : Deed
 unfoldValue = writes (call folded.«unfold».Kinds.ps folded.«unfold».Kinds.r folded.«unfold».Reads.Asked folded.«unfold».Reads.Post) (λ i x. x) (λ i. now (i .args .1 .1 .0)) (λ i o. now (o .last .1 .1 .0))
 
+abbrev pub putByte : Deed
+putByte = stores (call commitValue.put_byte.Kinds.ps commitValue.put_byte.Kinds.r commitValue.put_byte.Reads.Asked commitValue.put_byte.Reads.Post) (λ i. now (i .args .0)) (λ i o. now (o .last .0))
+
+abbrev pub putValue : Deed
+putValue = stores (call commitValue.put_value.Kinds.ps commitValue.put_value.Kinds.r commitValue.put_value.Reads.Asked commitValue.put_value.Reads.Post) (λ i. now (i .args .0)) (λ i o. now (o .last .0))
+
 abbrev pub putHeader : Deed
 putHeader = stores (call header.put_header.Kinds.ps header.put_header.Kinds.r header.put_header.Reads.Asked header.put_header.Reads.Post) (λ i. now (i .args .0)) (λ i o. now (o .last .0))
 
@@ -438,10 +457,12 @@ writeCommit = writes (call written.write_commit.Kinds.ps written.write_commit.Ki
 abbrev pub commitQuestions : List Call
 commitQuestions =
     call actor.is_actor.Kinds.ps actor.is_actor.Kinds.r actor.is_actor.Reads.Asked actor.is_actor.Reads.Post
-    ∷ call header.id_line.Kinds.ps header.id_line.Kinds.r header.id_line.Reads.Asked header.id_line.Reads.Post
-    ∷ call header.value_line.Kinds.ps header.value_line.Kinds.r header.value_line.Reads.Asked header.value_line.Reads.Post
-    ∷ call header.extra_at.Kinds.ps header.extra_at.Kinds.r header.extra_at.Reads.Asked header.extra_at.Reads.Post
-    ∷ call header.is_folded.Kinds.ps header.is_folded.Kinds.r header.is_folded.Reads.Asked header.is_folded.Reads.Post
+    ∷ call commitLine.id_line.Kinds.ps commitLine.id_line.Kinds.r commitLine.id_line.Reads.Asked commitLine.id_line.Reads.Post
+    ∷ call commitLine.value_line.Kinds.ps commitLine.value_line.Kinds.r commitLine.value_line.Reads.Asked commitLine.value_line.Reads.Post
+    ∷ call extraHeader.extra_at.Kinds.ps extraHeader.extra_at.Kinds.r extraHeader.extra_at.Reads.Asked extraHeader.extra_at.Reads.Post
+    ∷ call extraHeader.is_folded.Kinds.ps extraHeader.is_folded.Kinds.r extraHeader.is_folded.Reads.Asked extraHeader.is_folded.Reads.Post
+    ∷ call commitValue.encoding_fault.Kinds.ps commitValue.encoding_fault.Kinds.r commitValue.encoding_fault.Reads.Asked commitValue.encoding_fault.Reads.Post
+    ∷ call commitFields.decide.Kinds.ps commitFields.decide.Kinds.r commitFields.decide.Reads.Asked commitFields.decide.Reads.Post
     ∷ call header.header_at.Kinds.ps header.header_at.Kinds.r header.header_at.Reads.Asked header.header_at.Reads.Post
     ∷ call header.well_formed.Kinds.ps header.well_formed.Kinds.r header.well_formed.Reads.Asked header.well_formed.Reads.Post
     ∷ []

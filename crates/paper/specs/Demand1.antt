@@ -95,6 +95,8 @@ pub record OfCommits : Type 3 where
   pub unfold-value : Keeps a.unfoldValue (0 ∷ 2 ∷ 8 ∷ 10 ∷ [])
   pub read-commit : Keeps a.readCommit (0 ∷ 1 ∷ 2 ∷ 4 ∷ 11 ∷ 12 ∷ [])
   pub put-header : Keeps a.putHeader (0 ∷ [])
+  pub put-byte : Keeps a.putByte (0 ∷ [])
+  pub put-value : Keeps a.putValue (0 ∷ [])
   pub commit-questions : EachOnce a.commitQuestions
 
 -- hex digits, and an id from its digits and back

@@ -11,8 +11,8 @@ ghost use Rattle.reading.specs.Whole.{inRoom, finished, readAnswer, read
 use entry::Cursor;
 use entry::Decoded;
 use entry::EntryRecord;
-use entry::WIDTH;
-use entry::put_entry;
+use entry_record::WIDTH;
+use entry_record::put_entry;
 use ground::Answer;
 use ground::BOUND;
 use ground::FEW_RECORDS;

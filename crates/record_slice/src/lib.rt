@@ -120,10 +120,10 @@ pub fn step(object: &[u8], name: &[u8], q: Query, p: Probe, e: EntryRecord) -> P
     if ground::MOST_RECORDS <= p.looked.compared {
         return p;
     }
-    if entry::well_formed(q.h, object.len(), e) {
+    if entry_record::well_formed(q.h, object.len(), e) {
         let first = e.name_start;
         let end = e.name_end;
-        let tree = entry::is_folder(e);
+        let tree = entry_record::is_folder(e);
         let o = order::name_order(&object[first..end], tree, name, q.folder);
         return moved(p, o);
     }

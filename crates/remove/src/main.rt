@@ -1,6 +1,6 @@
 // Removes an entry from a strict tree object: `./run remove [sha256] [1|2] NAME <object >new` (docs/FORMAT.md, "Edits"). Without a rule set it is 2.
 // A refusal is one line with its number, place and part.
-use edit::remove_from_tree;
+use edit_remove::remove_from_tree;
 use ground::Answer;
 use ground::BOUND;
 use ground::DONE;

@@ -1,22 +1,29 @@
 // The calls on bundles and paths, and those that make one tree object of another, as trees.rt has the others on trees.
+use crate::cases::ANSWERS;
+use crate::cases::ROOMS;
+use crate::cases::a;
+use crate::cases::b;
+use crate::cases::c;
 use crate::cases::given;
-use crate::cases::tell_five;
-use crate::cases::tell_four;
-use crate::cases::tell_six;
+use crate::cases::h;
+use crate::cases::rules;
+use crate::trees::five;
+use crate::trees::four;
+use crate::trees::six;
 use output::put;
 
 // 22: a bundle, checked whole.
-fn check_bundle(a: &[u8], answer: &mut [usize]) {
-    let mut six = [0usize; 6];
-    border_bundle::check_bundle(a, &mut six);
-    tell_six(answer, &six);
+fn check_bundle(s: &[u8], g: &[usize]) -> [usize; ANSWERS] {
+    let mut t = [0usize; 6];
+    border_bundle::check_bundle(a(s, g), &mut t);
+    six(t)
 }
 
 // 23: an object of a bundle, by its id.
-fn bundle_object(a: &[u8], b: &[u8], answer: &mut [usize]) {
-    let mut six = [0usize; 6];
-    border_bundle::bundle_object(a, b, &mut six);
-    tell_six(answer, &six);
+fn bundle_object(s: &[u8], g: &[usize]) -> [usize; ANSWERS] {
+    let mut t = [0usize; 6];
+    border_bundle::bundle_object(a(s, g), b(s, g), &mut t);
+    six(t)
 }
 
 fn put_id(out: &mut [u8], id: &[u8; 32]) {
@@ -24,62 +31,50 @@ fn put_id(out: &mut [u8], id: &[u8; 32]) {
 }
 
 // 24: a path, followed from a root id.
-fn follow_path(a: &[u8], b: &[u8], c: &[u8], out: &mut [u8], answer: &mut [usize]) {
-    let mut five = [0usize; 5];
+fn follow_path(s: &[u8], g: &[usize], out: &mut [u8]) -> [usize; ANSWERS] {
+    let mut t = [0usize; 5];
     let mut id = [0u8; 32];
-    border_bundle::follow_path(a, b, c, &mut five, &mut id);
-    tell_five(answer, &five);
+    border_bundle::follow_path(a(s, g), b(s, g), c(s, g), &mut t, &mut id);
     put_id(out, &id);
+    five(t)
 }
 
 // 25: a name put into a tree with its mode and id.
-fn put_in_tree(n: &[usize], a: &[u8], b: &[u8], c: &[u8], out: &mut [u8], answer: &mut [usize]) {
-    let mut four = [0usize; 4];
-    let rules = (given(n, 1) % 65536) as u16;
-    border_edit::put_in_tree(a, given(n, 0), rules, given(n, 2), b, c, out, &mut four);
-    tell_four(answer, &four);
+fn put_in_tree(s: &[u8], g: &[usize], out: &mut [u8]) -> [usize; ANSWERS] {
+    let mut t = [0usize; 4];
+    let mode = given(g, ROOMS + 2);
+    border_edit::put_in_tree(a(s, g), h(g), rules(g), mode, b(s, g), c(s, g), out, &mut t);
+    four(t)
 }
 
 // 26: a name removed from one.
-fn remove_from_tree(n: &[usize], a: &[u8], b: &[u8], out: &mut [u8], answer: &mut [usize]) {
-    let mut four = [0usize; 4];
-    let rules = (given(n, 1) % 65536) as u16;
-    border_edit::remove_from_tree(a, given(n, 0), rules, b, out, &mut four);
-    tell_four(answer, &four);
+fn remove_from_tree(s: &[u8], g: &[usize], out: &mut [u8]) -> [usize; ANSWERS] {
+    let mut t = [0usize; 4];
+    border_edit::remove_from_tree(a(s, g), h(g), rules(g), b(s, g), out, &mut t);
+    four(t)
 }
 
 // 27: a tree, mended.
-fn mend_tree(n: &[usize], a: &[u8], p: &mut [usize], out: &mut [u8], answer: &mut [usize]) {
-    let mut five = [0usize; 5];
-    border_mend::mend_tree(a, given(n, 0), p, out, &mut five);
-    tell_five(answer, &five);
+pub fn mend_tree(s: &[u8], g: &[usize], out: &mut [u8], p: &mut [usize]) -> [usize; ANSWERS] {
+    let mut t = [0usize; 5];
+    border_mend::mend_tree(a(s, g), h(g), p, out, &mut t);
+    five(t)
 }
 
 // 28: a tree as text.
-fn export_tree(n: &[usize], a: &[u8], out: &mut [u8], answer: &mut [usize]) {
-    let mut four = [0usize; 4];
-    let rules = (given(n, 1) % 65536) as u16;
-    border_text::export_tree(a, given(n, 0), rules, out, &mut four);
-    tell_four(answer, &four);
+fn export_tree(s: &[u8], g: &[usize], out: &mut [u8]) -> [usize; ANSWERS] {
+    let mut t = [0usize; 4];
+    border_text::export_tree(a(s, g), h(g), rules(g), out, &mut t);
+    four(t)
 }
 
-pub fn request_call(
-    call: usize,
-    n: &[usize],
-    a: &[u8],
-    b: &[u8],
-    c: &[u8],
-    out: &mut [u8],
-    p: &mut [usize],
-    answer: &mut [usize],
-) {
+pub fn request_call(call: u8, s: &[u8], g: &[usize], out: &mut [u8]) -> [usize; ANSWERS] {
     match call {
-        22 => check_bundle(a, answer),
-        23 => bundle_object(a, b, answer),
-        24 => follow_path(a, b, c, out, answer),
-        25 => put_in_tree(n, a, b, c, out, answer),
-        26 => remove_from_tree(n, a, b, out, answer),
-        27 => mend_tree(n, a, p, out, answer),
-        _ => export_tree(n, a, out, answer),
+        22 => check_bundle(s, g),
+        23 => bundle_object(s, g),
+        24 => follow_path(s, g, out),
+        25 => put_in_tree(s, g, out),
+        26 => remove_from_tree(s, g, out),
+        _ => export_tree(s, g, out),
     }
 }

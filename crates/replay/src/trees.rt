@@ -1,18 +1,70 @@
-// The calls on modes, names, trees and ids, as C has them: `given` are a case's numbers behind its rooms.
+// The calls on modes, names, trees and ids, as C has them, on what cases.rt has in `s` and `g`; each gives the numbers that it answers.
+use crate::cases::ANSWERS;
 use crate::cases::BYTES;
-use crate::cases::given;
+use crate::cases::a;
+use crate::cases::b;
+use crate::cases::h;
+use crate::cases::rules;
+use crate::cases::second;
 use crate::cases::set_number;
-use crate::cases::set_numbers;
-use crate::cases::tell_five;
-use crate::cases::tell_four;
+use crate::cases::x;
+use crate::cases::y;
 use entry::EntryRecord;
-use entry::entry_at;
+use entry_record::entry_at;
+use lookup::Looked;
 use mode::EntryMode;
 use mode::ModeRead;
 use output::put;
 use record_slice::ROOM;
 use record_slice::bisect_array;
 use std::num::wrapping_add_usize;
+
+// What a call answers, by how many numbers it has; 0 behind them.
+pub fn four(t: [usize; 4]) -> [usize; ANSWERS] {
+    [t[0], t[1], t[2], t[3], 0, 0, 0, 0, 0, 0, 0, 0, 0, 0, 0, 0]
+}
+
+pub fn five(t: [usize; 5]) -> [usize; ANSWERS] {
+    [
+        t[0],
+        t[1],
+        t[2],
+        t[3],
+        t[4],
+        0,
+        0,
+        0,
+        0,
+        0,
+        0,
+        0,
+        0,
+        0,
+        0,
+        0,
+    ]
+}
+
+pub fn six(t: [usize; 6]) -> [usize; ANSWERS] {
+    [
+        t[0],
+        t[1],
+        t[2],
+        t[3],
+        t[4],
+        t[5],
+        0,
+        0,
+        0,
+        0,
+        0,
+        0,
+        0,
+        0,
+        0,
+        0,
+    ]
+}
 
 // Where the rest begins behind a mode text that an entry begins with, and 0 where there is none.
 fn rest(text: &[u8]) -> usize {
@@ -23,54 +75,70 @@ fn rest(text: &[u8]) -> usize {
 }
 
 // 1: a mode text, read alone and as the front of an entry.
-fn mode_text(a: &[u8], answer: &mut [usize]) {
-    let mut four = [0usize; 4];
-    border_mode::mode_read(a, &mut four);
-    tell_four(answer, &four);
-    set_number(answer, 4, rest(a));
+fn mode_text(s: &[u8], g: &[usize]) -> [usize; ANSWERS] {
+    let text = a(s, g);
+    let mut t = [0usize; 4];
+    border_mode::mode_read(text, &mut t);
+    five([t[0], t[1], t[2], t[3], rest(text)])
 }
 
-// The seven answers of a mode.
-fn tell_seven(told: &mut [usize], x: &[usize; 7]) {
-    set_numbers(told, 0, x);
-}
-
-// Six bytes at a place of an output.
-fn put_six(out: &mut [u8], at: usize, x: &[u8; 6]) {
-    put(out, at, x);
-}
-
-// The questions to a mode, its value and its kind.
-fn mode_numbers(mode: u16, answer: &mut [usize]) {
-    let mut seven = [0usize; 7];
-    border_mode::mode_ask(mode, &mut seven);
-    tell_seven(answer, &seven);
-    set_number(answer, 7, border_mode::mode_value(mode) as usize);
-    set_number(answer, 8, border_mode::mode_kind(mode) as usize);
-}
-
-// Its text and its word, six bytes each, and how long they are.
-fn mode_words(mode: u16, out: &mut [u8], answer: &mut [usize]) {
+// A mode's text, and its word, six bytes each; how long they are.
+fn put_text(mode: u16, out: &mut [u8]) -> usize {
     let mut text = [0u8; 6];
-    let mut word = [0u8; 6];
-    set_number(answer, 9, border_mode::mode_text(mode, &mut text));
-    set_number(answer, 10, border_mode::mode_word(mode, &mut word));
+    let n = border_kind::mode_text(mode, &mut text);
     put_six(out, 0, &text);
+    n
+}
+
+fn put_word(mode: u16, out: &mut [u8]) -> usize {
+    let mut word = [0u8; 6];
+    let n = border_kind::mode_word(mode, &mut word);
     put_six(out, 6, &word);
+    n
+}
+
+fn put_six(out: &mut [u8], at: usize, six: &[u8; 6]) {
+    put(out, at, six);
+}
+
+// The questions to a mode, its value, its kind, and how long its text and its word are.
+fn mode_numbers(mode: u16, text: usize, word: usize) -> [usize; ANSWERS] {
+    let mut t = [0usize; 7];
+    border_kind::mode_ask(mode, &mut t);
+    let value = border_mode::mode_value(mode) as usize;
+    let kind = border_kind::mode_kind(mode) as usize;
+    [
+        t[0],
+        t[1],
+        t[2],
+        t[3],
+        t[4],
+        t[5],
+        t[6],
+        value,
+        kind,
+        text,
+        word,
+        0,
+        0,
+        0,
+        0,
+        0,
+    ]
 }
 
 // 2: what a mode answers.
-fn mode_asked(n: &[usize], out: &mut [u8], answer: &mut [usize]) {
-    let mode = (given(n, 0) % 65536) as u16;
-    mode_numbers(mode, answer);
-    mode_words(mode, out, answer);
+fn mode_asked(g: &[usize], out: &mut [u8]) -> [usize; ANSWERS] {
+    let mode = (h(g) % 65536) as u16;
+    let text = put_text(mode, out);
+    mode_numbers(mode, text, put_word(mode, out))
 }
 
 // 3: a mode from a 32-bit number.
-fn mode_from_number(n: &[usize], answer: &mut [usize]) {
-    let mut four = [0usize; 4];
-    border_mode::mode_from_number((given(n, 0) % 4294967296) as u32, &mut four);
-    tell_four(answer, &four);
+fn mode_from_number(g: &[usize]) -> [usize; ANSWERS] {
+    let mut t = [0usize; 4];
+    border_mode::mode_from_number((h(g) % 4294967296) as u32, &mut t);
+    four(t)
 }
 
 // 0 for below, 1 for the same, 2 for above.
@@ -85,95 +153,97 @@ fn order_number(o: i8) -> usize {
 }
 
 // 4: two names, each with whether it is a tree's.
-fn name_order(n: &[usize], a: &[u8], b: &[u8], answer: &mut [usize]) {
-    let o = border_lookup::name_order(a, given(n, 0) != 0, b, given(n, 1) != 0);
-    set_number(answer, 0, order_number(o));
+fn name_order(s: &[u8], g: &[usize]) -> [usize; ANSWERS] {
+    let o = border_lookup::name_order(a(s, g), h(g) != 0, b(s, g), second(g) != 0);
+    four([order_number(o), 0, 0, 0])
 }
 
 // 5: a tree, read plainly.
-fn read_tree(n: &[usize], a: &[u8], p: &mut [usize], answer: &mut [usize]) {
-    let mut four = [0usize; 4];
-    border_tree::read_tree(a, given(n, 0), p, &mut four);
-    tell_four(answer, &four);
+fn read_tree(s: &[u8], g: &[usize], p: &mut [usize]) -> [usize; ANSWERS] {
+    let mut t = [0usize; 4];
+    border_tree::read_tree(a(s, g), h(g), p, &mut t);
+    four(t)
 }
 
 // 6: the same, strictly.
-fn read_strictly(n: &[usize], a: &[u8], p: &mut [usize], answer: &mut [usize]) {
-    let mut four = [0usize; 4];
-    let rules = (given(n, 1) % 65536) as u16;
-    border_tree::read_tree_strict(a, given(n, 0), rules, p, &mut four);
-    tell_four(answer, &four);
+fn read_strictly(s: &[u8], g: &[usize], p: &mut [usize]) -> [usize; ANSWERS] {
+    let mut t = [0usize; 4];
+    border_tree::read_tree_strict(a(s, g), h(g), rules(g), p, &mut t);
+    four(t)
 }
 
-// Whether a step found an entry, and where the next one starts.
-struct Stepped {
-    found: bool,
-    next: usize,
-}
-
-fn step_of(ten: &[usize; 10]) -> Stepped {
-    Stepped {
-        found: ten[3] != 0,
-        next: ten[4],
-    }
+fn step(object: &[u8], h: usize, at: usize) -> [usize; 10] {
+    let mut t = [0usize; 10];
+    border_tree::tree_step(object, h, at, &mut t);
+    t
 }
 
 // The record that a step found, stored from a place on.
-fn set_record(p: &mut [usize], to: usize, ten: &[usize; 10]) {
-    set_numbers(p, to, &[ten[5], ten[6], ten[7], ten[8], ten[9]]);
-}
-
-fn step(a: &[u8], h: usize, at: usize, p: &mut [usize], to: usize) -> Stepped {
-    let mut ten = [0usize; 10];
-    border_tree::tree_step(a, h, at, &mut ten);
-    let s = step_of(&ten);
-    if s.found {
-        set_record(p, to, &ten);
+fn set_record(p: &mut [usize], to: usize, t: [usize; 10]) {
+    let mut i: usize = 0;
+    while i < 5 {
+        set_number(p, wrapping_add_usize(to, i), t[5 + i]);
+        i += 1;
     }
-    s
 }
 
-// How many steps from a place on found an entry, and where the next one starts.
+// Steps from one entry to the next, until one finds none: how many found one, and that step's place.
 struct Walked {
     found: usize,
     at: usize,
 }
 
-fn steps(a: &[u8], h: usize, from: usize, p: &mut [usize]) -> Walked {
+fn steps(object: &[u8], h: usize, from: usize, p: &mut [usize]) -> Walked {
     let mut at = from;
     let mut to: usize = 0;
     let mut found: usize = 0;
     while found < BYTES {
-        let s = step(a, h, at, p, to);
-        if !s.found {
+        let t = step(object, h, at);
+        if t[3] == 0 {
             return Walked { found, at };
         }
-        at = s.next;
+        set_record(p, to, t);
+        at = t[4];
         to = wrapping_add_usize(to, 5);
         found += 1;
     }
     Walked { found, at }
 }
 
-fn tell_ten(told: &mut [usize], x: &[usize; 10]) {
-    set_numbers(told, 0, x);
+// The ten of a step, and how many steps found an entry.
+fn eleven(t: [usize; 10], found: usize) -> [usize; ANSWERS] {
+    [
+        t[0],
+        t[1],
+        t[2],
+        t[3],
+        t[4],
+        t[5],
+        t[6],
+        t[7],
+        t[8],
+        t[9],
+        found,
+        0,
+        0,
+        0,
+        0,
+        0,
+    ]
 }
 
-// 7: the same by steps, from one entry to the next, until one finds none: that step's answer, and how many found one.
-fn walk(n: &[usize], a: &[u8], p: &mut [usize], answer: &mut [usize]) {
-    let mut ten = [0usize; 10];
-    let h = given(n, 0);
-    let w = steps(a, h, given(n, 1), p);
-    border_tree::tree_step(a, h, w.at, &mut ten);
-    tell_ten(answer, &ten);
-    set_number(answer, 10, w.found);
+// 7: the same by steps: the answer of the first that finds none, and how many found one.
+fn walk(s: &[u8], g: &[usize], p: &mut [usize]) -> [usize; ANSWERS] {
+    let object = a(s, g);
+    let w = steps(object, h(g), second(g), p);
+    eleven(step(object, h(g), w.at), w.found)
 }
 
 // 8: a name sought by halving.
-fn bisect_entry(n: &[usize], a: &[u8], b: &[u8], x: &[usize], answer: &mut [usize]) {
-    let mut five = [0usize; 5];
-    border_lookup::bisect_entry(a, given(n, 0), x, b, given(n, 1) != 0, &mut five);
-    tell_five(answer, &five);
+fn bisect_entry(s: &[u8], g: &[usize]) -> [usize; ANSWERS] {
+    let mut t = [0usize; 5];
+    border_lookup::bisect_entry(a(s, g), h(g), x(g), b(s, g), second(g) != 0, &mut t);
+    five(t)
 }
 
 // The records as structs, as far as an array has room.
@@ -188,116 +258,103 @@ fn structs_of(x: &[usize]) -> [EntryRecord; ROOM] {
     all
 }
 
-// 9: the same among records that are structs.
-fn bisect_structs(n: &[usize], a: &[u8], b: &[u8], x: &[usize], answer: &mut [usize]) {
-    let all = structs_of(x);
-    let l = bisect_array(a, given(n, 0), x.len() / 5, all, b, given(n, 1) != 0);
+fn looked(l: Looked) -> [usize; ANSWERS] {
     let v = l.verdict;
-    set_number(answer, 0, v.number);
-    set_number(answer, 1, v.place);
-    set_number(answer, 2, v.part);
-    set_number(answer, 3, l.index);
-    set_number(answer, 4, l.compared);
+    five([v.number, v.place, v.part, l.index, l.compared])
+}
+
+// 9: the same among records that are structs.
+fn bisect_structs(s: &[u8], g: &[usize]) -> [usize; ANSWERS] {
+    let records = x(g);
+    looked(bisect_array(
+        a(s, g),
+        h(g),
+        records.len() / 5,
+        structs_of(records),
+        b(s, g),
+        second(g) != 0,
+    ))
 }
 
 // 10: a name sought whatever its sort.
-fn bisect_any(n: &[usize], a: &[u8], b: &[u8], x: &[usize], answer: &mut [usize]) {
-    let mut five = [0usize; 5];
-    border_lookup::bisect_any(a, given(n, 0), x, b, &mut five);
-    tell_five(answer, &five);
+fn bisect_any(s: &[u8], g: &[usize]) -> [usize; ANSWERS] {
+    let mut t = [0usize; 5];
+    border_lookup::bisect_any(a(s, g), h(g), x(g), b(s, g), &mut t);
+    five(t)
 }
 
 // 11: many names sought.
-fn bisect_entries(
-    n: &[usize],
-    a: &[u8],
-    b: &[u8],
-    x: &[usize],
-    y: &[usize],
-    p: &mut [usize],
-    answer: &mut [usize],
-) {
-    let mut four = [0usize; 4];
-    border_lookup::bisect_entries(a, given(n, 0), x, b, y, p, &mut four);
-    tell_four(answer, &four);
+fn bisect_entries(s: &[u8], g: &[usize], p: &mut [usize]) -> [usize; ANSWERS] {
+    let mut t = [0usize; 4];
+    border_lookup::bisect_entries(a(s, g), h(g), x(g), b(s, g), y(g), p, &mut t);
+    four(t)
 }
 
 // 12: an object's size, from records.
-fn tree_size(n: &[usize], a: &[u8], x: &[usize], answer: &mut [usize]) {
-    let mut four = [0usize; 4];
-    border_tree_write::tree_size(a, given(n, 0), x, &mut four);
-    tell_four(answer, &four);
+fn tree_size(s: &[u8], g: &[usize]) -> [usize; ANSWERS] {
+    let mut t = [0usize; 4];
+    border_tree_write::tree_size(a(s, g), h(g), x(g), &mut t);
+    four(t)
 }
 
 // 13: its bytes.
-fn write_tree(n: &[usize], a: &[u8], x: &[usize], out: &mut [u8], answer: &mut [usize]) {
-    let mut four = [0usize; 4];
-    border_tree_write::write_tree(a, given(n, 0), x, out, &mut four);
-    tell_four(answer, &four);
+fn write_tree(s: &[u8], g: &[usize], out: &mut [u8]) -> [usize; ANSWERS] {
+    let mut t = [0usize; 4];
+    border_tree_write::write_tree(a(s, g), h(g), x(g), out, &mut t);
+    four(t)
 }
 
 // 14: the header of a loose object.
-fn loose_header(n: &[usize], out: &mut [u8], answer: &mut [usize]) {
-    let mut four = [0usize; 4];
-    border_tree_write::loose_header(given(n, 0), given(n, 1) as u64, out, &mut four);
-    tell_four(answer, &four);
+fn loose_header(g: &[usize], out: &mut [u8]) -> [usize; ANSWERS] {
+    let mut t = [0usize; 4];
+    border_tree_write::loose_header(h(g), second(g) as u64, out, &mut t);
+    four(t)
 }
 
 // 15: the id that some digits say.
-fn id_of_hex(a: &[u8], out: &mut [u8], answer: &mut [usize]) {
-    let mut four = [0usize; 4];
-    border_hex::id_of_hex(a, out, &mut four);
-    tell_four(answer, &four);
+fn id_of_hex(s: &[u8], g: &[usize], out: &mut [u8]) -> [usize; ANSWERS] {
+    let mut t = [0usize; 4];
+    border_hex::id_of_hex(a(s, g), out, &mut t);
+    four(t)
 }
 
 // 16: the digits of an id.
-fn hex_of_id(a: &[u8], out: &mut [u8], answer: &mut [usize]) {
-    let mut four = [0usize; 4];
-    border_hex::hex_of_id(a, out, &mut four);
-    tell_four(answer, &four);
+fn hex_of_id(s: &[u8], g: &[usize], out: &mut [u8]) -> [usize; ANSWERS] {
+    let mut t = [0usize; 4];
+    border_hex::hex_of_id(a(s, g), out, &mut t);
+    four(t)
 }
 
-// The calls that are lent no list.
-pub fn name_call(
-    call: usize,
-    n: &[usize],
-    a: &[u8],
-    b: &[u8],
-    x: &[usize],
-    out: &mut [u8],
-    answer: &mut [usize],
-) {
+// The calls that are lent nothing.
+pub fn plain_call(call: u8, s: &[u8], g: &[usize]) -> [usize; ANSWERS] {
     match call {
-        1 => mode_text(a, answer),
-        2 => mode_asked(n, out, answer),
-        3 => mode_from_number(n, answer),
-        4 => name_order(n, a, b, answer),
-        8 => bisect_entry(n, a, b, x, answer),
-        9 => bisect_structs(n, a, b, x, answer),
-        10 => bisect_any(n, a, b, x, answer),
-        12 => tree_size(n, a, x, answer),
-        13 => write_tree(n, a, x, out, answer),
-        14 => loose_header(n, out, answer),
-        15 => id_of_hex(a, out, answer),
-        _ => hex_of_id(a, out, answer),
+        1 => mode_text(s, g),
+        3 => mode_from_number(g),
+        4 => name_order(s, g),
+        8 => bisect_entry(s, g),
+        9 => bisect_structs(s, g),
+        10 => bisect_any(s, g),
+        _ => tree_size(s, g),
     }
 }
 
-// Those that are lent one.
-pub fn list_call(
-    call: usize,
-    n: &[usize],
-    a: &[u8],
-    b: &[u8],
-    x: &[usize],
-    y: &[usize],
-    p: &mut [usize],
-    answer: &mut [usize],
-) {
+// Those that are lent bytes.
+pub fn out_call(call: u8, s: &[u8], g: &[usize], out: &mut [u8]) -> [usize; ANSWERS] {
     match call {
-        5 => read_tree(n, a, p, answer),
-        6 => read_strictly(n, a, p, answer),
-        7 => walk(n, a, p, answer),
-        _ => bisect_entries(n, a, b, x, y, p, answer),
+        2 => mode_asked(g, out),
+        13 => write_tree(s, g, out),
+        14 => loose_header(g, out),
+        15 => id_of_hex(s, g, out),
+        _ => hex_of_id(s, g, out),
+    }
+}
+
+// Those that are lent a list.
+pub fn list_call(call: u8, s: &[u8], g: &[usize], p: &mut [usize]) -> [usize; ANSWERS] {
+    match call {
+        5 => read_tree(s, g, p),
+        6 => read_strictly(s, g, p),
+        7 => walk(s, g, p),
+        _ => bisect_entries(s, g, p),
     }
 }

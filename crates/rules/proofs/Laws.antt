@@ -1,19 +1,19 @@
 -- Laws of the rules: each way through the tests of a mode text and of a name, and through the gate of a rule set. Assumes nothing.
-use Prim.Native.Nat.{ℕ, _+_, _<_, _≤_}
+use Prim.Native.Nat.{ℕ, _≤_}
 use native.Mathlib.Omega.{arith}
 use mathlib.Core.Path.{_≡_, refl, sym, _∙_}
-use mathlib.Core.Bool.{Bool, true, false, not, _&&_, _||_, false≢true}
-use mathlib.Core.List.{List, [], _∷_, map}
+use mathlib.Core.Bool.{Bool, true, false, not, _&&_, _||_}
+use mathlib.Core.List.{List, [], _∷_}
 use mathlib.Core.Logic.{_⊎_, inl, inr}
 use lib.Dec.{eqb, leb}
-use lib.ListN.{length, getD, length-map}
-use borrow.Author.Tests.{le-leb, lt-leb, eq-eqb, ne-eqb, eqb-true}
+use borrow.Author.Tests.{eqb-true}
 use Rattle.ground.specs.Basics.{pick, ascii}
-use Rattle.ground.specs.Scan.{countTo, sameBytes, freeOf}
+use Rattle.ground.specs.Scan.{sameBytes, freeOf}
 use Rattle.ground.specs.Verdict.{verdict, mostBytes, mostRecords, idLength, sizeGate, gateOf}
 use Rattle.ground.specs.declared.Verdict.{Verdict}
 use Rattle.ground.specs.declared.Gate.the-variants.{Open, Shut}
-use Rattle.ground.proofs.Laws.{is-false, and-left, and-right, whole-free, free-whole, same-length, gate-open}
+use Rattle.ground.proofs.Laws.{and-left, and-right, gate-open}
+use Rattle.names.proofs.Laws.{plain-parts}
 use Rattle.mode.specs.Mode.{valueOf, sortOf, executes, kindOf}
 use Rattle.mode.specs.Mode.{wordOf}
 use Rattle.mode_table.specs.Table.{rows, rowAt, writtenOf, findText}
@@ -21,9 +21,10 @@ use Rattle.mode_text.specs.Write.{shown}
 use Rattle.mode_text.specs.Write.{trimmed, writeMode, modeText}
 use Rattle.mode_table.specs.declared.Written.{Written}
 use Rattle.mode_table.specs.declared.ModeFound.the-variants as found
-use Rattle.rules.specs.Rules.{isText, groupRow, modesOf, isPlain, permitted, lower, isDotGit, nameNumber, bareNumber}
+use Rattle.rules.specs.Rules.{isText, groupRow, modesOf, permitted, nameNumber, bareNumber}
 use Rattle.rules.specs.Gate.{isSet, ruleGate}
 use Rattle.rules.specs.Code.{isGroup}
+pub use Rattle.names.proofs.Laws.{name-empty, number-bad}
 
 -- ---- a mode text
 
@@ -71,7 +72,7 @@ module _ (k : ℕ) (t : List ℕ) where
   unfolding isGroup
   texts-group e = go (eqb k 1)
     where
-      go : (v : Bool) → isText (pick v (groupRow ∷ rows) rows) t ≡ pick v (sameBytes t (shown (groupRow .text))) false
+      go : (v : Bool) → isText (pick v (groupRow ∷ rows) rows) t ≡ (v && sameBytes t (shown (groupRow .text)))
       go true = rw e (or-none (sameBytes t (shown (groupRow .text))))
       go false = e
 
@@ -81,123 +82,28 @@ module _ (k : ℕ) (t : List ℕ) where
   pub mode-none : findText t rows ≡ found.None → isText (modesOf k) t ≡ isGroup k t
   mode-none e = texts-group (text-none t rows e)
 
-  pub group-one : k ≡ 1 → isGroup k t ≡ sameBytes t (ascii "100664")
+  pub group-text : (eqb k 1 && sameBytes t (ascii "100664")) ≡ isGroup k t
   unfolding isGroup groupRow
-  group-one e = rw (eq-eqb k 1 e)
-
-  pub group-other : (k ≡ 1 → ⊥) → isGroup k t ≡ false
-  unfolding isGroup
-  group-other n = rw (ne-eqb k 1 n)
+  group-text = refl
 
 -- ---- a name
 
 module _ (n : List ℕ) where
-  -- what a plain name is
-  plain-parts : isPlain n ≡ true
-      → (not (sameBytes n []) ≡ true) × (freeOf 47 n ≡ true) × (not (sameBytes n (ascii ".")) ≡ true) × (not (sameBytes n (ascii "..")) ≡ true)
-      × (not (sameBytes n (ascii ".git")) ≡ true)
-  unfolding isPlain
-  plain-parts e =
-      let b = and-right (not (sameBytes n [])) _ e in
-      let c = and-right (freeOf 47 n) _ b in
-      let d = and-right (not (sameBytes n (ascii "."))) _ c in (
-        and-left (not (sameBytes n [])) _ e,
-        and-left (freeOf 47 n) _ b,
-        and-left (not (sameBytes n (ascii "."))) _ c,
-        and-left (not (sameBytes n (ascii ".."))) _ d,
-        and-right (not (sameBytes n (ascii ".."))) _ d,
-      )
-
   -- what a permitted name is
   pub permitted-parts : permitted n ≡ true
       → (not (sameBytes n []) ≡ true) × (freeOf 0 n ≡ true) × (freeOf 47 n ≡ true) × (not (sameBytes n (ascii ".")) ≡ true)
       × (not (sameBytes n (ascii "..")) ≡ true) × (not (sameBytes n (ascii ".git")) ≡ true)
   unfolding permitted
-  permitted-parts e = let p = plain-parts (and-right (freeOf 0 n) _ e) in (p .0, and-left (freeOf 0 n) _ e, p .1, p .2, p .3, p .4)
-
-  not-true : (b : Bool) → b ≡ true → not b ≡ true → ⊥
-  not-true b e f = let g = rw e at f in absurd (false≢true g)
-
-  empty-same : (k : ℕ) → k ≡ length n → k ≡ 0 → sameBytes n [] ≡ true
-  empty-same k e z = go n (sym e ∙ z)
-    where
-      go : (l : List ℕ) → length l ≡ 0 → sameBytes l [] ≡ true
-      go [] q = refl
-      go (x ∷ xs) q = absurd (omega arith)
-
-  some-same : (length n ≡ 0 → ⊥) → sameBytes n [] ≡ false
-  some-same f = go n f
-    where
-      go : (l : List ℕ) → (length l ≡ 0 → ⊥) → sameBytes l [] ≡ false
-      go [] q = absurd (q refl)
-      go (x ∷ xs) q = refl
-
-  pub name-empty : length n ≡ 0 → isPlain n ≡ false
-  name-empty e = is-false (isPlain n) (λ p. not-true _ (empty-same (length n) refl e) (plain-parts p .0))
-
-  pub name-slash : (countTo 47 n ≡ length n → ⊥) → isPlain n ≡ false
-  name-slash f = is-false (isPlain n) (λ p. f (whole-free 47 n (plain-parts p .1)))
-
-  pub name-dot : sameBytes n (ascii ".") ≡ true → isPlain n ≡ false
-  name-dot e = is-false (isPlain n) (λ p. not-true _ e (plain-parts p .2))
-
-  pub name-dots : sameBytes n (ascii "..") ≡ true → isPlain n ≡ false
-  name-dots e = is-false (isPlain n) (λ p. not-true _ e (plain-parts p .3))
-
-  pub name-git : sameBytes n (ascii ".git") ≡ true → isPlain n ≡ false
-  name-git e = is-false (isPlain n) (λ p. not-true _ e (plain-parts p .4))
-
-  pub name-fine : (length n ≡ 0 → ⊥) → countTo 47 n ≡ length n → sameBytes n (ascii ".") ≡ false → sameBytes n (ascii "..") ≡ false
-      → sameBytes n (ascii ".git") ≡ false → isPlain n ≡ true
-  unfolding isPlain
-  name-fine a c d e f = rw (some-same a, free-whole 47 n c, d, e, f)
-
-  -- the number of a name by those tests
-  pub number-bad : isPlain n ≡ false → bareNumber n ≡ 6
-  unfolding bareNumber
-  number-bad p = rw p
-
-  pub number-git : isPlain n ≡ true → isDotGit n ≡ true → bareNumber n ≡ 18
-  unfolding bareNumber
-  number-git p g = rw (p, g)
-
-  pub number-fine : isPlain n ≡ true → isDotGit n ≡ false → bareNumber n ≡ 0
-  unfolding bareNumber
-  number-fine p g = rw (p, g)
+  permitted-parts e = let p = plain-parts n (and-right (freeOf 0 n) _ e) in (p .0, and-left (freeOf 0 n) _ e, p .1, p .2, p .3, p .4)
 
   -- of a name free of NUL it is what the rules say
   pub number-free : freeOf 0 n ≡ true → bareNumber n ≡ nameNumber n
   unfolding bareNumber nameNumber permitted
   number-free f = rw f
 
--- a byte that is no letter in upper case, and one that is
-pub lower-below : (b : ℕ) → b < 65 → lower b ≡ b
-lower-below b h = rw (lt-leb 65 b h)
-
-pub lower-above : (b : ℕ) → 90 < b → lower b ≡ b
-lower-above b h = rw (le-leb 65 b (omega arith), lt-leb b 90 h)
-
-pub lower-letter : (b : ℕ) → 65 ≤ b → b ≤ 90 → lower b ≡ b + 32
-lower-letter b h k = rw (le-leb 65 b h, le-leb b 90 k)
-
-pub git-length : (n : List ℕ) → (length n ≡ 4 → ⊥) → isDotGit n ≡ false
-unfolding isDotGit
-git-length n f = same-length (map lower n) (ascii ".git") (λ e. f (sym (length-map n lower) ∙ e))
-
--- four bytes, in lower case
-pub git-four : (n : List ℕ) → length n ≡ 4
-    → isDotGit n ≡ sameBytes (lower (getD n 0 0) ∷ lower (getD n 1 0) ∷ lower (getD n 2 0) ∷ lower (getD n 3 0) ∷ []) (ascii ".git")
-unfolding isDotGit
-git-four (a ∷ b ∷ c ∷ d ∷ []) e = refl
-git-four [] e = absurd (omega arith)
-git-four (a ∷ []) e = absurd (omega arith)
-git-four (a ∷ b ∷ []) e = absurd (omega arith)
-git-four (a ∷ b ∷ c ∷ []) e = absurd (omega arith)
-git-four (a ∷ b ∷ c ∷ d ∷ x ∷ xs) e = absurd (omega arith)
-
 -- ---- the gate of a rule set
 
-set-is : (k : ℕ) → isSet k ≡ true → (k ≡ 1) ⊎ (k ≡ 2)
+pub set-is : (k : ℕ) → isSet k ≡ true → (k ≡ 1) ⊎ (k ≡ 2)
 unfolding isSet
 set-is k e = go (eqb k 1) refl e
   where
@@ -216,11 +122,7 @@ unfolding ruleGate gateOf
 rule-known k h bytes records i = rw (set-made k i)
 
 -- with another it is shut, by 1 or by 19
-module _ (k h bytes records : ℕ) (one : k ≡ 1 → ⊥) (two : k ≡ 2 → ⊥) where
-  other : isSet k ≡ false
-  unfolding isSet
-  other = rw (ne-eqb k 1 one, ne-eqb k 2 two)
-
+module _ (k h bytes records : ℕ) (other : isSet k ≡ false) where
   pub rule-other : gateOf h 0 0 ≡ Open → ruleGate k h bytes records ≡ Shut (verdict 19 0)
   unfolding ruleGate gateOf
   rule-other e = rw other (go (idLength h) e)

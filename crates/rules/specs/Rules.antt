@@ -1,9 +1,9 @@
 -- The rules of strict reading: what they say of an entry after the ones before it, and the rules of the two rule sets (docs/FORMAT.md, "Strict reading").
 -- Assumes nothing.
-use Prim.Native.Nat.{ℕ, zero, suc, _+_}
-use mathlib.Core.Bool.{Bool, true, false, not, _&&_, _||_}
-use mathlib.Core.List.{List, [], _∷_, map}
-use lib.Dec.{eqb, leb}
+use Prim.Native.Nat.{ℕ}
+use mathlib.Core.Bool.{Bool, true, false, _&&_, _||_}
+use mathlib.Core.List.{List, [], _∷_}
+use lib.Dec.{eqb}
 use Rattle.ground.specs.Basics.{pick, ascii}
 use Rattle.ground.specs.Scan.{sameBytes, freeOf}
 use Rattle.mode.specs.Mode.{isTree}
@@ -17,6 +17,8 @@ use Rattle.order.specs.declared.Order.{Order}
 use Rattle.order.specs.declared.Order.the-variants.{Below, Same, Above}
 use Rattle.entry.specs.Entry.{Entry}
 use Rattle.doubles.specs.Doubles.{namedBefore}
+unfoldable pub use Rattle.names.specs.Names.{isPlain, isDotGit, bareNumber}
+pub use Rattle.names.specs.Names.{orElse, lower}
 
 -- What is permitted: the rows of the mode table, and what is said of a name, and of an entry after the ones before it, the nearest first.
 -- A 0 says that it is permitted; any other number is the refusal.
@@ -24,11 +26,6 @@ pub record Rules : Type 0 where
   pub modes : List Written
   pub nameNo : List ℕ → ℕ
   pub afterNo : List Entry → Entry → ℕ
-
--- the first number that is not 0
-abbrev pub orElse : ℕ → ℕ → ℕ
-orElse zero j = j
-orElse (suc i) j = suc i
 
 -- a mode text of one of the rows
 abbrev pub isText : List Written → List ℕ → Bool
@@ -41,30 +38,13 @@ judge R before text e = orElse (pick (isText (R .modes) text) 0 5) (orElse (R .n
 
 -- ---- a name
 
--- not empty, free of slash, and none of `.`, `..` and `.git`
-unfoldable pub isPlain : List ℕ → Bool
-isPlain n =
-    not (sameBytes n []) && (freeOf 47 n && (not (sameBytes n (ascii ".")) && (not (sameBytes n (ascii "..")) && not (sameBytes n (ascii ".git")))))
-
--- such a name, free of NUL
+-- a plain name, free of NUL
 unfoldable pub permitted : List ℕ → Bool
 permitted n = freeOf 0 n && isPlain n
 
--- an ASCII letter in lower case, and any other byte as it is
-abbrev pub lower : ℕ → ℕ
-lower b = pick (leb 65 b && leb b 90) (b + 32) b
-
--- `.git`, each letter in either case
-unfoldable pub isDotGit : List ℕ → Bool
-isDotGit n = sameBytes (map lower n) (ascii ".git")
-
--- 6 for a name that is not permitted; 18 for `.git` with letters in upper case
+-- 6 for a name that is not permitted; 18 for `.git` with letters in upper case: `bareNumber`, but for NUL, which no name of an entry that was read has
 unfoldable pub nameNumber : List ℕ → ℕ
 nameNumber n = orElse (pick (permitted n) 0 6) (pick (isDotGit n) 18 0)
-
--- the same but for NUL, which no name of an entry that was read has
-unfoldable pub bareNumber : List ℕ → ℕ
-bareNumber n = orElse (pick (isPlain n) 0 6) (pick (isDotGit n) 18 0)
 
 -- ---- a place among the entries
 

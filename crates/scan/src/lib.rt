@@ -64,6 +64,21 @@ fn place(m: u64) -> usize
     (u64::trailing_zeros(m) / 8) as usize
 }
 
+// Where x stands next at or after a place, or where the bytes end, byte by byte.
+fn find_last(s: &[u8], from: usize, x: u8) -> usize
+    requires { ⌜ from ≤ length (now s) ⌝ }
+    ensures { λ r. ⌜ r ≡ placeFrom x (now (s .entry)) from ⌝ }
+{
+    let mut i = from;
+    while i < s.len() {
+        if s[i] == x {
+            return i;
+        }
+        i += 1;
+    }
+    i
+}
+
 // Where x stands next at or after a place, or where the bytes end (the place itself if that is past the end).
 pub fn find_byte(s: &[u8], from: usize, x: u8) -> usize
     ensures { λ r. ⌜ r ≡ placeFrom x (now (s .entry)) from ⌝ }
@@ -79,13 +94,7 @@ pub fn find_byte(s: &[u8], from: usize, x: u8) -> usize
         }
         i += 8;
     }
-    while i < s.len() {
-        if s[i] == x {
-            return i;
-        }
-        i += 1;
-    }
-    i
+    find_last(s, i, x)
 }
 
 // How many bytes stand before the first x: all of them where there is none.
@@ -170,11 +179,56 @@ pub fn find_nul(s: &[u8], from: usize) -> usize
     nul_of_block(s, j)
 }
 
+// 0 where none of the thirty-two bytes from a place on is x. For NUL alone in_32 does it: shared, neither would be put in place.
+fn among_32(s: &[u8], at: usize, x: u8) -> u8
+    requires { ⌜ at + 32 ≤ length (now s) ⌝ }
+    ensures { λ r. ⌜ (r ≡ 0 → placeFrom x (now (s .entry)) at ≡ placeFrom x (now (s .entry)) (at + 32)) ⌝ }
+{
+    let mut hit: u8 = 0;
+    let mut k: usize = 0;
+    while k < 32 {
+        if s[at + k] == x {
+            hit = 1;
+        }
+        k += 1;
+    }
+    hit
+}
+
+// How many bytes stand before the first x, as count_to says it, for bytes that are many and have none.
+pub fn count_far(s: &[u8], x: u8) -> usize
+    ensures { λ r. ⌜ r ≡ countTo x (now (s .entry)) ⌝ }
+{
+    let mut i = 0;
+    while 32 <= s.len() - i {
+        if among_32(s, i, x) != 0 {
+            break;
+        }
+        i += 32;
+    }
+    find_byte(s, i, x)
+}
+
 // The shorter of two lengths.
 fn shorter(a: usize, b: usize) -> usize
     ensures { λ r. ⌜ r ≡ min a b ⌝ }
 {
     if a < b { a } else { b }
+}
+
+// How far two runs of bytes agree that agree up to a place, byte by byte up to n.
+fn common_last(a: &[u8], b: &[u8], n: usize, from: usize) -> usize
+    requires { ⌜ (n ≡ min (length (now a)) (length (now b))) × (from ≤ n) ⌝ }
+    ensures { λ r. ⌜ r ≡ from + commonStart (drop from (now (a .entry))) (drop from (now (b .entry))) ⌝ }
+{
+    let mut i = from;
+    while i < n {
+        if a[i] != b[i] {
+            return i;
+        }
+        i += 1;
+    }
+    i
 }
 
 // How far two runs of bytes agree.
@@ -190,13 +244,7 @@ pub fn common_start(a: &[u8], b: &[u8]) -> usize
         }
         i += 8;
     }
-    while i < n {
-        if a[i] != b[i] {
-            return i;
-        }
-        i += 1;
-    }
-    i
+    common_last(a, b, n, i)
 }
 
 // Whether two runs of bytes are the same.

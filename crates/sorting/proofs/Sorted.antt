@@ -1,12 +1,13 @@
 -- The laws of sorting by any strict total order: the sorted list is a permutation, ascends, and is the only such list.
 -- Assumes nothing.
-use mathlib.Core.Path.{_≡_, refl, sym, ap, _∙_}
+use mathlib.Core.Path.{_≡_, refl, sym, ap, subst, _∙_}
 use mathlib.Core.Bool.{Bool, true, false, false≢true}
 use mathlib.Core.List.{List, [], _∷_, _++_, map, append-nil}
 use mathlib.Core.List as core
 use native.Mathlib.Nat.{not-suc-le-zero, le-of-suc-le-suc}
 use native.Mathlib.Omega.{arith}
-use Prim.Native.Nat.{ℕ, zero, suc, _≤_, _<_}
+use native.Mathlib.Decide.{decLt}
+use Prim.Native.Nat.{ℕ, zero, suc, _+_, _-_, _≤_, _<_}
 use lib.ListN.{length, getD, set, take, drop, drop-of-length-le}
 use lib.Seq.{take-all}
 use Rattle.ground.specs.Basics.{pick}
@@ -82,6 +83,26 @@ module _ {A : Type 0} (below : A → A → Bool) where
   ascends-by d [] h = tt
   ascends-by d (x ∷ []) h = tt
   ascends-by d (x ∷ y ∷ ys) h = (h 0 (omega arith), ascends-by d (y ∷ ys) (λ i k. h (suc i) (omega arith)))
+
+  -- each of the elements before i is not below the one before it
+  abbrev pub RisesTo : A → List A → ℕ → Type 0
+  RisesTo d l i = (j : ℕ) → suc j < i → UpTo below (getD l j d) (getD l (suc j) d)
+
+  pub rises-start : (d : A) (l : List A) → RisesTo d l 1
+  rises-start d l j q = absurd (omega arith)
+
+  pub rises-turn : (d : A) (l : List A) (i : ℕ) → 1 ≤ i → RisesTo d l i → UpTo below (getD l (i - 1) d) (getD l i d) → RisesTo d l (i + 1)
+  rises-turn d l i p h u j q =
+      elim (decLt (suc j) i) [
+        | yes r ↦ h j r
+        | no r ↦ (
+            let a : i - 1 ≡ j = omega arith in
+            let b : i ≡ suc j = omega arith in
+            subst (λ (m : ℕ). UpTo below (getD l j d) (getD l m d)) b (subst (λ (m : ℕ). UpTo below (getD l m d) (getD l i d)) a u))
+      ]
+
+  pub rises-end : (d : A) (l : List A) (i : ℕ) → length l ≤ i → RisesTo d l i → Ascends below l
+  rises-end d l i p h = ascends-by d l (λ j q. h j (omega arith))
 
   module _ (strict : Strict below) where
     no : {x : A} {y : A} → below x y ≡ true → below x y ≡ false → ⊥

@@ -1,10 +1,11 @@
 // A list of elements sorted in place by the bytes that they stand for: heap sort, n log n, no second list.
 ghost use mathlib.Core.Path.{_≡_};
+ghost use mathlib.Core.Bool.{true};
 ghost use mathlib.Core.List.{_++_};
 ghost use Prim.Native.Nat.{_+_, _/_, _≤_, _<_};
 ghost use lib.ListN.{length, take, drop};
 ghost use Rattle.keys.specs.Key.{keyAt, belowBy};
-ghost use Rattle.sorting.specs.Sort.{sortBy};
+ghost use Rattle.sorting.specs.Sort.{Ascends, sortBy};
 ghost use Rattle.sorting.specs.Heap.{Heap, Moved, Larger};
 use keys::below;
 
@@ -76,11 +77,28 @@ fn settle(text: &[u8], mark: u8, width: usize, list: &mut [u32])
     }
 }
 
+// Whether no element is below the one before it: then there is nothing to sort.
+fn in_order(text: &[u8], mark: u8, width: usize, list: &[u32]) -> bool
+    ensures { λ r. ⌜ (r ≡ true → Ascends (belowBy (keyAt (now (text .entry)) mark width)) (now (list .entry))) ⌝ }
+{
+    let mut i: usize = 1;
+    while i < list.len() {
+        if below(text, mark, width, list[i], list[i - 1]) {
+            return false;
+        }
+        i += 1;
+    }
+    true
+}
+
 // Sorts a list of elements: each is twice a place in the text, and one more for a folder. An element's bytes begin past the
 // first `mark` from its place on (mark 0: at its place), and are `width` many (width 0: up to the next NUL).
 pub fn sort(text: &[u8], mark: u8, width: usize, list: &mut [u32])
     ensures { λ _. ⌜ now (list .exit) ≡ sortBy (belowBy (keyAt (now (text .entry)) mark width)) (now (list .entry)) ⌝ }
 {
+    if in_order(text, mark, width, list) {
+        return;
+    }
     heapify(text, mark, width, list);
     settle(text, mark, width, list);
 }

@@ -29,9 +29,10 @@ use Rattle.header.specs.Record.{width}
 use Rattle.header.specs.declared.CommitParts.{CommitParts}
 use Rattle.header.specs.declared.HeaderRecord.{HeaderRecord}
 use Rattle.unfold.specs.Unfold.{gatePlan, unfoldPlan, answerOf, unfoldAnswer}
-use Rattle.commit_read.specs.Fields.{refusal}
+use Rattle.commit_fields.specs.Fields.{refusal}
 use Rattle.commit_read.specs.Read.{refusedRead, commitAnswer, commitOutcome}
-use Rattle.commit_read.proofs.Laws.{outcome-shut, answer-fails}
+use Rattle.commit_fields.proofs.Laws.{outcome-shut}
+use Rattle.commit_read.proofs.Laws.{answer-fails}
 use Rattle.commit_check.specs.Check.{after, checked}
 use Rattle.commit_write.specs.Write as write
 use Rattle.difference.specs.Whole as difference

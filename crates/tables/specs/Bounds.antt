@@ -24,7 +24,7 @@ use Rattle.header.specs.Record.{width}
 use Rattle.header.specs.declared.CommitParts.{CommitParts}
 use Rattle.header.specs.declared.HeaderRecord.{HeaderRecord}
 use Rattle.unfold.specs.Unfold.{unfoldAnswer}
-use Rattle.commit_read.specs.Fields.{refusal}
+use Rattle.commit_fields.specs.Fields.{refusal}
 use Rattle.commit_read.specs.Read.{refusedRead, commitAnswer}
 use Rattle.commit_write.specs.Write as write
 use Rattle.difference.specs.Whole as difference

@@ -29,7 +29,7 @@ use Rattle.rules.specs.Gate.{isSet, ruleGate}
 use Rattle.reading.specs.Listing.{Listing, follow, plain, listing, recordsIn, flats, tally}
 use Rattle.reading.specs.Whole.{answerOf, readAnswer, readRecords}
 use Rattle.strict.specs.Strict.{textOf, cut, strictAnswer, strictRecords}
-use Rattle.commit_write.specs.Fold.{foldRest, foldValue}
+use Rattle.commit_value.specs.Fold.{foldRest, foldValue}
 use Rattle.commit_write.specs.Written.{headerWritten}
 use Rattle.tree_write.specs.Write.{written, refusal, judged, measured, treeAnswer}
 

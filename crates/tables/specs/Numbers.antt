@@ -34,20 +34,21 @@ use Rattle.tree_write.specs.Write.{refusal, judged, measured, treeSize, treeAns
 use Rattle.loose_header.specs.Header.{kindWord, digits, decimal, looseHeader, headerAnswer}
 use Rattle.actor.specs.Actor.{inClass, isName, isNamed, isZone, isTime, isAddressed, isActor}
 use Rattle.hex.specs.Hex.{hexValue}
-use Rattle.header.specs.Line.{wordAt, idFrom, idAt, lineFrom, lineAt}
-use Rattle.header.specs.Extra.{foldFrom, foldEnd, foldedOr, extraAt, foldedForm}
+use Rattle.commit_line.specs.Line.{wordAt, idFrom, idAt, lineFrom, lineAt}
+use Rattle.extra_header.specs.Extra.{foldFrom, foldEnd, foldedOr, extraAt, foldedForm}
 use Rattle.header.specs.Record as header
 use Rattle.header.specs.declared.CommitParts.{CommitParts}
 use Rattle.unfold.specs.Unfold as unfolded
-use Rattle.commit_read.specs.Parents.{parentAt, parentsFrom, restParents}
-use Rattle.commit_read.specs.Headers as heads
-use Rattle.commit_read.specs.Fields.{actorOf, actorAt, encodingOf, encodingAt, blankOf, endingOf, withCommitter, withAuthor, peopleOf, fieldsOf}
-use Rattle.commit_read.specs.Read.{roomOf, gatedBy, outcomeOf, answerIn, commitAnswer}
+use Rattle.commit_fields.specs.Parents.{parentAt, parentsFrom, restParents}
+use Rattle.commit_fields.specs.Headers as heads
+use Rattle.commit_fields.specs.Fields.{actorOf, actorAt, encodingOf, encodingAt, blankOf, endingOf, withCommitter, withAuthor, peopleOf, fieldsOf}
+use Rattle.commit_fields.specs.Outcome.{roomOf, gatedBy, outcomeOf}
+use Rattle.commit_read.specs.Read.{answerIn, commitAnswer}
 use Rattle.commit_read.specs.declared.CommitRead.{CommitRead}
 use Rattle.grammar.specs.Grammar.{parentsBytes, encodingBytes}
 use Rattle.grammar.specs.Named.{recordsFrom}
 use Rattle.commit_check.specs.Check as check
-use Rattle.commit_write.specs.Fold.{foldRest, foldValue}
+use Rattle.commit_value.specs.Fold.{foldRest, foldValue}
 use Rattle.commit_write.specs.Written.{lowerDigit, headerWritten, headersWritten, commitWritten}
 use Rattle.commit_write.specs.Write as write
 use Rattle.tables.specs.Examples.{O}

@@ -69,6 +69,31 @@ digits-there id lent h e i l =
     let n : 2 * h ≡ length (hexOf id) = omega (arith, hex-length id) in
     rw (stored-done (hexAnswer id (length lent) .verdict) (hexOf id) lent v, n) (take-append-seam (hexOf id) _)
 
+-- the 64 bytes stay so many
+pub digits-kept : (id lent digits : List ℕ) → idLength (length id) ≡ true → length lent ≡ 64
+    → digits ≡ stored (hexAnswer id (length lent) .verdict) (hexOf id) lent → length digits ≡ 64
+digits-kept id lent digits i m d =
+    let v = digits-done id lent (length id) refl i m in
+    let k = id-small (length id) (id-is (length id) i) in
+    ap length (d ∙ stored-done (hexAnswer id (length lent) .verdict) (hexOf id) lent v) ∙ simp (length-append, length-drop) (omega (arith, hex-length id))
+
+-- an id's digits and a tab stored
+pub digits-added : (id lent digits out after : List ℕ) (at : ℕ) → idLength (length id) ≡ true → length lent ≡ 64
+    → digits ≡ stored (hexAnswer id (length lent) .verdict) (hexOf id) lent → after ≡ sets out at (take (2 * length id) digits ++ 9 ∷ [])
+    → Added out at (hexOf id ++ 9 ∷ []) after (at + 2 * length id + 1) × (at + 2 * length id + 1 ≤ at + 65)
+digits-added id lent digits out after at i m d s =
+    let k = id-small (length id) (id-is (length id) i) in
+    let t : take (2 * length id) digits ≡ hexOf id = ap (take (2 * length id)) d ∙ digits-there id lent (length id) refl i m in
+    let n : length (hexOf id ++ 9 ∷ []) ≡ 2 * length id + 1 = simp length-append (omega (arith, hex-length id)) in
+    (added-of out after at _ _ (hexOf id ++ 9 ∷ []) (ap (λ (r : List ℕ). r ++ 9 ∷ []) t) s (omega (arith, n)), omega (arith, k .1))
+
+-- what stands before them stored
+pub front-added : (front : Front) (mode : ℕ) (out after : List ℕ) (at : ℕ) → front ≡ frontOf mode → after ≡ sets out at (take (front .len) (front .bytes))
+    → Added out at (frontText mode) after (at + front .len) × (at + front .len ≤ at + 14)
+front-added front mode out after at f s =
+    let F = front-is front mode f in
+    (added-of out after at (at + front .len) _ (frontText mode) (F .3) s (omega (arith, F .0)), omega (arith, F .1))
+
 module _ (h : ℕ) (s : List ℕ) (e : EntryRecord) (w : (e .«name_start» ≤ e .«name_end») × (e .«name_end» ≤ length s) × (e .«id_start» + h ≤ length s)) where
   pub id-sized : length (idOf h s e) ≡ h
   unfolding idOf
@@ -82,40 +107,20 @@ module _ (h : ℕ) (s : List ℕ) (e : EntryRecord) (w : (e .«name_start» ≤ 
   unfolding idOf
   id-there = let z : e .«id_start» + h - e .«id_start» ≡ h = omega arith in rw z
 
-  -- the 64 bytes stay so many
-  pub digits-kept : (lent digits : List ℕ) → idLength h ≡ true → length lent ≡ 64
-      → digits ≡ stored (hexAnswer (take (e .«id_start» + h - e .«id_start») (drop (e .«id_start») s)) (length lent) .verdict)
-      (hexOf (take (e .«id_start» + h - e .«id_start») (drop (e .«id_start») s))) lent
-      → length digits ≡ 64
-  digits-kept lent digits i m d =
-      let id : List ℕ = take (e .«id_start» + h - e .«id_start») (drop (e .«id_start») s) in
-      let u : length id ≡ h = ap length id-there ∙ id-sized in
-      let v = digits-done id lent h u i m in
-      let k = id-small h (id-is h i) in
-      ap length (d ∙ stored-done (hexAnswer id (length lent) .verdict) (hexOf id) lent v) ∙ simp (length-append, length-drop) (omega (arith, hex-length id))
+  pub id-fits : idLength h ≡ true → idLength (length (take (e .«id_start» + h - e .«id_start») (drop (e .«id_start») s))) ≡ true
+  id-fits i = ap idLength (ap length id-there ∙ id-sized) ∙ i
 
   -- its three pieces stored
-  pub record-added : (out a b c lent digits id : List ℕ) (at : ℕ) (front : Front) → idLength h ≡ true → length s ≤ mostBytes → front ≡ frontOf (e .mode)
-      → id ≡ take (e .«id_start» + h - e .«id_start») (drop (e .«id_start») s) → length lent ≡ 64 → digits ≡ stored (hexAnswer id (length lent) .verdict) (hexOf id) lent
-      → a ≡ sets out at (take (front .len) (front .bytes))
-      → b ≡ sets a (at + front .len) (take (2 * h) digits ++ 9 ∷ [])
-      → c ≡ sets b (at + front .len + 2 * h + 1) (take (e .«name_end» - e .«name_start») (drop (e .«name_start») s) ++ 0 ∷ [])
-      → Added out at (recordText (entryOf h s e)) c (at + front .len + 2 * h + 1 + (e .«name_end» - e .«name_start») + 1)
-      × (at + front .len + 2 * h + 1 + (e .«name_end» - e .«name_start») + 1 ≤ at + 1073741905)
+  pub record-added : (out a b c : List ℕ) (at hex name : ℕ) → Added out at (frontText (e .mode)) a hex × (hex ≤ at + 14)
+      → Added a hex (hexOf (take (e .«id_start» + h - e .«id_start») (drop (e .«id_start») s)) ++ 9 ∷ []) b name × (name ≤ hex + 65)
+      → length s ≤ mostBytes → c ≡ sets b name (take (e .«name_end» - e .«name_start») (drop (e .«name_start») s) ++ 0 ∷ [])
+      → Added out at (recordText (entryOf h s e)) c (name + (e .«name_end» - e .«name_start») + 1)
+      × (name + (e .«name_end» - e .«name_start») + 1 ≤ at + 1073741905)
   unfolding recordText entryOf nameOf
-  record-added out a b c lent digits id at front i l f q m d x y z =
-      let F = front-is front (e .mode) f in
-      let k = id-small h (id-is h i) in
-      let p : id ≡ idOf h s e = q ∙ id-there in
-      let u : length id ≡ h = ap length p ∙ id-sized in
-      let t : take (2 * h) digits ≡ hexOf (idOf h s e) = ap (take (2 * h)) d ∙ digits-there id lent h u i m ∙ ap hexOf p in
-      let n : length (hexOf (idOf h s e) ++ 9 ∷ []) ≡ 2 * h + 1 = simp length-append (omega (arith, hex-length (idOf h s e), id-sized)) in
-      let o : length (nameOf s e ++ 0 ∷ []) ≡ e .«name_end» - e .«name_start» + 1 = simp length-append (omega (arith, name-sized)) in (
-        added-then (added-then (added-of out a at (at + front .len) _ (frontText (e .mode)) (F .3) x (omega (arith, F .0)))
-            (added-of a b (at + front .len) (at + front .len + 2 * h + 1) _ (hexOf (idOf h s e) ++ 9 ∷ []) (ap (λ (r : List ℕ). r ++ 9 ∷ []) t) y (omega (arith, n))))
-            (added-of b c _ _ _ (nameOf s e ++ 0 ∷ []) refl z (omega (arith, o))),
-        omega (arith, F .1, k .1),
-      )
+  record-added out a b c at hex name x y l z =
+      let o : length (nameOf s e ++ 0 ∷ []) ≡ e .«name_end» - e .«name_start» + 1 = simp length-append (omega (arith, name-sized)) in
+      let d : Added a hex (hexOf (idOf h s e) ++ 9 ∷ []) b name = subst (λ (i : List ℕ). Added a hex (hexOf i ++ 9 ∷ []) b name) id-there (y .0) in
+      (added-then (added-then (x .0) d) (added-of b c _ _ _ (nameOf s e ++ 0 ∷ []) refl z (omega (arith, o))), omega (arith, x .1, y .1))
 
 -- ---- strict reading without room
 

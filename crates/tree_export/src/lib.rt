@@ -1,6 +1,7 @@
 // A strict tree object as the text that `git mktree -z` takes (docs/FORMAT.md, "Text").
 ghost use mathlib.Core.Path.{_≡_};
 ghost use mathlib.Core.Bool.{true};
+ghost use mathlib.Core.List.{[], _∷_, _++_};
 ghost use Prim.Native.Nat.{_+_, _≤_};
 ghost use lib.ListN.{length};
 ghost use lib.Seq.{sets};
@@ -11,7 +12,8 @@ ghost use Rattle.rules.specs.Rules.{gitRules};
 ghost use Rattle.rules.specs.Gate.{ruleGate};
 ghost use Rattle.reading.specs.Listing.{tally};
 ghost use Rattle.strict.specs.Strict.{strictly};
-ghost use Rattle.tree_text.specs.Text.{recordText};
+ghost use Rattle.hex_of_id.specs.Hex.{hexOf};
+ghost use Rattle.tree_text.specs.Text.{frontText, recordText};
 ghost use Rattle.tree_export.specs.Export.{textIn, countedIn, exportAnswer};
 ghost use Rattle.tree_export.specs.Code.{Added, settled};
 use entry::Cursor;
@@ -33,26 +35,42 @@ use rules::rule_bounds;
 use strict::read_tree_strict;
 use tree_text::front_of;
 
+// Stores what stands before the id in a record of a mode, as far as there is room, and gives the place past it.
+fn put_front(out: &mut [u8], at: usize, mode: usize) -> usize
+    requires { ⌜ at ≤ 1152921504606846976 ⌝ }
+    ensures { λ r. ⌜ Added (now (out .entry)) at (frontText mode) (now (out .exit)) r × (r ≤ at + 14) ⌝ }
+{
+    let front = front_of(mode);
+    let first = front.bytes;
+    let n = front.len;
+    put(out, at, &first[..n]);
+    at + n
+}
+
+// The same of an id's digits and the tab behind them.
+fn put_digits(out: &mut [u8], at: usize, id: &[u8]) -> usize
+    requires { ⌜ (idLength (length (now id)) ≡ true) × (at ≤ 2305843009213693952) ⌝ }
+    ensures { λ r. ⌜ Added (now (out .entry)) at (hexOf (now (id .entry)) ++ 9 ∷ []) (now (out .exit)) r × (r ≤ at + 65) ⌝ }
+{
+    let many = 2 * id.len();
+    let mut digits = [0u8; 64];
+    hex_of_id(id, &mut digits);
+    put_ended(out, at, &digits[..many], b'\t');
+    at + many + 1
+}
+
 // Stores the record of an entry at a place, as far as there is room, and gives the place past it.
 fn put_record(out: &mut [u8], at: usize, s: &[u8], h: usize, e: EntryRecord) -> usize
     requires { ⌜ (e .«name_start» ≤ e .«name_end») × (e .«name_end» ≤ length (now s)) × (e .«id_start» + h ≤ length (now s)) ⌝ }
     requires { ⌜ (idLength h ≡ true) × (length (now s) ≤ mostBytes) × (at ≤ 1152921504606846976) ⌝ }
     ensures { λ r. ⌜ Added (now (out .entry)) at (recordText (entryOf h (now (s .entry)) e)) (now (out .exit)) r × (r ≤ at + 1073741905) ⌝ }
 {
-    let front = front_of(e.mode);
-    let first = front.bytes;
-    let n = front.len;
     let start = e.name_start;
     let end = e.name_end;
     let id = e.id_start;
     let last = id + h;
-    let many = 2 * h;
-    let mut digits = [0u8; 64];
-    hex_of_id(&s[id..last], &mut digits);
-    let hex = at + n;
-    let name = hex + many + 1;
-    put(out, at, &first[..n]);
-    put_ended(out, hex, &digits[..many], b'\t');
+    let hex = put_front(out, at, e.mode);
+    let name = put_digits(out, hex, &s[id..last]);
     put_ended(out, name, &s[start..end], 0);
     name + (end - start) + 1
 }

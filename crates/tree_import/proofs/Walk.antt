@@ -184,3 +184,7 @@ module _ (folders : Bool) (k h : ℕ) (s list₀ list : List ℕ) (at n : ℕ) (
             few = omega arith;
             size = ap length a ∙ length-set list n x ∙ g .size;
           }
+
+-- the same of an answer that has another name
+pub called : {r q a : Answer} {P : Type 0} → r ≡ q → (q ≡ a) × P → (r ≡ a) × P
+called e p = (e ∙ p .0, p .1)

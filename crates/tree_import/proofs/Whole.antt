@@ -270,16 +270,14 @@ pub both-whole : (k h : ℕ) (s out : List ℕ) (r : Answer) (after : List ℕ) 
 both-whole k h s out r after e b = (b .0 ∙ sym e, b .1 ∙ ap (λ (a : Answer). stored (a .verdict) (imported (texts k h s)) out) (sym e))
 
 -- a text that cannot be read to its end
-pub unread : (k h : ℕ) (s out : List ℕ) → importAnswer k h s (length out) ≡ fitted (length out) (countedOf (texts k h s)) → (a : Answer) → a ≡ gathered (texts k h s)
-    → (a .verdict .number ≡ 0 → ⊥)
-    → (refused (a .verdict) ≡ importAnswer k h s (length out)) × (out ≡ stored (importAnswer k h s (length out) .verdict) (imported (texts k h s)) out)
+pub unread : (k h : ℕ) (s out : List ℕ) (a : Answer) → a ≡ gathered (texts k h s) → (a .verdict .number ≡ 0 → ⊥) → Both k h s out (refused (a .verdict)) out
 unfolding gathered
-unread k h s out o a q n =
+unread k h s out a q n =
     let v : a .verdict ≡ ending (texts k h s) = ap (λ (x : Answer). x .verdict) q in
     let i = ending-bad (texts k h s) (λ z. n (ap (λ (x : Verdict). x .number) v ∙ z)) in
     let c : countedOf (texts k h s) ≡ refused (a .verdict) =
     counted-bad (texts k h s) (λ z. n (ap (λ (x : Verdict). x .number) (v ∙ sym i) ∙ z)) ∙ ap refused (i ∙ sym v) in
-    refused-both (refused (a .verdict)) (imported (texts k h s)) out (o ∙ ap (fitted (length out)) c ∙ fitted-bad (length out) (refused (a .verdict)) n) n
+    refused-both (refused (a .verdict)) (imported (texts k h s)) out (ap (fitted (length out)) c ∙ fitted-bad (length out) (refused (a .verdict)) n) n
 
 -- one that can
 pub all-read : (k h : ℕ) (s : List ℕ) (a : Answer) → a ≡ gathered (texts k h s) → a .verdict .number ≡ 0

@@ -5,6 +5,7 @@ use mathlib.Core.Bool.{Bool, true, false, _&&_}
 use mathlib.Core.List.{List, [], _∷_, _++_}
 use lib.ListN.{length, getD, drop}
 use Rattle.ground.specs.Basics.{pick}
+use Rattle.ground.specs.Verdict.{verdict}
 use Rattle.ground.specs.declared.Answer.{Answer}
 use Rattle.mode.specs.Mode.{isTree}
 use Rattle.entry.specs.Entry.{entryBytes}
@@ -30,6 +31,10 @@ unfoldable pub placesIn : Texts → List ℕ
 placesIn done = []
 placesIn (stop v) = []
 placesIn (one at e l) = at ∷ placesIn l
+
+-- an answer of a number, a place and a count
+abbrev pub halted : ℕ → ℕ → ℕ → Answer
+halted number place count = record { verdict = verdict number place; count = count }
 
 -- how reading ended, and how many records there are
 unfoldable pub gathered : Texts → Answer

@@ -15,7 +15,7 @@ ghost use Rattle.entry.specs.Entry.{entryBytes};
 ghost use Rattle.rules.specs.Rules.{modesOf};
 ghost use Rattle.text_record.specs.Record.{frontMode, textNumber, entryIn};
 ghost use Rattle.tree_import.specs.Import.{texts, entriesIn, ending, imported, countedOf, importAnswer};
-ghost use Rattle.tree_import.specs.Code.{elementOf, elementsIn, gathered, inOrder, judged, AllRead, allBytes};
+ghost use Rattle.tree_import.specs.Code.{elementOf, elementsIn, halted, gathered, inOrder, judged, AllRead, allBytes};
 use ground::Answer;
 use ground::BOUND;
 use ground::DONE;
@@ -65,6 +65,20 @@ fn put_element(list: &mut [u32], n: usize, x: u32)
     }
 }
 
+// An answer of a number, a place and a count.
+fn halt(number: usize, place: usize, count: usize) -> Answer
+    ensures { λ r. ⌜ r ≡ halted number place count ⌝ }
+{
+    Answer {
+        verdict: Verdict {
+            number,
+            place,
+            ..FINE
+        },
+        count,
+    }
+}
+
 // Reads the text record by record: how it ended, how many records there are, and their elements from the front of a list on.
 fn gather(text: &[u8], h: usize, rules: u16, folders: bool, list: &mut [u32]) -> Answer
     requires { ⌜ length (now text) ≤ mostBytes ⌝ }
@@ -75,24 +89,11 @@ fn gather(text: &[u8], h: usize, rules: u16, folders: bool, list: &mut [u32]) ->
     let mut n: usize = 0;
     while at < text.len() {
         if MOST_RECORDS <= n {
-            return Answer {
-                verdict: Verdict {
-                    number: BOUND,
-                    ..FINE
-                },
-                count: n,
-            };
+            return halt(BOUND, 0, n);
         }
         let number = record_number(&text[at..], h, rules);
         if number != DONE {
-            return Answer {
-                verdict: Verdict {
-                    number,
-                    place: at,
-                    ..FINE
-                },
-                count: n,
-            };
+            return halt(number, at, n);
         }
         let x = element(folders, &text[at..], rules, at);
         put_element(list, n, x);
@@ -224,14 +225,7 @@ fn import_with(
     }
     let need = measure(text, h, rules, &list[..n]);
     if out.len() < need {
-        return Answer {
-            verdict: Verdict {
-                number: SHORT_OUTPUT,
-                place: need,
-                ..FINE
-            },
-            count: 0,
-        };
+        return halt(SHORT_OUTPUT, need, 0);
     }
     write_all(out, text, h, rules, &list[..n]);
     Answer {
@@ -266,21 +260,12 @@ fn import_large(text: &[u8], h: usize, rules: u16, n: usize, out: &mut [u8]) -> 
     import_with(text, h, rules, n, out, &mut list)
 }
 
-// The object of the text's records by rule set 1 or 2; a refusal changes none of the bytes lent. With more than 1,024 records it takes
-// four mebibytes of the stack.
-pub fn import_tree(text: &[u8], h: usize, rules: u16, out: &mut [u8]) -> Answer
-    ensures answer { λ r. ⌜ r ≡ importAnswer rules h (now (text .entry)) (length (now (out .entry))) ⌝ }
-    ensures out { λ _. ⌜ now (out .exit) ≡ stored (importAnswer rules h (now (text .entry)) (length (now (out .entry))) .verdict) (imported (texts rules h (now (text .entry)))) (now (out .entry)) ⌝ }
+// Imports a text, once its bounds are seen.
+fn import_open(text: &[u8], h: usize, rules: u16, out: &mut [u8]) -> Answer
+    requires { ⌜ (idLength h ≡ true) × (length (now text) ≤ mostBytes) ⌝ }
+    ensures answer { λ r. ⌜ r ≡ fitted (length (now (out .entry))) (countedOf (texts rules h (now (text .entry)))) ⌝ }
+    ensures out { λ r. ⌜ now (out .exit) ≡ stored (fitted (length (now (out .entry))) (countedOf (texts rules h (now (text .entry)))) .verdict) (imported (texts rules h (now (text .entry)))) (now (out .entry)) ⌝ }
 {
-    match rule_bounds(rules, h, longer(text.len(), out.len()), 0) {
-        Gate::Shut(v) => {
-            return Answer {
-                verdict: v,
-                count: 0,
-            };
-        }
-        Gate::Open => {}
-    }
     let mut none = [0u32; 1];
     let a = gather(text, h, rules, false, &mut none);
     let verdict = a.verdict;
@@ -293,4 +278,19 @@ pub fn import_tree(text: &[u8], h: usize, rules: u16, out: &mut [u8]) -> Answer
         return import_small(text, h, rules, n, out);
     }
     import_large(text, h, rules, n, out)
+}
+
+// The object of the text's records by rule set 1 or 2; a refusal changes none of the bytes lent. With more than 1,024 records it takes
+// four mebibytes of the stack.
+pub fn import_tree(text: &[u8], h: usize, rules: u16, out: &mut [u8]) -> Answer
+    ensures answer { λ r. ⌜ r ≡ importAnswer rules h (now (text .entry)) (length (now (out .entry))) ⌝ }
+    ensures out { λ _. ⌜ now (out .exit) ≡ stored (importAnswer rules h (now (text .entry)) (length (now (out .entry))) .verdict) (imported (texts rules h (now (text .entry)))) (now (out .entry)) ⌝ }
+{
+    match rule_bounds(rules, h, longer(text.len(), out.len()), 0) {
+        Gate::Shut(v) => Answer {
+            verdict: v,
+            count: 0,
+        },
+        Gate::Open => import_open(text, h, rules, out),
+    }
 }

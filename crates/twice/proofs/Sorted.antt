@@ -1,84 +1,29 @@
 -- Repeated ids by the neighbours among the sorted ones. Assumes nothing.
-use Prim.Native.Nat.{ℕ, zero, suc, _+_, _-_, _*_, _/_, _%_, _<_, _≤_, min}
+use Prim.Native.Nat.{ℕ, suc, _+_, _-_, _*_, _/_, _%_, _<_, _≤_, min}
 use native.Mathlib.Decide.{decLt}
 use native.Mathlib.Omega.{arith}
-use native.Mathlib.Numerals.{add-one}
 use mathlib.Core.Path.{_≡_, refl, ap, sym, _∙_}
-use mathlib.Core.Bool.{Bool, true, false, _||_}
-use mathlib.Core.List.{List, [], _∷_, _++_, append-nil, List·Memᴰ, List·Memᴰ·head, List·Memᴰ·tail, List·Memᴰ·not-nil, List·Memᴰ·cases-cons}
+use mathlib.Core.Bool.{Bool, true, false}
+use mathlib.Core.List.{List, [], _∷_, append-nil, List·Memᴰ, List·Memᴰ·head, List·Memᴰ·tail, List·Memᴰ·not-nil, List·Memᴰ·cases-cons}
 use mathlib.Core.Logic.{⊎-elim}
-use lib.Dec.{eqb}
-use lib.ListN.{length, getD, take, drop, set, length-set, length-drop, length-append, drop-of-length-le}
-use lib.Seq.{sets, length-sets, take-at, take-all, take-nil, drop-length, drop-cons, getD-take, length-take-le}
-use borrow.Author.Tests.{eq-eqb, ne-eqb}
-use Rattle.ground.specs.Basics.{pick}
+use lib.ListN.{length, getD, take, drop, length-drop, drop-of-length-le}
+use lib.Seq.{take-all, take-nil, drop-cons, getD-take, length-take-le}
+use borrow.Author.Tests.{ne-eqb}
 use Rattle.ground.specs.Scan.{sameBytes}
-use Rattle.ground.proofs.Laws.{same-test, same-true, same-refl, sets-front}
+use Rattle.ground.specs.Verdict.{mostBytes}
+use Rattle.ground.proofs.Laws.{same-test, same-true, same-refl}
 use Rattle.sorting.specs.Sort.{sortBy}
 use Rattle.keys.specs.Key.{pastMark, cutTo, nameAt, folder, slash, keyAt, belowBy}
 use Rattle.sorting.specs.Repeats as sorting
-use Rattle.sorting.proofs.Sorted.{sort-perm, sort-length}
+use Rattle.sorting.proofs.Sorted.{sort-perm}
 use Rattle.sorting.proofs.Repeats.{perm-mem, touches-sorted}
-use Rattle.frame.specs.Frame.{frameAt, Frames, done, fault, frame, onward, frames}
+use Rattle.frame.specs.Frame.{Frames, done, fault, frame, framesBy}
 use Rattle.frame.specs.Place.{idIn}
 use Rattle.twice.specs.Ids.{idsIn, among, repeats}
-use Rattle.twice.specs.Sorted.{elementsIn, sameShort}
-use Rattle.frame.specs.declared.Frame.{Frame}
-use Rattle.frame.specs.declared.Framed.{Framed}
-use Rattle.frame.specs.declared.Framed.the-variants.{Whole, Broken}
-
--- ---- the elements
-
-pub elements-end : (l : Frames) (b : Bool) → l ≡ pick b done fault → elementsIn l ≡ []
-unfolding elementsIn
-elements-end l true e = rw e
-elements-end l false e = rw e
-
-pub elements-fault : (l : Frames) → l ≡ fault → elementsIn l ≡ []
-unfolding elementsIn
-elements-fault l e = rw e
-
-pub elements-on : (l m : Frames) (f : Frame) → l ≡ frame f m → elementsIn l ≡ f .id * 2 ∷ elementsIn m
-unfolding elementsIn
-elements-on l m f e = rw e
-
--- the elements are stored from the front on: n of them are, and those of l are still to be
-pub record Storing (start list : List ℕ) (all l : Frames) (n : ℕ) : Type 0 where
-  pub same : sets start 0 (elementsIn all) ≡ sets list n (elementsIn l)
-  pub many : length (elementsIn all) ≡ n + length (elementsIn l)
-  pub size : length list ≡ length start
-
-pub storing-start : (list : List ℕ) (l : Frames) → Storing list list l l 0
-storing-start list l = record { same = refl; many = omega arith; size = refl }
-
-pub storing-turn : (start list new : List ℕ) (all l m : Frames) (n : ℕ) (f : Frame) → Storing start list all l n → l ≡ frame f m → new ≡ set list n (f .id * 2) → length new ≡ length list
-    → Storing start new all m (n + 1)
-storing-turn start list new all l m n f t e w z =
-    let o = elements-on l m f e in
-    record {
-      same = t .same ∙ ap (sets list n) o ∙ ap (λ (q : List ℕ). sets q (suc n) (elementsIn m)) (sym w) ∙ ap (λ (k : ℕ). sets new k (elementsIn m)) (sym (add-one n));
-      many = omega (arith, t .many, ap length o);
-      size = z ∙ t .size;
-    }
-
-pub storing-set : (start list : List ℕ) (all l m : Frames) (n : ℕ) (f : Frame) → Storing start list all l n → l ≡ frame f m → Storing start (set list n (f .id * 2)) all m (n + 1)
-storing-set start list all l m n f t e = storing-turn start list (set list n (f .id * 2)) all l m n f t e refl (length-set list n (f .id * 2))
-
-pub storing-end : (start list : List ℕ) (all l : Frames) (n : ℕ) → Storing start list all l n → elementsIn l ≡ [] → (n ≡ length (elementsIn all)) × (list ≡ sets start 0 (elementsIn all))
-storing-end start list all l n t e = (omega (arith, t .many, ap length e), sym (t .same ∙ rw e))
-
-elements-few : (h : ℕ) (s : List ℕ) (n at : ℕ) → length (elementsIn (frames h s n at)) ≤ n
-unfolding frames onward elementsIn
-elements-few h s zero at = go (eqb at (length s))
-  where
-    go : (b : Bool) → length (elementsIn (pick b done fault)) ≤ 0
-    go true = omega arith
-    go false = omega arith
-elements-few h s (suc n) at = go (λ (b : ℕ). elements-few h s n b) (frameAt h at (drop at s))
-  where
-    go : ((b : ℕ) → length (elementsIn (frames h s n b)) ≤ n) → (r : Framed) → length (elementsIn (onward (frames h s n) r)) ≤ suc n
-    go ih (Whole f) = let i = ih (f .end) in omega arith
-    go ih Broken = omega arith
+use Rattle.indexing.specs.Indexing.{elementsIn}
+use Rattle.indexing.proofs.Laws.{Made, front-is, whole-is}
+use Rattle.twice.specs.Sorted.{sameShort}
+use Rattle.frame.specs.declared.Header.{Header}
 
 -- ---- the id of an element
 
@@ -180,33 +125,13 @@ touches-same key other (x ∷ []) f = refl
 touches-same key other (x ∷ y ∷ l) f =
     rw (f x (List·Memᴰ·head refl), f y (List·Memᴰ·tail (List·Memᴰ·head refl)), touches-same key other (y ∷ l) (λ z m. f z (List·Memᴰ·tail m)))
 
--- there is room for them after the sort too
-pub sorted-room : (s : List ℕ) (h count from : ℕ) (list stored sorted : List ℕ) (n : ℕ) → count ≤ length list
-    → n ≡ length (elementsIn (frames h s count from)) → stored ≡ sets list 0 (elementsIn (frames h s count from))
-    → sorted ≡ sortBy (belowBy (keyAt s 0 h)) (take n stored) ++ drop n stored → n ≤ length sorted
-sorted-room s h count from list stored sorted n room en es eo =
-    let a = elements-few h s count from in
-    let b : length stored ≡ length list = ap length es ∙ length-sets list 0 (elementsIn (frames h s count from)) in
-    let c = sort-length (belowBy (keyAt s 0 h)) (take n stored) in
-    let d = length-take-le n stored (omega arith) in
-    let e = length-append (sortBy (belowBy (keyAt s 0 h)) (take n stored)) (drop n stored) in
-    let f = ap length eo in
-    omega arith
-
--- the elements stored, sorted and looked through: an id stands twice exactly where two neighbours are the same
-pub twice-is : (s : List ℕ) (h count from : ℕ) (list stored sorted : List ℕ) (n : ℕ) (r : Bool) → (h ≡ 0 → ⊥) → count ≤ length list
-    → n ≡ length (elementsIn (frames h s count from)) → stored ≡ sets list 0 (elementsIn (frames h s count from))
-    → sorted ≡ sortBy (belowBy (keyAt s 0 h)) (take n stored) ++ drop n stored → r ≡ sorting.touches (sameShort s h) (take n sorted)
-    → r ≡ repeats (idsIn h s (frames h s count from))
-twice-is s h count from list stored sorted n r some room en es eo er =
-    let l : Frames = frames h s count from in
-    let fits : length (elementsIn l) ≤ length list = omega (arith, elements-few h s count from) in
-    let a : take n stored ≡ elementsIn l =
-    ap (take n) (es ∙ sets-front list (elementsIn l) fits) ∙ take-at (elementsIn l) (drop (length (elementsIn l)) list) n (sym en) in
-    let b : take n sorted ≡ sortBy (belowBy (keyAt s 0 h)) (elementsIn l) =
-    ap (take n) (eo ∙ ap (λ (c : List ℕ). sortBy (belowBy (keyAt s 0 h)) c ++ drop n stored) a)
-    ∙ take-at (sortBy (belowBy (keyAt s 0 h)) (elementsIn l)) (drop n stored) n (sort-length (belowBy (keyAt s 0 h)) (elementsIn l) ∙ sym en) in
-    er ∙ ap (sorting.touches (sameShort s h)) b
+-- the index made and looked through: an id stands twice exactly where two neighbours are the same
+pub twice-is : (s : List ℕ) (k : Header) (list after : List ℕ) (n : ℕ) (r : Bool) → (k .h ≡ 0 → ⊥) → k .count ≤ length list → length s ≤ mostBytes → Made s k list n after
+    → r ≡ sorting.touches (sameShort s (k .h)) (take n after) → r ≡ repeats (idsIn (k .h) s (framesBy s k))
+twice-is s k list after n r some room p m er =
+    let h = k .h in
+    let l : Frames = framesBy s k in
+    er ∙ ap (sorting.touches (sameShort s h)) (front-is s k list after n m ∙ whole-is s k (length list) p room)
     ∙ sym (touches-same (keyAt s 0 h) (λ x. take h (drop (x / 2) s)) (sortBy (belowBy (keyAt s 0 h)) (elementsIn l))
-    (λ x m. element-key s h some l x (perm-mem (sort-perm (belowBy (keyAt s 0 h)) (elementsIn l)) m)))
+    (λ x i. element-key s h some l x (perm-mem (sort-perm (belowBy (keyAt s 0 h)) (elementsIn l)) i)))
     ∙ touches-sorted (keyAt s 0 h) (elementsIn l) ∙ elements-repeat s h some l

@@ -1,47 +1,20 @@
-// Whether an id stands twice in a bundle, its ids in any order: their places are sorted by the ids, and neighbours compared.
+// Whether an id stands twice in a bundle, its ids in any order: an index of it is made, and neighbours in the index are compared.
 ghost use mathlib.Core.Path.{_≡_};
 ghost use Prim.Native.Nat.{_/_, _≤_, min};
 ghost use lib.ListN.{length, take, drop};
-ghost use lib.Seq.{sets};
 ghost use Rattle.ground.specs.Scan.{sameBytes};
 ghost use Rattle.ground.specs.Verdict.{mostBytes, mostRecords};
 ghost use Rattle.sorting.specs.Repeats.{touches};
-ghost use Rattle.frame.specs.Frame.{frames};
+ghost use Rattle.frame.specs.Frame.{framesBy};
 ghost use Rattle.twice.specs.Ids.{idsIn, repeats, idTwice};
-ghost use Rattle.twice.specs.Sorted.{elementsIn, sameShort};
-use frame::Framed;
+ghost use Rattle.twice.specs.Sorted.{sameShort};
 use frame::Head;
-use frame::frame_at;
+use frame::Header;
 use frame::read_header;
 use ground::MOST_BYTES;
 use ground::MOST_RECORDS;
+use indexing::make_index;
 use scan::same_bytes;
-use sorting::sort_front;
-
-// Twice the place of each id, from the front of a list: how many there are.
-fn places(s: &[u8], h: usize, count: usize, from: usize, list: &mut [u32]) -> usize
-    requires { ⌜ count ≤ length (now list) ⌝ }
-    requires { ⌜ length (now s) ≤ mostBytes ⌝ }
-    ensures { λ r. ⌜ r ≡ length (elementsIn (frames h (now (s .entry)) count from)) ⌝ }
-    ensures { λ _. ⌜ now (list .exit) ≡ sets (now (list .entry)) 0 (elementsIn (frames h (now (s .entry)) count from)) ⌝ }
-{
-    let mut at = from;
-    let mut left = count;
-    let mut n: usize = 0;
-    while 0 < left {
-        match frame_at(s, h, at) {
-            Framed::Broken => return n,
-            Framed::Whole(f) => {
-                let place = f.id;
-                list[n] = (place * 2) as u32;
-                n += 1;
-                at = f.end;
-                left -= 1;
-            }
-        }
-    }
-    n
-}
 
 // The shorter of two lengths.
 fn shorter(a: usize, b: usize) -> usize
@@ -80,41 +53,40 @@ fn neighbours(s: &[u8], h: usize, list: &[u32], n: usize) -> bool
 }
 
 // Whether an id stands twice, by the neighbours among the sorted ids.
-fn twice_with(s: &[u8], h: usize, count: usize, from: usize, list: &mut [u32]) -> bool
-    requires { ⌜ (h ≡ 0 → ⊥) ⌝ }
-    requires { ⌜ count ≤ length (now list) ⌝ }
+fn twice_with(s: &[u8], k: Header, list: &mut [u32]) -> bool
+    requires { ⌜ (k .h ≡ 0 → ⊥) ⌝ }
+    requires { ⌜ k .count ≤ length (now list) ⌝ }
     requires { ⌜ length (now s) ≤ mostBytes ⌝ }
-    ensures { λ r. ⌜ r ≡ repeats (idsIn h (now (s .entry)) (frames h (now (s .entry)) count from)) ⌝ }
+    ensures { λ r. ⌜ r ≡ repeats (idsIn (k .h) (now (s .entry)) (framesBy (now (s .entry)) k)) ⌝ }
 {
-    let n = places(s, h, count, from, list);
-    sort_front(s, 0, h, list, n);
-    neighbours(s, h, list, n)
+    let n = make_index(s, k, list);
+    neighbours(s, k.h, list, n)
 }
 
 // With room for few.
-fn twice_small(s: &[u8], h: usize, count: usize, from: usize) -> bool
-    requires { ⌜ (h ≡ 0 → ⊥) ⌝ }
-    requires { ⌜ count ≤ 1024 ⌝ }
+fn twice_small(s: &[u8], k: Header) -> bool
+    requires { ⌜ (k .h ≡ 0 → ⊥) ⌝ }
+    requires { ⌜ k .count ≤ 1024 ⌝ }
     requires { ⌜ length (now s) ≤ mostBytes ⌝ }
-    ensures { λ r. ⌜ r ≡ repeats (idsIn h (now (s .entry)) (frames h (now (s .entry)) count from)) ⌝ }
+    ensures { λ r. ⌜ r ≡ repeats (idsIn (k .h) (now (s .entry)) (framesBy (now (s .entry)) k)) ⌝ }
 {
     let mut list = [0u32; 1024];
-    twice_with(s, h, count, from, &mut list)
+    twice_with(s, k, &mut list)
 }
 
 // The same with room for all: four mebibytes of the stack. The call of itself is never reached. It is there because the compiler
 // lays no function that calls itself into its callers: only such a bundle takes this one's stack.
-fn twice_large(s: &[u8], h: usize, count: usize, from: usize) -> bool
-    requires { ⌜ (h ≡ 0 → ⊥) ⌝ }
-    requires { ⌜ count ≤ mostRecords ⌝ }
+fn twice_large(s: &[u8], k: Header) -> bool
+    requires { ⌜ (k .h ≡ 0 → ⊥) ⌝ }
+    requires { ⌜ k .count ≤ mostRecords ⌝ }
     requires { ⌜ length (now s) ≤ mostBytes ⌝ }
-    ensures { λ r. ⌜ r ≡ repeats (idsIn h (now (s .entry)) (frames h (now (s .entry)) count from)) ⌝ }
+    ensures { λ r. ⌜ r ≡ repeats (idsIn (k .h) (now (s .entry)) (framesBy (now (s .entry)) k)) ⌝ }
 {
-    if MOST_RECORDS < count {
-        return twice_large(s, h, count, from);
+    if MOST_RECORDS < k.count {
+        return twice_large(s, k);
     }
     let mut list = [0u32; 1048576];
-    twice_with(s, h, count, from, &mut list)
+    twice_with(s, k, &mut list)
 }
 
 // Whether an id stands twice in a bundle within the bound, before any fault of its framing. With more than 1,024 objects it takes
@@ -129,9 +101,9 @@ pub fn id_twice(s: &[u8]) -> bool
         Head::Bad => false,
         Head::Good(k) => {
             if k.count <= 1024 {
-                return twice_small(s, k.h, k.count, k.from);
+                return twice_small(s, k);
             }
-            twice_large(s, k.h, k.count, k.from)
+            twice_large(s, k)
         }
     }
 }

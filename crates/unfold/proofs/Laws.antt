@@ -11,7 +11,7 @@ use borrow.Author.Tests.{eq-eqb, ne-eqb, le-leb, lt-leb}
 use Rattle.ground.specs.Verdict.{verdict, counted, refused, sizeGate}
 use Rattle.ground.specs.declared.Verdict.{Verdict}
 use Rattle.ground.specs.declared.Gate.the-variants.{Open, Shut}
-use Rattle.header.specs.Extra.{foldedForm}
+use Rattle.extra_header.specs.Extra.{foldedForm}
 use Rattle.header.specs.Record.{wellFormed, valueOf}
 use Rattle.header.specs.declared.HeaderRecord.{HeaderRecord}
 use Rattle.unfold.specs.Unfold.{hasForm, skips, plainFrom, plainOf, Plan, stores, refuses, roomPlan, valuePlan, gatePlan, unfoldPlan, answerOf, afterOf}

@@ -10,7 +10,7 @@ use Rattle.ground.specs.declared.Verdict.{Verdict}
 use Rattle.ground.specs.declared.Answer.{Answer}
 use Rattle.ground.specs.declared.Gate.{Gate}
 use Rattle.ground.specs.declared.Gate.the-variants.{Open, Shut}
-use Rattle.header.specs.Extra.{foldedForm}
+use Rattle.extra_header.specs.Extra.{foldedForm}
 use Rattle.header.specs.Record.{wellFormed, valueOf}
 use Rattle.header.specs.declared.HeaderRecord.{HeaderRecord}
 

@@ -4,6 +4,7 @@ ghost use Prim.Native.Nat.{_≤_};
 ghost use lib.ListN.{length};
 ghost use lib.Seq.{sets};
 ghost use Rattle.unfold.specs.Unfold.{hasForm, skips, plainOf, unfoldAnswer, unfoldAfter};
+use extra_header::is_folded;
 use ground::Answer;
 use ground::BAD_RECORD;
 use ground::FINE;
@@ -13,7 +14,6 @@ use ground::Verdict;
 use ground::longer;
 use ground::sizes;
 use header::HeaderRecord;
-use header::is_folded;
 use header::well_formed;
 
 // Whether a value has the form that its mark says.

@@ -9,8 +9,8 @@ use Rattle.border_tree.proofs.tree_step.Tie as tie
 step-requires : tie.Need-step-requires
 step-requires c κs = search needs
 
-cast-found : tie.Need-cast-found
-cast-found c = search needs
+cast-t7 : tie.Need-cast-t7
+cast-t7 c = search needs
 
 returns : tie.Need-returns
 returns c =
@@ -18,4 +18,4 @@ returns c =
     (ap (λ s. s .verdict .number) (k .ensures), step-numbers (k .result) ∙ ap stepNumbers (k .ensures))
 
 pub tree-step-spec : {M : Type 1} → statement M
-tree-step-spec = tie.close (tie.spec step-requires cast-found returns)
+tree-step-spec = tie.close (tie.spec step-requires cast-t7 returns)

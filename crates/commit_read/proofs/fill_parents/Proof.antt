@@ -6,7 +6,7 @@ use Prim.Native.Nat.{_+_, _*_, _<_}
 use mathlib.Core.Path.{_≡_, refl, sym, _∙_}
 use native.Mathlib.Omega.{arith}
 use lib.ListN.{length, length-set}
-use Rattle.commit_read.specs.Parents.{stored}
+use Rattle.commit_read.specs.Stored.{stored}
 use Rattle.commit_read.proofs.Laws.{stored-none, stored-more, one-less}
 
 abbrev Inv-loop : tie.InvT-loop

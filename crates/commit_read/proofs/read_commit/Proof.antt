@@ -4,7 +4,8 @@ use Rattle.commit_read.proofs.read_commit.Statement.{statement}
 use Rattle.commit_read.proofs.read_commit.Tie as tie
 use mathlib.Core.Path.{sym, _∙_}
 use native.Mathlib.Omega.{arith}
-use Rattle.commit_read.proofs.Laws.{outcome-fits, answer-fails, answer-whole, parents-kept, headers-kept, parents-done, headers-done}
+use Rattle.commit_fields.proofs.Laws.{outcome-fits}
+use Rattle.commit_read.proofs.Laws.{answer-fails, answer-whole, parents-kept, headers-kept, parents-done, headers-done}
 
 decide-requires : tie.Need-decide-requires
 decide-requires c κs = search needs

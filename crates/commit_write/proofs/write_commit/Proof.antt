@@ -21,8 +21,8 @@ returns c =
     let args = args1 in
     refused-both _ _ _ (answer-bad (args .h) (args .bytes .now) (args .parts) (args .parents .now) (args .headers .now) (length (args .out .now)) (λ z. c .if1 .taken ((ap (λ (x : Answer). x .verdict .number) (measure .ensures)) ∙ z)) ∙ sym (measure .ensures)) (c .if1 .taken)
 
-encoding-fault-requires : tie.Need-encoding-fault-requires
-encoding-fault-requires c κs =
+encoding-refusal-requires : tie.Need-encoding-refusal-requires
+encoding-refusal-requires c κs =
     let args1 = c .before .before .before .before .before .before .args in
     let args = args1 in
     checked-sound (args .h) (args .bytes .now) (args .parts) (args .parents .now) (args .headers .now) (length (args .out .now)) (measured-checked (args .h) (args .bytes .now) (args .parts) (args .parents .now) (args .headers .now) (length (args .out .now)) (sym (ap (λ (x : Answer). x .verdict .number) (c .before .measure .ensures)) ∙ c .if1 .left)) .encoding
@@ -31,18 +31,18 @@ returns-2 : tie.Need-returns-2
 returns-2 c =
     let args1 = c .before .before .before .before .before .before .before .before .args in
     let measure = c .before .before .before .measure in
-    let encoding-fault = c .before .encoding-fault in
+    let encoding-refusal = c .before .encoding-refusal in
     let args = args1 in
-    refused-both _ _ _ (answer-fault (args .h) (args .bytes .now) (args .parts) (args .parents .now) (args .headers .now) (length (args .out .now)) (sym (ap (λ (x : Answer). x .verdict .number) (measure .ensures)) ∙ c .before .before .if1 .left) (λ z. c .if2 .taken (encoding-fault .ensures ∙ z)) ∙ ap (λ (n : ℕ). refused (verdict n 0)) (sym (encoding-fault .ensures))) (c .if2 .taken)
+    refused-both _ _ _ (answer-fault (args .h) (args .bytes .now) (args .parts) (args .parents .now) (args .headers .now) (length (args .out .now)) (sym (ap (λ (x : Answer). x .verdict .number) (measure .ensures)) ∙ c .before .before .if1 .left) (λ z. c .if2 .taken (encoding-refusal .ensures ∙ z)) ∙ ap (λ (n : ℕ). refused (verdict n 0)) (sym (encoding-refusal .ensures))) (c .if2 .taken)
 
 fit-requires : tie.Need-fit-requires
 fit-requires c κs = search needs
 
 returns-3 : tie.Need-returns-3
 returns-3 c =
-    let at-encoding-fault = c .before .before .before in
-    let encoding-fault = at-encoding-fault .encoding-fault in
-    let at-if11 = at-encoding-fault .before in
+    let at-encoding-refusal = c .before .before .before in
+    let encoding-refusal = at-encoding-refusal .encoding-refusal in
+    let at-if11 = at-encoding-refusal .before in
     let if11 = at-if11 .if1 in
     let at-measure1 = at-if11 .before in
     let measure1 = at-measure1 .measure in
@@ -51,7 +51,7 @@ returns-3 c =
     let if1 = if11 in
     let measure = measure1 in
     let args = args1 in
-    refused-both _ _ _ (answer-fits (args .h) (args .bytes .now) (args .parts) (args .parents .now) (args .headers .now) (length (args .out .now)) (sym (ap (λ (x : Answer). x .verdict .number) (measure .ensures)) ∙ if1 .left) (sym (encoding-fault .ensures) ∙ c .before .before .if2 .left) ∙ sym (rw (measure .ensures) at (c .before .fit .ensures))) (c .if3 .taken)
+    refused-both _ _ _ (answer-fits (args .h) (args .bytes .now) (args .parts) (args .parents .now) (args .headers .now) (length (args .out .now)) (sym (ap (λ (x : Answer). x .verdict .number) (measure .ensures)) ∙ if1 .left) (sym (encoding-refusal .ensures) ∙ c .before .before .if2 .left) ∙ sym (rw (measure .ensures) at (c .before .fit .ensures))) (c .if3 .taken)
 
 put-commit-requires : tie.Need-put-commit-requires
 put-commit-requires c κs =
@@ -77,16 +77,16 @@ returns-4 c =
     let fit = at-fit .fit in
     let at-if2 = at-fit .before in
     let if2 = at-if2 .if2 in
-    let at-encoding-fault = at-if2 .before in
-    let encoding-fault = at-encoding-fault .encoding-fault in
-    let at-if1 = at-encoding-fault .before in
+    let at-encoding-refusal = at-if2 .before in
+    let encoding-refusal = at-encoding-refusal .encoding-refusal in
+    let at-if1 = at-encoding-refusal .before in
     let if1 = at-if1 .if1 in
     let at-measure = at-if1 .before in
     let measure = at-measure .measure in
     let at-args = at-measure .before .before .before .before .before in
     let args = at-args .args in
     let f = rw (measure .ensures) at (fit .ensures) in
-    fitted-both _ _ _ (args .out .now) _ (answer-fits (args .h) (args .bytes .now) (args .parts) (args .parents .now) (args .headers .now) (length (args .out .now)) (sym (ap (λ (x : Answer). x .verdict .number) (measure .ensures)) ∙ if1 .left) (sym (encoding-fault .ensures) ∙ if2 .left) ∙ sym f) f (if3 .left) (measured-length (args .h) (args .bytes .now) (args .parts) (args .parents .now) (args .headers .now) (length (args .out .now))) (c .before .before .put-commit .ensures .1)
+    fitted-both _ _ _ (args .out .now) _ (answer-fits (args .h) (args .bytes .now) (args .parts) (args .parents .now) (args .headers .now) (length (args .out .now)) (sym (ap (λ (x : Answer). x .verdict .number) (measure .ensures)) ∙ if1 .left) (sym (encoding-refusal .ensures) ∙ if2 .left) ∙ sym f) f (if3 .left) (measured-length (args .h) (args .bytes .now) (args .parts) (args .parents .now) (args .headers .now) (length (args .out .now))) (c .before .before .put-commit .ensures .1)
 
 pub write-commit-spec : {M : Type 1} → statement M
 write-commit-spec =
@@ -94,7 +94,7 @@ write-commit-spec =
     (tie.spec
     measure-requires
     returns
-    encoding-fault-requires
+    encoding-refusal-requires
     returns-2
     fit-requires
     returns-3

@@ -2,13 +2,13 @@
 use borrow.Author.Needs.{needs}
 use native.Mathlib.Omega.{arith}
 use native.Mathlib.Nat.{pos-of-ne-zero}
-use mathlib.Core.Path.{_∙_}
+use mathlib.Core.Path.{sym, _∙_}
 use Prim.Native.Nat.{ℕ, _+_, _<_}
 use lib.ListN.{length}
 use Rattle.difference.specs.Walk.{compareFolders}
 use Rattle.difference.specs.Whole.{foldersOf}
 use Rattle.merge.proofs.Laws as merging
-use Rattle.opening.proofs.Laws.{open-indexed}
+use Rattle.opening.proofs.Laws.{both-within}
 use Rattle.difference.proofs.Turning as turning
 use borrow.Fn.Kinds.{In}
 use borrow.Fn.PlainCycle.{Measures, is, falls, and}
@@ -20,7 +20,7 @@ use Rattle.difference.proofs.compare_folders.Kinds as compare-folders-k
 use Rattle.difference.proofs.+compare_entries+compare_folders.Lts-compare_folders as compare-folders-lts
 use Rattle.difference.proofs.add.Reads as add-reads
 use Rattle.merge.proofs.merge_step.Reads as merge-step-reads
-use Rattle.opening.proofs.open_tree.Reads as open-tree-reads
+use Rattle.opening.proofs.open_both.Reads as open-both-reads
 use Rattle.difference.proofs.+compare_entries+compare_folders.{statement}
 use Rattle.difference.proofs.+compare_entries+compare_folders.Tie.{close}
 
@@ -46,7 +46,7 @@ abbrev compare-entries-claims : ℕ → compare-entries-lts.Claims
 compare-entries-claims t = (merge-step-reads.Asked, merge-step-reads.Learnt, add-reads.Asked, add-reads.Learnt, compare-folders-below t, compare-folders.Post)
 
 abbrev compare-folders-claims : ℕ → compare-folders-lts.Claims
-compare-folders-claims t = (open-tree-reads.Asked, open-tree-reads.Learnt, compare-entries-below t, compare-entries.Post)
+compare-folders-claims t = (open-both-reads.Asked, open-both-reads.Learnt, compare-entries-below t, compare-entries.Post)
 
 abbrev compare-entries-Inv-loop : compare-entries-lts.InvT-loop
 compare-entries-Inv-loop bundle k depth items₀ paths₀ ps pl index l₀ r₀ m₀ items paths l r m =
@@ -142,11 +142,8 @@ compare-entries-loop-less-3 t c = omega (arith, (merging.differs-leads (c .befor
 compare-entries-loop-again-3 : (t : ℕ) → compare-entries-lts.Need-loop-again-3 (compare-entries-claims t) (compare-entries-at t) compare-entries.Post compare-entries-Inv-loop compare-entries-μ-loop
 compare-entries-loop-again-3 t c = turning.going-flat (c .before .before .before .before .before .before .before .before .before .before .before .before .before .before .before .loop .inv) (c .before .before .before .before .before .before .before .before .before .before .before .before .before .before .merge-step .result) (c .before .before .before .before .before .before .before .before .before .before .before .before .before .before .merge-step .ensures) (c .before .before .before .before .before .before .before .before .before .before .before .before .c .given .0 .0) (c .before .before .before .before .before .before .before .before .before .before .before .before .c .given .0 .1 .0) (c .before .before .before .before .before .before .before .before .before .before .before .before .c .given .0 .1 .1 .0) (c .before .before .before .before .before .before .before .before .before .before .before .before .c .given .1) (c .before .before .before .before .before .before .before .before .before .before .before .before .before .before .before .before .before .before .before .before .pre .1 .1 .0) (c .before .before .before .before .before .before .before .before .add .result) (c .before .before .before .before .before .before .before .before .add .last .1 .0) (c .before .before .before .before .before .before .before .before .add .last .1 .1 .0) (c .before .before .before .before .before .before .before .before .add .ensures .0) (c .before .if1 .left) (c .before .before .before .before .before .before .before .before .add .ensures .1) (c .before .before .before .before .before .before .before .before .add .kept .1 .0) (c .before .before .before .before .before .before .before .before .add .kept .1 .1 .0) (c .if2 .left)
 
-compare-folders-returns : (t : ℕ) → compare-folders-lts.Need-returns (compare-folders-claims t) (compare-folders-at t) compare-folders.Post
-compare-folders-returns t c = (λ prefix e. turning.tree-deep (c .before .before .before .before .before .before .before .args .depth) (c .before .before .before .before .before .before .before .args .k) (c .before .before .before .before .before .before .before .args .bundle .now) (c .before .before .before .before .before .before .before .args .a .now) (c .before .before .before .before .before .before .before .args .b .now) (c .before .before .before .before .before .before .before .args .m) _ (c .before .before .before .before .before .before .before .args .items .now) (c .before .before .before .before .before .before .before .args .paths .now) prefix (c .if1 .taken), c .before .before .before .before .before .before .before .pre .1 .1 .1 .1 .0)
-
-compare-folders-open-tree-requires : (t : ℕ) → compare-folders-lts.Need-open-tree-requires (compare-folders-claims t) (compare-folders-at t) compare-folders.Post
-compare-folders-open-tree-requires t c κs = search needs
+compare-folders-open-both-requires : (t : ℕ) → compare-folders-lts.Need-open-both-requires (compare-folders-claims t) (compare-folders-at t) compare-folders.Post
+compare-folders-open-both-requires t c κs = search needs
 
 compare-folders-enum-known-v : (t : ℕ) → compare-folders-lts.Need-enum-known-v (compare-folders-claims t) (compare-folders-at t) compare-folders.Post
 compare-folders-enum-known-v t c = search needs
@@ -154,26 +151,18 @@ compare-folders-enum-known-v t c = search needs
 compare-folders-enum-known-l : (t : ℕ) → compare-folders-lts.Need-enum-known-l (compare-folders-claims t) (compare-folders-at t) compare-folders.Post
 compare-folders-enum-known-l t c = search needs
 
-compare-folders-open-tree-requires-2 : (t : ℕ) → compare-folders-lts.Need-open-tree-requires-2 (compare-folders-claims t) (compare-folders-at t) compare-folders.Post
-compare-folders-open-tree-requires-2 t c κs = search needs
-
-compare-folders-enum-known-w : (t : ℕ) → compare-folders-lts.Need-enum-known-w (compare-folders-claims t) (compare-folders-at t) compare-folders.Post
-compare-folders-enum-known-w t c = search needs
-
-compare-folders-enum-known-r : (t : ℕ) → compare-folders-lts.Need-enum-known-r (compare-folders-claims t) (compare-folders-at t) compare-folders.Post
-compare-folders-enum-known-r t c = search needs
-
 compare-folders-sub-compare-entries : (t : ℕ) → compare-folders-lts.Need-sub-compare-entries (compare-folders-claims t) (compare-folders-at t) compare-folders.Post
-compare-folders-sub-compare-entries t c = pos-of-ne-zero (c .before .before .before .before .before .before .before .before .if1 .left)
+compare-folders-sub-compare-entries t c = pos-of-ne-zero (both-within (c .before .before .before .before .before .before .before .before .before .before .args .k) (c .before .before .before .before .before .before .before .before .before .before .args .bundle .now) (c .before .before .before .before .before .before .before .before .before .before .args .a .now) (c .before .before .before .before .before .before .before .before .before .before .args .b .now) (c .before .before .before .before .before .before .before .before .before .before .args .depth) (c .before .before .before .before .before .before .before .before .before .before .args .index .now) (c .before .before .before .before .before .before .before .before .before .before .pre .1 .1 .1 .1 .1) (c .before .l .given .0 .0) (c .before .l .given .0 .1 .0) (sym (c .before .before .before .open-both .ensures) ∙ c .before .l .given .1) .0)
 
 compare-folders-compare-entries-requires : (t : ℕ) → compare-folders-lts.Need-compare-entries-requires (compare-folders-claims t) (compare-folders-at t) compare-folders.Post
-compare-folders-compare-entries-requires t c κs = (turning.opened-falls (c .before .before .before .before .before .before .before .before .before .before .before .before .before .before .before .before .before .args .depth) t (c .before .before .before .before .before .before .before .l .given .0 .0 .left) (c .before .before .before .r .given .0 .0 .left) (c .before .before .before .before .before .before .before .before .before .before .before .before .before .before .before .before .before .pre .0) (c .before .before .before .before .before .before .before .before .before .before .if1 .left) ((turning.open-in (c .before .before .before .before .before .before .before .before .before .before .before .before .before .before .before .before .before .args .k) (c .before .before .before .before .before .before .before .before .before .before .before .before .before .before .before .before .before .args .bundle .now) (c .before .before .before .before .before .before .before .before .before .before .before .before .before .before .before .before .before .args .a .now) (c .before .before .before .before .before .before .before .before .before .open-tree .result) (c .before .before .before .before .before .before .before .l .given .0 .0) (c .before .before .before .before .before .before .before .before .before .open-tree .ensures ∙ open-indexed (c .before .before .before .before .before .before .before .before .before .before .before .before .before .before .before .before .before .args .k) (c .before .before .before .before .before .before .before .before .before .before .before .before .before .before .before .before .before .args .bundle .now) (c .before .before .before .before .before .before .before .before .before .before .before .before .before .before .before .before .before .args .a .now) (c .before .before .before .before .before .before .before .before .before .before .before .before .before .before .before .before .before .args .index .now) (c .before .before .before .before .before .before .before .before .before .before .before .before .before .before .before .before .before .pre .1 .1 .1 .1 .1)) (c .before .before .before .before .before .before .before .l .given .1)) .1) ((turning.open-in (c .before .before .before .before .before .before .before .before .before .before .before .before .before .before .before .before .before .args .k) (c .before .before .before .before .before .before .before .before .before .before .before .before .before .before .before .before .before .args .bundle .now) (c .before .before .before .before .before .before .before .before .before .before .before .before .before .before .before .before .before .args .b .now) (c .before .before .before .before .before .open-tree2 .result) (c .before .before .before .r .given .0 .0) (c .before .before .before .before .before .open-tree2 .ensures ∙ open-indexed (c .before .before .before .before .before .before .before .before .before .before .before .before .before .before .before .before .before .args .k) (c .before .before .before .before .before .before .before .before .before .before .before .before .before .before .before .before .before .args .bundle .now) (c .before .before .before .before .before .before .before .before .before .before .before .before .before .before .before .before .before .args .b .now) (c .before .before .before .before .before .before .before .before .before .before .before .before .before .before .before .before .before .args .index .now) (c .before .before .before .before .before .before .before .before .before .before .before .before .before .before .before .before .before .pre .1 .1 .1 .1 .1)) (c .before .before .before .r .given .1)) .1), (c .before .before .before .before .before .before .before .before .before .before .before .before .before .before .before .before .before .pre .1 .0, (c .before .before .before .before .before .before .before .before .before .before .before .before .before .before .before .before .before .pre .1 .1 .0, (turning.short-next (c .before .before .before .before .before .before .before .before .before .before .before .before .before .before .before .before .before .args .pl) (c .before .before .before .before .before .before .before .before .before .before .before .before .before .before .before .before .before .args .depth) (c .before .before .before .before .before .before .before .before .before .before .if1 .left) (c .before .before .before .before .before .before .before .before .before .before .before .before .before .before .before .before .before .pre .1 .1 .1 .0), (c .before .before .before .before .before .before .before .before .before .before .before .before .before .before .before .before .before .pre .1 .1 .1 .1 .0, (c .before .before .before .before .before .before .before .before .before .before .before .before .before .before .before .before .before .pre .1 .1 .1 .1 .1, ((turning.open-in (c .before .before .before .before .before .before .before .before .before .before .before .before .before .before .before .before .before .args .k) (c .before .before .before .before .before .before .before .before .before .before .before .before .before .before .before .before .before .args .bundle .now) (c .before .before .before .before .before .before .before .before .before .before .before .before .before .before .before .before .before .args .a .now) (c .before .before .before .before .before .before .before .before .before .open-tree .result) (c .before .before .before .before .before .before .before .l .given .0 .0) (c .before .before .before .before .before .before .before .before .before .open-tree .ensures ∙ open-indexed (c .before .before .before .before .before .before .before .before .before .before .before .before .before .before .before .before .before .args .k) (c .before .before .before .before .before .before .before .before .before .before .before .before .before .before .before .before .before .args .bundle .now) (c .before .before .before .before .before .before .before .before .before .before .before .before .before .before .before .before .before .args .a .now) (c .before .before .before .before .before .before .before .before .before .before .before .before .before .before .before .before .before .args .index .now) (c .before .before .before .before .before .before .before .before .before .before .before .before .before .before .before .before .before .pre .1 .1 .1 .1 .1)) (c .before .before .before .before .before .before .before .l .given .1)) .0, (turning.open-in (c .before .before .before .before .before .before .before .before .before .before .before .before .before .before .before .before .before .args .k) (c .before .before .before .before .before .before .before .before .before .before .before .before .before .before .before .before .before .args .bundle .now) (c .before .before .before .before .before .before .before .before .before .before .before .before .before .before .before .before .before .args .b .now) (c .before .before .before .before .before .open-tree2 .result) (c .before .before .before .r .given .0 .0) (c .before .before .before .before .before .open-tree2 .ensures ∙ open-indexed (c .before .before .before .before .before .before .before .before .before .before .before .before .before .before .before .before .before .args .k) (c .before .before .before .before .before .before .before .before .before .before .before .before .before .before .before .before .before .args .bundle .now) (c .before .before .before .before .before .before .before .before .before .before .before .before .before .before .before .before .before .args .b .now) (c .before .before .before .before .before .before .before .before .before .before .before .before .before .before .before .before .before .args .index .now) (c .before .before .before .before .before .before .before .before .before .before .before .before .before .before .before .before .before .pre .1 .1 .1 .1 .1)) (c .before .before .before .r .given .1)) .0)))))))
+compare-folders-compare-entries-requires t c κs =
+    let f = both-within (c .before .before .before .before .before .before .before .before .before .before .before .before .args .k) (c .before .before .before .before .before .before .before .before .before .before .before .before .args .bundle .now) (c .before .before .before .before .before .before .before .before .before .before .before .before .args .a .now) (c .before .before .before .before .before .before .before .before .before .before .before .before .args .b .now) (c .before .before .before .before .before .before .before .before .before .before .before .before .args .depth) (c .before .before .before .before .before .before .before .before .before .before .before .before .args .index .now) (c .before .before .before .before .before .before .before .before .before .before .before .before .pre .1 .1 .1 .1 .1) (c .before .before .before .l .given .0 .0) (c .before .before .before .l .given .0 .1 .0) (sym (c .before .before .before .before .before .open-both .ensures) ∙ c .before .before .before .l .given .1) in (
+      turning.opened-falls (c .before .before .before .before .before .before .before .before .before .before .before .before .args .depth) t (c .before .before .before .l .given .0 .0 .left) (c .before .before .before .l .given .0 .1 .0 .left) (c .before .before .before .before .before .before .before .before .before .before .before .before .pre .0) (f .0) (f .1 .1) (f .2 .1),
+      (c .before .before .before .before .before .before .before .before .before .before .before .before .pre .1 .0, (c .before .before .before .before .before .before .before .before .before .before .before .before .pre .1 .1 .0, (turning.short-next (c .before .before .before .before .before .before .before .before .before .before .before .before .args .pl) (c .before .before .before .before .before .before .before .before .before .before .before .before .args .depth) (f .0) (c .before .before .before .before .before .before .before .before .before .before .before .before .pre .1 .1 .1 .0), (c .before .before .before .before .before .before .before .before .before .before .before .before .pre .1 .1 .1 .1 .0, (c .before .before .before .before .before .before .before .before .before .before .before .before .pre .1 .1 .1 .1 .1, (f .1 .0, f .2 .0)))))),
+    )
 
-compare-folders-returns-2 : (t : ℕ) → compare-folders-lts.Need-returns-2 (compare-folders-claims t) (compare-folders-at t) compare-folders.Post
-compare-folders-returns-2 t c = (λ prefix e. turning.tree-left (c .before .before .before .before .before .before .before .before .before .before .before .args .depth) (c .before .before .before .before .before .before .before .before .before .before .before .args .k) (c .before .before .before .before .before .before .before .before .before .before .before .args .bundle .now) (c .before .before .before .before .before .before .before .before .before .before .before .args .a .now) (c .before .before .before .before .before .before .before .before .before .before .before .args .b .now) (c .before .before .before .before .before .before .before .before .before .before .before .args .m) _ (c .before .before .before .before .before .before .before .before .before .before .before .args .items .now) (c .before .before .before .before .before .before .before .before .before .before .before .args .paths .now) prefix (c .before .before .before .before .if1 .left) (c .before .before .before .open-tree .result) (c .before .before .before .open-tree .ensures ∙ open-indexed (c .before .before .before .before .before .before .before .before .before .before .before .args .k) (c .before .before .before .before .before .before .before .before .before .before .before .args .bundle .now) (c .before .before .before .before .before .before .before .before .before .before .before .args .a .now) (c .before .before .before .before .before .before .before .before .before .before .before .args .index .now) (c .before .before .before .before .before .before .before .before .before .before .before .pre .1 .1 .1 .1 .1)) (c .before .v .given .0 .0) (c .before .v .given .1), c .before .before .before .before .before .before .before .before .before .before .before .pre .1 .1 .1 .1 .0)
-
-compare-folders-returns-3 : (t : ℕ) → compare-folders-lts.Need-returns-3 (compare-folders-claims t) (compare-folders-at t) compare-folders.Post
-compare-folders-returns-3 t c = (λ prefix e. turning.tree-right (c .before .before .before .before .before .before .before .before .before .before .before .before .before .before .before .args .depth) (c .before .before .before .before .before .before .before .before .before .before .before .before .before .before .before .args .k) (c .before .before .before .before .before .before .before .before .before .before .before .before .before .before .before .args .bundle .now) (c .before .before .before .before .before .before .before .before .before .before .before .before .before .before .before .args .a .now) (c .before .before .before .before .before .before .before .before .before .before .before .before .before .before .before .args .b .now) (c .before .before .before .before .before .before .before .before .before .before .before .before .before .before .before .args .m) _ (c .before .before .before .before .before .before .before .before .before .before .before .before .before .before .before .args .items .now) (c .before .before .before .before .before .before .before .before .before .before .before .before .before .before .before .args .paths .now) prefix (c .before .before .before .before .before .before .before .before .if1 .left) (c .before .before .before .before .before .before .before .open-tree .result) (c .before .before .before .before .before .before .before .open-tree .ensures ∙ open-indexed (c .before .before .before .before .before .before .before .before .before .before .before .before .before .before .before .args .k) (c .before .before .before .before .before .before .before .before .before .before .before .before .before .before .before .args .bundle .now) (c .before .before .before .before .before .before .before .before .before .before .before .before .before .before .before .args .a .now) (c .before .before .before .before .before .before .before .before .before .before .before .before .before .before .before .args .index .now) (c .before .before .before .before .before .before .before .before .before .before .before .before .before .before .before .pre .1 .1 .1 .1 .1)) (c .before .before .before .before .before .l .given .0 .0) (c .before .before .before .before .before .l .given .1) (c .before .before .before .open-tree2 .result) (c .before .before .before .open-tree2 .ensures ∙ open-indexed (c .before .before .before .before .before .before .before .before .before .before .before .before .before .before .before .args .k) (c .before .before .before .before .before .before .before .before .before .before .before .before .before .before .before .args .bundle .now) (c .before .before .before .before .before .before .before .before .before .before .before .before .before .before .before .args .b .now) (c .before .before .before .before .before .before .before .before .before .before .before .before .before .before .before .args .index .now) (c .before .before .before .before .before .before .before .before .before .before .before .before .before .before .before .pre .1 .1 .1 .1 .1)) (c .before .w .given .0 .0) (c .before .w .given .1), c .before .before .before .before .before .before .before .before .before .before .before .before .before .before .before .pre .1 .1 .1 .1 .0)
+compare-folders-returns : (t : ℕ) → compare-folders-lts.Need-returns (compare-folders-claims t) (compare-folders-at t) compare-folders.Post
+compare-folders-returns t c = (λ prefix e. turning.tree-closed (c .before .before .before .before .before .before .before .before .before .before .args .depth) (c .before .before .before .before .before .before .before .before .before .before .args .k) (c .before .before .before .before .before .before .before .before .before .before .args .bundle .now) (c .before .before .before .before .before .before .before .before .before .before .args .a .now) (c .before .before .before .before .before .before .before .before .before .before .args .b .now) (c .before .before .before .before .before .before .before .before .before .before .args .index .now) (c .before .before .before .before .before .before .before .before .before .before .pre .1 .1 .1 .1 .1) (c .before .before .before .open-both .result) (c .before .before .before .open-both .ensures) (c .before .before .before .before .before .before .before .before .before .before .args .m) _ (c .before .before .before .before .before .before .before .before .before .before .args .items .now) (c .before .before .before .before .before .before .before .before .before .before .args .paths .now) prefix (c .before .v .given .0 .0) (c .before .v .given .1), c .before .before .before .before .before .before .before .before .before .before .pre .1 .1 .1 .1 .0)
 
 compare-folders-same-length : (t : ℕ) → compare-folders-lts.Need-same-length (compare-folders-claims t) (compare-folders-at t) compare-folders.Post
 compare-folders-same-length t c = search needs
@@ -181,8 +170,8 @@ compare-folders-same-length t c = search needs
 compare-folders-same-length-2 : (t : ℕ) → compare-folders-lts.Need-same-length-2 (compare-folders-claims t) (compare-folders-at t) compare-folders.Post
 compare-folders-same-length-2 t c = search needs
 
-compare-folders-returns-4 : (t : ℕ) → compare-folders-lts.Need-returns-4 (compare-folders-claims t) (compare-folders-at t) compare-folders.Post
-compare-folders-returns-4 t c = (λ prefix e. turning.tree-both (c .before .before .before .before .before .before .before .before .before .before .before .before .before .before .before .before .before .before .before .before .before .before .args .depth) (c .before .before .before .before .before .before .before .before .before .before .before .before .before .before .before .before .before .before .before .before .before .before .args .k) (c .before .before .before .before .before .before .before .before .before .before .before .before .before .before .before .before .before .before .before .before .before .before .args .bundle .now) (c .before .before .before .before .before .before .before .before .before .before .before .before .before .before .before .before .before .before .before .before .before .before .args .a .now) (c .before .before .before .before .before .before .before .before .before .before .before .before .before .before .before .before .before .before .before .before .before .before .args .b .now) (c .before .before .before .before .before .before .before .before .before .before .before .before .before .before .before .before .before .before .before .before .before .before .args .m) _ (c .before .before .before .before .before .before .before .before .before .before .before .before .before .before .before .before .before .before .before .before .before .before .args .items .now) (c .before .before .before .before .before .before .before .before .before .before .before .before .before .before .before .before .before .before .before .before .before .before .args .paths .now) prefix (c .before .before .before .before .before .before .before .before .before .before .before .before .before .before .before .if1 .left) (c .before .before .before .before .before .before .before .before .before .before .before .before .before .before .open-tree .result) (c .before .before .before .before .before .before .before .before .before .before .before .before .before .before .open-tree .ensures ∙ open-indexed (c .before .before .before .before .before .before .before .before .before .before .before .before .before .before .before .before .before .before .before .before .before .before .args .k) (c .before .before .before .before .before .before .before .before .before .before .before .before .before .before .before .before .before .before .before .before .before .before .args .bundle .now) (c .before .before .before .before .before .before .before .before .before .before .before .before .before .before .before .before .before .before .before .before .before .before .args .a .now) (c .before .before .before .before .before .before .before .before .before .before .before .before .before .before .before .before .before .before .before .before .before .before .args .index .now) (c .before .before .before .before .before .before .before .before .before .before .before .before .before .before .before .before .before .before .before .before .before .before .pre .1 .1 .1 .1 .1)) (c .before .before .before .before .before .before .before .before .before .before .before .before .l .given .0 .0) (c .before .before .before .before .before .before .before .before .before .before .before .before .l .given .1) (c .before .before .before .before .before .before .before .before .before .before .open-tree2 .result) (c .before .before .before .before .before .before .before .before .before .before .open-tree2 .ensures ∙ open-indexed (c .before .before .before .before .before .before .before .before .before .before .before .before .before .before .before .before .before .before .before .before .before .before .args .k) (c .before .before .before .before .before .before .before .before .before .before .before .before .before .before .before .before .before .before .before .before .before .before .args .bundle .now) (c .before .before .before .before .before .before .before .before .before .before .before .before .before .before .before .before .before .before .before .before .before .before .args .b .now) (c .before .before .before .before .before .before .before .before .before .before .before .before .before .before .before .before .before .before .before .before .before .before .args .index .now) (c .before .before .before .before .before .before .before .before .before .before .before .before .before .before .before .before .before .before .before .before .before .before .pre .1 .1 .1 .1 .1)) (c .before .before .before .before .before .before .before .before .r .given .0 .0) (c .before .before .before .before .before .before .before .before .r .given .1) (c .before .before .before .before .compare-entries .result) (c .before .before .before .before .compare-entries .last .1 .1 .1 .1 .1 .0) (c .before .before .before .before .compare-entries .last .1 .1 .1 .1 .1 .1 .0) (c .before .before .before .before .compare-entries .ensures .0 prefix e), c .before .before .before .before .compare-entries .ensures .1)
+compare-folders-returns-2 : (t : ℕ) → compare-folders-lts.Need-returns-2 (compare-folders-claims t) (compare-folders-at t) compare-folders.Post
+compare-folders-returns-2 t c = (λ prefix e. turning.tree-both (c .before .before .before .before .before .before .before .before .before .before .before .before .before .before .before .before .before .args .depth) (c .before .before .before .before .before .before .before .before .before .before .before .before .before .before .before .before .before .args .k) (c .before .before .before .before .before .before .before .before .before .before .before .before .before .before .before .before .before .args .bundle .now) (c .before .before .before .before .before .before .before .before .before .before .before .before .before .before .before .before .before .args .a .now) (c .before .before .before .before .before .before .before .before .before .before .before .before .before .before .before .before .before .args .b .now) (c .before .before .before .before .before .before .before .before .before .before .before .before .before .before .before .before .before .args .index .now) (c .before .before .before .before .before .before .before .before .before .before .before .before .before .before .before .before .before .pre .1 .1 .1 .1 .1) (c .before .before .before .before .before .before .before .before .before .before .open-both .result) (c .before .before .before .before .before .before .before .before .before .before .open-both .ensures) (c .before .before .before .before .before .before .before .before .before .before .before .before .before .before .before .before .before .args .m) _ (c .before .before .before .before .before .before .before .before .before .before .before .before .before .before .before .before .before .args .items .now) (c .before .before .before .before .before .before .before .before .before .before .before .before .before .before .before .before .before .args .paths .now) prefix (c .before .before .before .before .before .before .before .before .l .given .0 .0) (c .before .before .before .before .before .before .before .before .l .given .0 .1 .0) (c .before .before .before .before .before .before .before .before .l .given .1) (c .before .before .before .before .compare-entries .result) (c .before .before .before .before .compare-entries .last .1 .1 .1 .1 .1 .0) (c .before .before .before .before .compare-entries .last .1 .1 .1 .1 .1 .1 .0) (c .before .before .before .before .compare-entries .ensures .0 prefix e), c .before .before .before .before .compare-entries .ensures .1)
 
 pub +compare-entries+compare-folders-spec : {M : Type 1} → statement M
 +compare-entries+compare-folders-spec =
@@ -218,17 +207,12 @@ pub +compare-entries+compare-folders-spec : {M : Type 1} → statement M
     (compare-entries-loop-less-3 t)
     (compare-entries-loop-again-3 t))
     (λ t. compare-folders-lts.spec (compare-folders-claims t) (compare-folders-at t) compare-folders.Post
-    (compare-folders-returns t)
-    (compare-folders-open-tree-requires t)
+    (compare-folders-open-both-requires t)
     (compare-folders-enum-known-v t)
     (compare-folders-enum-known-l t)
-    (compare-folders-open-tree-requires-2 t)
-    (compare-folders-enum-known-w t)
-    (compare-folders-enum-known-r t)
     (compare-folders-sub-compare-entries t)
     (compare-folders-compare-entries-requires t)
-    (compare-folders-returns-2 t)
-    (compare-folders-returns-3 t)
+    (compare-folders-returns t)
     (compare-folders-same-length t)
     (compare-folders-same-length-2 t)
-    (compare-folders-returns-4 t))
+    (compare-folders-returns-2 t))

@@ -1,10 +1,10 @@
 -- `difference::compare_large` meets its contract: it calls itself only on a way that its `requires` shuts. Assumes nothing.
 use Prim.Native.Nat.{ℕ, _<_}
-use native.Mathlib.Omega.{arith}
 use mathlib.Core.Path.{sym}
 use lib.ListN.{length-replicate}
 use borrow.Fn.Kinds.{In}
 use borrow.Fn.PlainCycle.{Measures, is, falls, and}
+use Rattle.difference.proofs.Roots.{never}
 use Rattle.difference.proofs.compare_large.Reads as compare-large
 use Rattle.difference.proofs.compare_large.Kinds as compare-large-kinds
 use Rattle.difference.proofs.+compare_large.Lts-compare_large as compare-large-lts
@@ -25,16 +25,16 @@ abbrev claims : ℕ → compare-large-lts.Claims
 claims t = (compare-large-below t, compare-large.Post, compare-with-reads.Asked, compare-with-reads.Learnt)
 
 compare-large-requires : (t : ℕ) → compare-large-lts.Need-compare-large-requires (claims t) (compare-large-at t) compare-large.Post
-compare-large-requires t c κs = absurd (omega arith)
+compare-large-requires t c κs = absurd (never _ (c .before .before .if1 .taken) (c .before .before .before .before .before .before .before .before .before .pre .1 .1 .1))
 
 same-length : (t : ℕ) → compare-large-lts.Need-same-length (claims t) (compare-large-at t) compare-large.Post
-same-length t c = absurd (omega arith)
+same-length t c = absurd (never _ (c .before .before .before .before .before .before .before .if1 .taken) (c .before .before .before .before .before .before .before .before .before .before .before .before .before .before .pre .1 .1 .1))
 
 same-length-2 : (t : ℕ) → compare-large-lts.Need-same-length-2 (claims t) (compare-large-at t) compare-large.Post
-same-length-2 t c = absurd (omega arith)
+same-length-2 t c = absurd (never _ (c .before .before .before .before .before .before .before .if1 .taken) (c .before .before .before .before .before .before .before .before .before .before .before .before .before .before .pre .1 .1 .1))
 
 returns : (t : ℕ) → compare-large-lts.Need-returns (claims t) (compare-large-at t) compare-large.Post
-returns t c = absurd (omega arith)
+returns t c = absurd (never _ (c .before .before .before .before .before .before .before .if1 .taken) (c .before .before .before .before .before .before .before .before .before .before .before .before .before .before .pre .1 .1 .1))
 
 slice-aggregate-compare-with : (t : ℕ) → compare-large-lts.Need-slice-aggregate-compare-with (claims t) (compare-large-at t) compare-large.Post
 slice-aggregate-compare-with t c = sym (length-replicate {A = ℕ} 1048576 0)

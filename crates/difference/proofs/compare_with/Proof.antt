@@ -4,7 +4,8 @@ use Rattle.difference.proofs.compare_with.Statement.{statement}
 use Rattle.difference.proofs.compare_with.Tie as tie
 use mathlib.Core.Path.{sym}
 use lib.Seq.{length-take-le}
-use Rattle.indexing.proofs.Laws.{front-index, front-fits}
+use Rattle.indexing.proofs.Laws.{front-fits}
+use Rattle.seeking.proofs.Made.{front-index}
 
 make-index-requires : tie.Need-make-index-requires
 make-index-requires c κs = search needs

@@ -5,7 +5,7 @@ use Rattle.fate.proofs.fate_of.Reads as reads
 use Rattle.fate.proofs.fate_of.Lts as lts
 use Rattle.fate.proofs.is_own.Reads as is-own-reads
 use Rattle.fate.proofs.stays_mode.Reads as stays-mode-reads
-use Rattle.rules.proofs.name_number.Reads as name-number-reads
+use Rattle.names.proofs.name_number.Reads as name-number-reads
 use mathlib.Core.Path.{sym, _∙_}
 use Rattle.fate.proofs.Laws.{fate-name, fate-mode, fate-before, fate-kept}
 

@@ -4,7 +4,7 @@ use Rattle.fate.proofs.may_stay.Tie as tie
 use Rattle.fate.proofs.may_stay.Reads as reads
 use Rattle.fate.proofs.may_stay.Lts as lts
 use Rattle.fate.proofs.stays_mode.Reads as stays-mode-reads
-use Rattle.rules.proofs.name_number.Reads as name-number-reads
+use Rattle.names.proofs.name_number.Reads as name-number-reads
 use mathlib.Core.Path.{sym, _∙_}
 use Rattle.fate.proofs.Laws.{may-not, may-if}
 

@@ -9,7 +9,7 @@ use lib.ListN.{length}
 use lib.Dec.{eqb}
 use Rattle.frame.specs.Frame.{frames}
 use Rattle.frame.proofs.Laws.{frames-end, frames-broken, frames-whole, frame-inside}
-use Rattle.twice.proofs.Sorted.{Storing, storing-start, storing-set, storing-end, elements-end, elements-fault}
+use Rattle.indexing.proofs.Storing.{Storing, storing-start, storing-set, storing-end, elements-end, elements-fault}
 
 abbrev Inv-loop : tie.InvT-loop
 Inv-loop s h count from list₀ at₀ left₀ n₀ list at left n = (n + left ≡ count) × Storing list₀ list (frames h s count from) (frames h s left at) n

@@ -1,11 +1,9 @@
 -- `mend::mend_large` meets its contract: it calls itself only on a way that its `requires` shuts. Assumes nothing.
 use Prim.Native.Nat.{ℕ, _<_, _≤_}
-use mathlib.Core.Path.{sym, subst}
-use lib.ListN.{length-replicate}
 use borrow.Fn.Kinds.{In}
 use borrow.Fn.PlainCycle.{Measures, is, falls, and}
 use Rattle.ground.specs.Verdict.{mostRecords}
-use Rattle.mend.proofs.Whole.{most-le, over}
+use Rattle.mend.proofs.Whole.{made-of, room-for, no-more, most-le, over}
 use Rattle.mend.proofs.mend_large.Reads as mend-large
 use Rattle.mend.proofs.mend_large.Kinds as mend-large-kinds
 use Rattle.mend.proofs.+mend_large.Lts-mend_large as mend-large-lts
@@ -46,7 +44,7 @@ returns t c =
     absurd (over (root .args .count) (root .pre .1 .1 .1 .1) (c .before .before .before .before .before .before .before .if1 .taken))
 
 slice-aggregate-mend-with : (t : ℕ) → mend-large-lts.Need-slice-aggregate-mend-with (claims t) (mend-large-at t) mend-large.Post
-slice-aggregate-mend-with t c = sym (length-replicate {A = ℕ} 1048576 0)
+slice-aggregate-mend-with t c = made-of 1048576
 
 mend-with-requires : (t : ℕ) → mend-large-lts.Need-mend-with-requires (claims t) (mend-large-at t) mend-large.Post
 mend-with-requires t c κs =
@@ -56,8 +54,8 @@ mend-with-requires t c κs =
         pre .1 .0,
         (
           pre .1 .1 .0,
-          subst (λ (k : ℕ). c .before .before .before .before .before .before .before .args .count ≤ k) (sym (length-replicate {A = ℕ} 1048576 0)) (pre .1 .1 .1),
-          subst (λ (k : ℕ). k ≤ mostRecords) (sym (length-replicate {A = ℕ} 1048576 0)) most-le,
+          room-for 1048576 (c .before .before .before .before .before .before .before .args .count) (pre .1 .1 .1),
+          no-more 1048576 mostRecords most-le,
         ),
       ),
     )

@@ -21,8 +21,8 @@ slice-aggregate-measure c = sym (length-take-le _ _ (c .before .before .before .
 measure-requires : tie.Need-measure-requires
 measure-requires c κs = (c .before .before .before .before .before .before .before .before .before .before .pre .0 .0, ((c .before .before .before .before .before .before .before .before .before .before .pre .0 .1, c .before .before .before .before .before .before .before .before .before .before .pre .0 .2), known-is (c .before .before .before .before .before .before .before .before .before .before .args .h) (c .before .before .before .before .before .before .before .before .before .before .args .s .now) (c .before .before .before .before .before .before .before .before .before .before .pre .0 .1) (c .before .before .before .before .before .before .before .before .before .before .args .count) (c .before .before .before .before .before .before .before .before .before .before .pre .1 .0) (c .before .before .before .before .before .before .before .before .before .before .args .fates .now) _ (c .before .before .before .sorted .ensures .1)))
 
-no-mending-requires : tie.Need-no-mending-requires
-no-mending-requires c κs = search needs
+too-short-requires : tie.Need-too-short-requires
+too-short-requires c κs = search needs
 
 same-length : tie.Need-same-length
 same-length c = search needs
@@ -31,7 +31,7 @@ same-length-2 : tie.Need-same-length-2
 same-length-2 c = search needs
 
 returns : tie.Need-returns
-returns c = refused-all (verdict 8 (c .before .before .measure .result)) _ _ (fatesOf (c .before .before .before .before .before .before .before .before .before .before .before .before .before .args .h) (c .before .before .before .before .before .before .before .before .before .before .before .before .before .args .s .now)) (c .before .before .before .before .before .before .before .before .before .before .before .before .before .args .fates .now) (mended (c .before .before .before .before .before .before .before .before .before .before .before .before .before .args .h) (c .before .before .before .before .before .before .before .before .before .before .before .before .before .args .s .now)) (c .before .before .before .before .before .before .before .before .before .before .before .before .before .args .out .now) (c .no-mending .ensures) (with-short (c .before .before .before .before .before .before .before .before .before .before .before .before .before .args .h) (c .before .before .before .before .before .before .before .before .before .before .before .before .before .args .s .now) (c .before .before .before .before .before .before .before .before .before .before .before .before .before .args .count) (c .before .before .measure .result) (c .before .before .before .before .before .before .before .before .before .before .before .before .before .args .fates .now) (c .before .before .before .before .before .before .before .before .before .before .before .before .before .args .out .now) (c .before .before .measure .ensures ∙ need-is (c .before .before .before .before .before .before .before .before .before .before .before .before .before .args .h) (c .before .before .before .before .before .before .before .before .before .before .before .before .before .args .s .now) (c .before .before .before .before .before .before .before .before .before .before .before .before .before .pre .0 .1) (c .before .before .before .before .before .before .before .before .before .before .before .before .before .args .count) (c .before .before .before .before .before .before .before .before .before .before .before .before .before .pre .1 .0) (c .before .before .before .before .before .before .before .before .before .before .before .before .before .args .fates .now) _ (c .before .before .before .before .before .before .sorted .ensures .1)) (c .before .if1 .taken)) (eight (c .before .before .measure .result))
+returns c = refused-all (verdict 8 (c .before .before .measure .result)) _ _ (fatesOf (c .before .before .before .before .before .before .before .before .before .before .before .before .before .args .h) (c .before .before .before .before .before .before .before .before .before .before .before .before .before .args .s .now)) (c .before .before .before .before .before .before .before .before .before .before .before .before .before .args .fates .now) (mended (c .before .before .before .before .before .before .before .before .before .before .before .before .before .args .h) (c .before .before .before .before .before .before .before .before .before .before .before .before .before .args .s .now)) (c .before .before .before .before .before .before .before .before .before .before .before .before .before .args .out .now) (c .too-short .ensures) (with-short (c .before .before .before .before .before .before .before .before .before .before .before .before .before .args .h) (c .before .before .before .before .before .before .before .before .before .before .before .before .before .args .s .now) (c .before .before .before .before .before .before .before .before .before .before .before .before .before .args .count) (c .before .before .measure .result) (c .before .before .before .before .before .before .before .before .before .before .before .before .before .args .fates .now) (c .before .before .before .before .before .before .before .before .before .before .before .before .before .args .out .now) (c .before .before .measure .ensures ∙ need-is (c .before .before .before .before .before .before .before .before .before .before .before .before .before .args .h) (c .before .before .before .before .before .before .before .before .before .before .before .before .before .args .s .now) (c .before .before .before .before .before .before .before .before .before .before .before .before .before .pre .0 .1) (c .before .before .before .before .before .before .before .before .before .before .before .before .before .args .count) (c .before .before .before .before .before .before .before .before .before .before .before .before .before .pre .1 .0) (c .before .before .before .before .before .before .before .before .before .before .before .before .before .args .fates .now) _ (c .before .before .before .before .before .before .sorted .ensures .1)) (c .before .if1 .taken)) (eight (c .before .before .measure .result))
 
 slice-reshare-prefix-settle : tie.Need-slice-reshare-prefix-settle
 slice-reshare-prefix-settle c = search needs
@@ -65,7 +65,7 @@ mend-with-spec =
     slice-reshare-prefix-measure
     slice-aggregate-measure
     measure-requires
-    no-mending-requires
+    too-short-requires
     same-length
     same-length-2
     returns

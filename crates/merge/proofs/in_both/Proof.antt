@@ -5,7 +5,7 @@ use Rattle.merge.proofs.in_both.Tie as tie
 use Rattle.merge.proofs.in_both.Reads as reads
 use Rattle.merge.proofs.in_both.Lts as lts
 use Rattle.merge.proofs.side_of.Reads as side-of-reads
-use Rattle.entry.proofs.is_folder.Reads as is-folder-reads
+use Rattle.entry_record.proofs.is_folder.Reads as is-folder-reads
 use Rattle.scan.proofs.same_bytes.Reads as same-bytes-reads
 use Rattle.merge.proofs.Laws as laws
 use native.Mathlib.Omega.{arith}

@@ -2,16 +2,8 @@
 use borrow.Author.Needs.{needs}
 use Rattle.merge.proofs.merge_step.Statement.{statement}
 use Rattle.merge.proofs.merge_step.Tie as tie
-use Rattle.merge.proofs.merge_step.Reads as reads
-use Rattle.merge.proofs.merge_step.Lts as lts
-use Rattle.merge.proofs.next_entry.Reads as next-entry-reads
-use Rattle.merge.proofs.in_both.Reads as in-both-reads
-use Rattle.merge.proofs.only_left.Reads as only-left-reads
-use Rattle.merge.proofs.only_right.Reads as only-right-reads
-use Rattle.entry.proofs.is_folder.Reads as is-folder-reads
-use Rattle.order.proofs.name_order.Reads as name-order-reads
+use lib.ListN.{length}
 use Rattle.merge.proofs.Laws as laws
-use native.Mathlib.Omega.{arith}
 
 next-entry-requires : tie.Need-next-entry-requires
 next-entry-requires c κs = search needs
@@ -29,7 +21,7 @@ enum-known-y : tie.Need-enum-known-y
 enum-known-y c = search needs
 
 only-right-requires : tie.Need-only-right-requires
-only-right-requires c κs = let f = laws.entry-in (c .before .before .before .before .before .before .before .before .args .h) (c .before .before .before .before .before .before .before .before .args .bundle .now) (c .before .before .before .before .before .before .before .before .args .r) (c .before .before .before .before .before .next-entry2 .result) (c .before .y .given .0 .0) (c .before .y .given .0 .1 .0) (c .before .before .before .before .before .next-entry2 .ensures .1) (c .before .y .given .1) in omega (arith, f .0, f .1, f .2, c .before .before .before .before .before .before .before .before .good .0 .0)
+only-right-requires c κs = let f = laws.entry-in (c .before .before .before .before .before .before .before .before .args .h) (c .before .before .before .before .before .before .before .before .args .bundle .now) (c .before .before .before .before .before .before .before .before .args .r) (c .before .before .before .before .before .next-entry2 .result) (c .before .y .given .0 .0) (c .before .y .given .0 .1 .0) (c .before .before .before .before .before .next-entry2 .ensures .1) (c .before .y .given .1) in laws.id-fits (c .before .before .before .before .before .before .before .before .args .h) (length (c .before .before .before .before .before .before .before .before .args .bundle .now)) (c .before .y .given .0 .0) f (c .before .before .before .before .before .before .before .before .good .0 .0)
 
 enum-known-x : tie.Need-enum-known-x
 enum-known-x c = search needs
@@ -38,55 +30,34 @@ enum-told-3 : tie.Need-enum-told-3
 enum-told-3 c = search needs
 
 only-left-requires : tie.Need-only-left-requires
-only-left-requires c κs = let f = laws.entry-in (c .before .before .before .before .before .before .before .before .args .h) (c .before .before .before .before .before .before .before .before .args .bundle .now) (c .before .before .before .before .before .before .before .before .args .l) (c .before .before .before .before .before .before .next-entry .result) (c .before .before .before .x .given .0 .0) (c .before .before .before .x .given .0 .1 .0) (c .before .before .before .before .before .before .next-entry .ensures .1) (c .before .before .before .x .given .1) in omega (arith, f .0, f .1, f .2, c .before .before .before .before .before .before .before .before .good .0 .0)
+only-left-requires c κs = let f = laws.entry-in (c .before .before .before .before .before .before .before .before .args .h) (c .before .before .before .before .before .before .before .before .args .bundle .now) (c .before .before .before .before .before .before .before .before .args .l) (c .before .before .before .before .before .before .next-entry .result) (c .before .before .before .x .given .0 .0) (c .before .before .before .x .given .0 .1 .0) (c .before .before .before .before .before .before .next-entry .ensures .1) (c .before .before .before .x .given .1) in laws.id-fits (c .before .before .before .before .before .before .before .before .args .h) (length (c .before .before .before .before .before .before .before .before .args .bundle .now)) (c .before .before .before .x .given .0 .0) f (c .before .before .before .before .before .before .before .before .good .0 .0)
 
 enum-known-y-2 : tie.Need-enum-known-y-2
 enum-known-y-2 c = search needs
 
-sub-name-order : tie.Need-sub-name-order
-sub-name-order c = let f = laws.entry-in (c .before .before .before .before .before .before .before .before .before .args .h) (c .before .before .before .before .before .before .before .before .before .args .bundle .now) (c .before .before .before .before .before .before .before .before .before .args .l) (c .before .before .before .before .before .before .before .next-entry .result) (c .before .before .before .before .x .given .0 .0) (c .before .before .before .before .x .given .0 .1 .0) (c .before .before .before .before .before .before .before .next-entry .ensures .1) (c .before .before .before .before .x .given .1) in omega (arith, f .0, f .1, f .2, c .before .before .before .before .before .before .before .before .before .good .0 .0)
-
-part-name-order-start : tie.Need-part-name-order-start
-part-name-order-start c = let f = laws.entry-in (c .before .before .before .before .before .before .before .before .before .args .h) (c .before .before .before .before .before .before .before .before .before .args .bundle .now) (c .before .before .before .before .before .before .before .before .before .args .l) (c .before .before .before .before .before .before .before .next-entry .result) (c .before .before .before .before .x .given .0 .0) (c .before .before .before .before .x .given .0 .1 .0) (c .before .before .before .before .before .before .before .next-entry .ensures .1) (c .before .before .before .before .x .given .1) in omega (arith, f .0, f .1, f .2, c .before .before .before .before .before .before .before .before .before .good .0 .0)
-
-part-name-order-end : tie.Need-part-name-order-end
-part-name-order-end c = let f = laws.entry-in (c .before .before .before .before .before .before .before .before .before .args .h) (c .before .before .before .before .before .before .before .before .before .args .bundle .now) (c .before .before .before .before .before .before .before .before .before .args .l) (c .before .before .before .before .before .before .before .next-entry .result) (c .before .before .before .before .x .given .0 .0) (c .before .before .before .before .x .given .0 .1 .0) (c .before .before .before .before .before .before .before .next-entry .ensures .1) (c .before .before .before .before .x .given .1) in omega (arith, f .0, f .1, f .2, c .before .before .before .before .before .before .before .before .before .good .0 .0)
-
-is-folder-requires : tie.Need-is-folder-requires
-is-folder-requires c κs = search needs
-
-sub-name-order-2 : tie.Need-sub-name-order-2
-sub-name-order-2 c = let f = laws.entry-in (c .before .before .before .before .before .before .before .before .before .before .before .args .h) (c .before .before .before .before .before .before .before .before .before .before .before .args .bundle .now) (c .before .before .before .before .before .before .before .before .before .before .before .args .r) (c .before .before .before .before .before .before .before .before .next-entry2 .result) (c .before .before .before .y2 .given .0 .0) (c .before .before .before .y2 .given .0 .1 .0) (c .before .before .before .before .before .before .before .before .next-entry2 .ensures .1) (c .before .before .before .y2 .given .1) in omega (arith, f .0, f .1, f .2, c .before .before .before .before .before .before .before .before .before .before .before .good .0 .0)
-
-part-name-order-start-2 : tie.Need-part-name-order-start-2
-part-name-order-start-2 c = let f = laws.entry-in (c .before .before .before .before .before .before .before .before .before .before .before .args .h) (c .before .before .before .before .before .before .before .before .before .before .before .args .bundle .now) (c .before .before .before .before .before .before .before .before .before .before .before .args .r) (c .before .before .before .before .before .before .before .before .next-entry2 .result) (c .before .before .before .y2 .given .0 .0) (c .before .before .before .y2 .given .0 .1 .0) (c .before .before .before .before .before .before .before .before .next-entry2 .ensures .1) (c .before .before .before .y2 .given .1) in omega (arith, f .0, f .1, f .2, c .before .before .before .before .before .before .before .before .before .before .before .good .0 .0)
-
-part-name-order-end-2 : tie.Need-part-name-order-end-2
-part-name-order-end-2 c = let f = laws.entry-in (c .before .before .before .before .before .before .before .before .before .before .before .args .h) (c .before .before .before .before .before .before .before .before .before .before .before .args .bundle .now) (c .before .before .before .before .before .before .before .before .before .before .before .args .r) (c .before .before .before .before .before .before .before .before .next-entry2 .result) (c .before .before .before .y2 .given .0 .0) (c .before .before .before .y2 .given .0 .1 .0) (c .before .before .before .before .before .before .before .before .next-entry2 .ensures .1) (c .before .before .before .y2 .given .1) in omega (arith, f .0, f .1, f .2, c .before .before .before .before .before .before .before .before .before .before .before .good .0 .0)
-
-is-folder-requires-2 : tie.Need-is-folder-requires-2
-is-folder-requires-2 c κs = search needs
-
-name-order-requires : tie.Need-name-order-requires
-name-order-requires c κs = search needs
+order-of-requires : tie.Need-order-of-requires
+order-of-requires c κs =
+    let f = laws.entry-in (c .before .before .before .before .before .before .before .before .before .args .h) (c .before .before .before .before .before .before .before .before .before .args .bundle .now) (c .before .before .before .before .before .before .before .before .before .args .l) (c .before .before .before .before .before .before .before .next-entry .result) (c .before .before .before .before .x .given .0 .0) (c .before .before .before .before .x .given .0 .1 .0) (c .before .before .before .before .before .before .before .next-entry .ensures .1) (c .before .before .before .before .x .given .1) in
+    let g = laws.entry-in (c .before .before .before .before .before .before .before .before .before .args .h) (c .before .before .before .before .before .before .before .before .before .args .bundle .now) (c .before .before .before .before .before .before .before .before .before .args .r) (c .before .before .before .before .before .before .next-entry2 .result) (c .before .y2 .given .0 .0) (c .before .y2 .given .0 .1 .0) (c .before .before .before .before .before .before .next-entry2 .ensures .1) (c .before .y2 .given .1) in
+    ((f .0, f .1), (g .0, g .1))
 
 enum-told-4 : tie.Need-enum-told-4
 enum-told-4 c = search needs
 
 only-left-requires-2 : tie.Need-only-left-requires-2
-only-left-requires-2 c κs = let f = laws.entry-in (c .before .before .before .before .before .before .before .before .before .before .before .before .before .before .before .before .args .h) (c .before .before .before .before .before .before .before .before .before .before .before .before .before .before .before .before .args .bundle .now) (c .before .before .before .before .before .before .before .before .before .before .before .before .before .before .before .before .args .l) (c .before .before .before .before .before .before .before .before .before .before .before .before .before .before .next-entry .result) (c .before .before .before .before .before .before .before .before .before .before .before .x .given .0 .0) (c .before .before .before .before .before .before .before .before .before .before .before .x .given .0 .1 .0) (c .before .before .before .before .before .before .before .before .before .before .before .before .before .before .next-entry .ensures .1) (c .before .before .before .before .before .before .before .before .before .before .before .x .given .1) in omega (arith, f .0, f .1, f .2, c .before .before .before .before .before .before .before .before .before .before .before .before .before .before .before .before .good .0 .0)
+only-left-requires-2 c κs = let f = laws.entry-in (c .before .before .before .before .before .before .before .before .before .before .before .before .args .h) (c .before .before .before .before .before .before .before .before .before .before .before .before .args .bundle .now) (c .before .before .before .before .before .before .before .before .before .before .before .before .args .l) (c .before .before .before .before .before .before .before .before .before .before .next-entry .result) (c .before .before .before .before .before .before .before .x .given .0 .0) (c .before .before .before .before .before .before .before .x .given .0 .1 .0) (c .before .before .before .before .before .before .before .before .before .before .next-entry .ensures .1) (c .before .before .before .before .before .before .before .x .given .1) in laws.id-fits (c .before .before .before .before .before .before .before .before .before .before .before .before .args .h) (length (c .before .before .before .before .before .before .before .before .before .before .before .before .args .bundle .now)) (c .before .before .before .before .before .before .before .x .given .0 .0) f (c .before .before .before .before .before .before .before .before .before .before .before .before .good .0 .0)
 
 enum-told-5 : tie.Need-enum-told-5
 enum-told-5 c = search needs
 
 in-both-requires : tie.Need-in-both-requires
-in-both-requires c κs = (laws.entry-in (c .before .before .before .before .before .before .before .before .before .before .before .before .before .before .before .before .args .h) (c .before .before .before .before .before .before .before .before .before .before .before .before .before .before .before .before .args .bundle .now) (c .before .before .before .before .before .before .before .before .before .before .before .before .before .before .before .before .args .l) (c .before .before .before .before .before .before .before .before .before .before .before .before .before .before .next-entry .result) (c .before .before .before .before .before .before .before .before .before .before .before .x .given .0 .0) (c .before .before .before .before .before .before .before .before .before .before .before .x .given .0 .1 .0) (c .before .before .before .before .before .before .before .before .before .before .before .before .before .before .next-entry .ensures .1) (c .before .before .before .before .before .before .before .before .before .before .before .x .given .1), laws.entry-in (c .before .before .before .before .before .before .before .before .before .before .before .before .before .before .before .before .args .h) (c .before .before .before .before .before .before .before .before .before .before .before .before .before .before .before .before .args .bundle .now) (c .before .before .before .before .before .before .before .before .before .before .before .before .before .before .before .before .args .r) (c .before .before .before .before .before .before .before .before .before .before .before .before .before .next-entry2 .result) (c .before .before .before .before .before .before .before .before .y2 .given .0 .0) (c .before .before .before .before .before .before .before .before .y2 .given .0 .1 .0) (c .before .before .before .before .before .before .before .before .before .before .before .before .before .next-entry2 .ensures .1) (c .before .before .before .before .before .before .before .before .y2 .given .1))
+in-both-requires c κs = (laws.entry-in (c .before .before .before .before .before .before .before .before .before .before .before .before .args .h) (c .before .before .before .before .before .before .before .before .before .before .before .before .args .bundle .now) (c .before .before .before .before .before .before .before .before .before .before .before .before .args .l) (c .before .before .before .before .before .before .before .before .before .before .next-entry .result) (c .before .before .before .before .before .before .before .x .given .0 .0) (c .before .before .before .before .before .before .before .x .given .0 .1 .0) (c .before .before .before .before .before .before .before .before .before .before .next-entry .ensures .1) (c .before .before .before .before .before .before .before .x .given .1), laws.entry-in (c .before .before .before .before .before .before .before .before .before .before .before .before .args .h) (c .before .before .before .before .before .before .before .before .before .before .before .before .args .bundle .now) (c .before .before .before .before .before .before .before .before .before .before .before .before .args .r) (c .before .before .before .before .before .before .before .before .before .next-entry2 .result) (c .before .before .before .before .y2 .given .0 .0) (c .before .before .before .before .y2 .given .0 .1 .0) (c .before .before .before .before .before .before .before .before .before .next-entry2 .ensures .1) (c .before .before .before .before .y2 .given .1))
 
 enum-told-6 : tie.Need-enum-told-6
 enum-told-6 c = search needs
 
 only-right-requires-2 : tie.Need-only-right-requires-2
-only-right-requires-2 c κs = let f = laws.entry-in (c .before .before .before .before .before .before .before .before .before .before .before .before .before .before .before .before .args .h) (c .before .before .before .before .before .before .before .before .before .before .before .before .before .before .before .before .args .bundle .now) (c .before .before .before .before .before .before .before .before .before .before .before .before .before .before .before .before .args .r) (c .before .before .before .before .before .before .before .before .before .before .before .before .before .next-entry2 .result) (c .before .before .before .before .before .before .before .before .y2 .given .0 .0) (c .before .before .before .before .before .before .before .before .y2 .given .0 .1 .0) (c .before .before .before .before .before .before .before .before .before .before .before .before .before .next-entry2 .ensures .1) (c .before .before .before .before .before .before .before .before .y2 .given .1) in omega (arith, f .0, f .1, f .2, c .before .before .before .before .before .before .before .before .before .before .before .before .before .before .before .before .good .0 .0)
+only-right-requires-2 c κs = let f = laws.entry-in (c .before .before .before .before .before .before .before .before .before .before .before .before .args .h) (c .before .before .before .before .before .before .before .before .before .before .before .before .args .bundle .now) (c .before .before .before .before .before .before .before .before .before .before .before .before .args .r) (c .before .before .before .before .before .before .before .before .before .next-entry2 .result) (c .before .before .before .before .y2 .given .0 .0) (c .before .before .before .before .y2 .given .0 .1 .0) (c .before .before .before .before .before .before .before .before .before .next-entry2 .ensures .1) (c .before .before .before .before .y2 .given .1) in laws.id-fits (c .before .before .before .before .before .before .before .before .before .before .before .before .args .h) (length (c .before .before .before .before .before .before .before .before .before .before .before .before .args .bundle .now)) (c .before .before .before .before .y2 .given .0 .0) f (c .before .before .before .before .before .before .before .before .before .before .before .before .good .0 .0)
 
 returns : tie.Need-returns
 returns c = laws.step-done (c .before .before .before .before .before .before .before .args .h) (c .before .before .before .before .before .before .before .args .bundle .now) (c .before .before .before .before .before .before .before .args .l) (c .before .before .before .before .before .before .before .args .r) (c .before .before .before .before .before .next-entry .result) (c .before .before .before .before .next-entry2 .result) (c .before .before .before .before .before .next-entry .ensures .0) (c .before .before .before .before .next-entry2 .ensures .0) (c .before .before .enum-told .given .1) (c .enum-told2 .given .1)
@@ -98,13 +69,13 @@ returns-3 : tie.Need-returns-3
 returns-3 c = laws.step-left-end (c .before .before .before .before .before .before .before .before .before .args .h) (c .before .before .before .before .before .before .before .before .before .args .bundle .now) (c .before .before .before .before .before .before .before .before .before .args .l) (c .before .before .before .before .before .before .before .before .before .args .r) (c .before .before .before .before .before .before .before .next-entry .result) (c .before .before .before .before .before .before .next-entry2 .result) (c .before .before .before .before .before .before .before .next-entry .ensures .0) (c .before .before .before .before .before .before .next-entry2 .ensures .0) (c .before .enum-told3 .given .1) (c .before .before .before .before .x .given .0 .0) (c .before .before .before .before .x .given .0 .1 .0) (c .before .before .before .before .x .given .1) (c .only-left .result) (c .only-left .ensures)
 
 returns-4 : tie.Need-returns-4
-returns-4 c = laws.step-left (c .before .before .before .before .before .before .before .before .before .before .before .before .before .before .before .before .before .args .h) (c .before .before .before .before .before .before .before .before .before .before .before .before .before .before .before .before .before .args .bundle .now) (c .before .before .before .before .before .before .before .before .before .before .before .before .before .before .before .before .before .args .l) (c .before .before .before .before .before .before .before .before .before .before .before .before .before .before .before .before .before .args .r) (c .before .before .before .before .before .before .before .before .before .before .before .before .before .before .before .next-entry .result) (c .before .before .before .before .before .before .before .before .before .before .before .before .before .before .next-entry2 .result) (c .before .before .before .before .before .before .before .before .before .before .before .before .before .before .before .next-entry .ensures .0) (c .before .before .before .before .before .before .before .before .before .before .before .before .before .before .next-entry2 .ensures .0) (c .before .before .before .before .before .before .before .before .before .before .before .before .x .given .0 .0) (c .before .before .before .before .before .before .before .before .before .before .before .before .x .given .0 .1 .0) (c .before .before .before .before .before .before .before .before .before .before .before .before .x .given .1) (c .before .before .before .before .before .before .before .before .before .y2 .given .0 .0) (c .before .before .before .before .before .before .before .before .before .y2 .given .0 .1 .0) (c .before .before .before .before .before .before .before .before .before .y2 .given .1) (c .before .before .before .name-order .result) (laws.order-is _ _ _ _ _ (c .before .before .before .name-order .ensures) (c .before .before .before .before .before .before .is-folder .ensures) (c .before .before .before .before .is-folder2 .ensures)) (c .before .enum-told4 .given .1) (c .only-left2 .result) (c .only-left2 .ensures)
+returns-4 c = laws.step-left (c .before .before .before .before .before .before .before .before .before .before .before .before .before .args .h) (c .before .before .before .before .before .before .before .before .before .before .before .before .before .args .bundle .now) (c .before .before .before .before .before .before .before .before .before .before .before .before .before .args .l) (c .before .before .before .before .before .before .before .before .before .before .before .before .before .args .r) (c .before .before .before .before .before .before .before .before .before .before .before .next-entry .result) (c .before .before .before .before .before .before .before .before .before .before .next-entry2 .result) (c .before .before .before .before .before .before .before .before .before .before .before .next-entry .ensures .0) (c .before .before .before .before .before .before .before .before .before .before .next-entry2 .ensures .0) (c .before .before .before .before .before .before .before .before .x .given .0 .0) (c .before .before .before .before .before .before .before .before .x .given .0 .1 .0) (c .before .before .before .before .before .before .before .before .x .given .1) (c .before .before .before .before .before .y2 .given .0 .0) (c .before .before .before .before .before .y2 .given .0 .1 .0) (c .before .before .before .before .before .y2 .given .1) (c .before .before .before .order-of .result) (c .before .before .before .order-of .ensures) (c .before .enum-told4 .given .1) (c .only-left2 .result) (c .only-left2 .ensures)
 
 returns-5 : tie.Need-returns-5
-returns-5 c = laws.step-both (c .before .before .before .before .before .before .before .before .before .before .before .before .before .before .before .before .before .args .h) (c .before .before .before .before .before .before .before .before .before .before .before .before .before .before .before .before .before .args .bundle .now) (c .before .before .before .before .before .before .before .before .before .before .before .before .before .before .before .before .before .args .l) (c .before .before .before .before .before .before .before .before .before .before .before .before .before .before .before .before .before .args .r) (c .before .before .before .before .before .before .before .before .before .before .before .before .before .before .before .next-entry .result) (c .before .before .before .before .before .before .before .before .before .before .before .before .before .before .next-entry2 .result) (c .before .before .before .before .before .before .before .before .before .before .before .before .before .before .before .next-entry .ensures .0) (c .before .before .before .before .before .before .before .before .before .before .before .before .before .before .next-entry2 .ensures .0) (c .before .before .before .before .before .before .before .before .before .before .before .before .x .given .0 .0) (c .before .before .before .before .before .before .before .before .before .before .before .before .x .given .0 .1 .0) (c .before .before .before .before .before .before .before .before .before .before .before .before .x .given .1) (c .before .before .before .before .before .before .before .before .before .y2 .given .0 .0) (c .before .before .before .before .before .before .before .before .before .y2 .given .0 .1 .0) (c .before .before .before .before .before .before .before .before .before .y2 .given .1) (c .before .before .before .name-order .result) (laws.order-is _ _ _ _ _ (c .before .before .before .name-order .ensures) (c .before .before .before .before .before .before .is-folder .ensures) (c .before .before .before .before .is-folder2 .ensures)) (c .before .enum-told5 .given .1) (c .in-both .result) (c .in-both .ensures)
+returns-5 c = laws.step-both (c .before .before .before .before .before .before .before .before .before .before .before .before .before .args .h) (c .before .before .before .before .before .before .before .before .before .before .before .before .before .args .bundle .now) (c .before .before .before .before .before .before .before .before .before .before .before .before .before .args .l) (c .before .before .before .before .before .before .before .before .before .before .before .before .before .args .r) (c .before .before .before .before .before .before .before .before .before .before .before .next-entry .result) (c .before .before .before .before .before .before .before .before .before .before .next-entry2 .result) (c .before .before .before .before .before .before .before .before .before .before .before .next-entry .ensures .0) (c .before .before .before .before .before .before .before .before .before .before .next-entry2 .ensures .0) (c .before .before .before .before .before .before .before .before .x .given .0 .0) (c .before .before .before .before .before .before .before .before .x .given .0 .1 .0) (c .before .before .before .before .before .before .before .before .x .given .1) (c .before .before .before .before .before .y2 .given .0 .0) (c .before .before .before .before .before .y2 .given .0 .1 .0) (c .before .before .before .before .before .y2 .given .1) (c .before .before .before .order-of .result) (c .before .before .before .order-of .ensures) (c .before .enum-told5 .given .1) (c .in-both .result) (c .in-both .ensures)
 
 returns-6 : tie.Need-returns-6
-returns-6 c = laws.step-right (c .before .before .before .before .before .before .before .before .before .before .before .before .before .before .before .before .before .args .h) (c .before .before .before .before .before .before .before .before .before .before .before .before .before .before .before .before .before .args .bundle .now) (c .before .before .before .before .before .before .before .before .before .before .before .before .before .before .before .before .before .args .l) (c .before .before .before .before .before .before .before .before .before .before .before .before .before .before .before .before .before .args .r) (c .before .before .before .before .before .before .before .before .before .before .before .before .before .before .before .next-entry .result) (c .before .before .before .before .before .before .before .before .before .before .before .before .before .before .next-entry2 .result) (c .before .before .before .before .before .before .before .before .before .before .before .before .before .before .before .next-entry .ensures .0) (c .before .before .before .before .before .before .before .before .before .before .before .before .before .before .next-entry2 .ensures .0) (c .before .before .before .before .before .before .before .before .before .before .before .before .x .given .0 .0) (c .before .before .before .before .before .before .before .before .before .before .before .before .x .given .0 .1 .0) (c .before .before .before .before .before .before .before .before .before .before .before .before .x .given .1) (c .before .before .before .before .before .before .before .before .before .y2 .given .0 .0) (c .before .before .before .before .before .before .before .before .before .y2 .given .0 .1 .0) (c .before .before .before .before .before .before .before .before .before .y2 .given .1) (c .before .before .before .name-order .result) (laws.order-is _ _ _ _ _ (c .before .before .before .name-order .ensures) (c .before .before .before .before .before .before .is-folder .ensures) (c .before .before .before .before .is-folder2 .ensures)) (c .before .enum-told6 .given .1) (c .only-right2 .result) (c .only-right2 .ensures)
+returns-6 c = laws.step-right (c .before .before .before .before .before .before .before .before .before .before .before .before .before .args .h) (c .before .before .before .before .before .before .before .before .before .before .before .before .before .args .bundle .now) (c .before .before .before .before .before .before .before .before .before .before .before .before .before .args .l) (c .before .before .before .before .before .before .before .before .before .before .before .before .before .args .r) (c .before .before .before .before .before .before .before .before .before .before .before .next-entry .result) (c .before .before .before .before .before .before .before .before .before .before .next-entry2 .result) (c .before .before .before .before .before .before .before .before .before .before .before .next-entry .ensures .0) (c .before .before .before .before .before .before .before .before .before .before .next-entry2 .ensures .0) (c .before .before .before .before .before .before .before .before .x .given .0 .0) (c .before .before .before .before .before .before .before .before .x .given .0 .1 .0) (c .before .before .before .before .before .before .before .before .x .given .1) (c .before .before .before .before .before .y2 .given .0 .0) (c .before .before .before .before .before .y2 .given .0 .1 .0) (c .before .before .before .before .before .y2 .given .1) (c .before .before .before .order-of .result) (c .before .before .before .order-of .ensures) (c .before .enum-told6 .given .1) (c .only-right2 .result) (c .only-right2 .ensures)
 
 pub merge-step-spec : {M : Type 1} → statement M
 merge-step-spec =
@@ -120,15 +91,7 @@ merge-step-spec =
     enum-told-3
     only-left-requires
     enum-known-y-2
-    sub-name-order
-    part-name-order-start
-    part-name-order-end
-    is-folder-requires
-    sub-name-order-2
-    part-name-order-start-2
-    part-name-order-end-2
-    is-folder-requires-2
-    name-order-requires
+    order-of-requires
     enum-told-4
     only-left-requires-2
     enum-told-5

@@ -1,20 +1,18 @@
 -- `modes_run::all_modes` is safe and ends. Assumes nothing.
+use borrow.Author.Needs.{needs}
 use Rattle.modes_run.proofs.all_modes.Statement.{statement}
 use Rattle.modes_run.proofs.all_modes.Tie as tie
-use borrow.Author.Needs.{needs}
 use Prim.Native.Nat.{_-_}
-use mathlib.Core.Path.{_≡_, refl}
 use native.Mathlib.Omega.{arith}
-use lib.ListN.{length}
 
 abbrev Inv-loop : tie.InvT-loop
-Inv-loop sort counts₀ sum₀ low₀ counts sum low = length counts ≡ length counts₀
+Inv-loop sort sum₀ low₀ sum low = Unit {0}
 
 abbrev μ-loop : tie.MeasureT-loop
-μ-loop sort counts₀ sum₀ low₀ counts sum low = 4096 - low
+μ-loop sort sum₀ low₀ sum low = 4096 - low
 
 loop-holds : tie.Need-loop-holds Inv-loop μ-loop
-loop-holds c = refl
+loop-holds c = tt
 
 mul-one-mode : tie.Need-mul-one-mode Inv-loop μ-loop
 mul-one-mode c = omega arith
@@ -32,26 +30,11 @@ loop-less : tie.Need-loop-less Inv-loop μ-loop
 loop-less c = search needs
 
 loop-again : tie.Need-loop-again Inv-loop μ-loop
-loop-again c = search needs
-
-same-length : tie.Need-same-length Inv-loop μ-loop
-same-length c = c .before .loop .inv
+loop-again c = tt
 
 returns : tie.Need-returns Inv-loop μ-loop
 returns c = search needs
 
 pub all-modes-spec : {M : Type 1} → statement M
 all-modes-spec =
-    tie.close
-    (tie.spec
-    Inv-loop
-    μ-loop
-    loop-holds
-    mul-one-mode
-    add-one-mode
-    one-mode-requires
-    add-low
-    loop-less
-    loop-again
-    same-length
-    returns)
+    tie.close (tie.spec Inv-loop μ-loop loop-holds mul-one-mode add-one-mode one-mode-requires add-low loop-less loop-again returns)

@@ -1,32 +1,50 @@
 -- `modes_run::take_text` is safe and ends. Assumes nothing.
 use borrow.Author.Needs.{needs}
+use Prim.Native.Nat.{_-_}
 use Rattle.modes_run.proofs.take_text.Statement.{statement}
 use Rattle.modes_run.proofs.take_text.Tie as tie
-use mathlib.Core.Path.{_≡_}
-use native.Mathlib.Omega.{arith}
-use lib.ListN.{length, length-take}
 
-array-share-prefix-bytes : tie.Need-array-share-prefix-bytes
-array-share-prefix-bytes c = let h : length (c .before .before .args .t .bytes) ≡ 6 = search needs in omega arith
+abbrev Inv-loop : tie.InvT-loop
+Inv-loop sum bytes all₀ i₀ all i = Unit {0}
 
-slice-aggregate-take-bytes : tie.Need-slice-aggregate-take-bytes
-slice-aggregate-take-bytes c = let h : length (c .before .before .before .args .t .bytes) ≡ 6 = search needs in simp length-take (omega arith)
+abbrev μ-loop : tie.MeasureT-loop
+μ-loop sum bytes all₀ i₀ all i = 6 - i
 
-take-bytes-requires : tie.Need-take-bytes-requires
-take-bytes-requires c κs = search needs
+loop-holds : tie.Need-loop-holds Inv-loop μ-loop
+loop-holds c = tt
 
-returns : tie.Need-returns
+array-read-take : tie.Need-array-read-take Inv-loop μ-loop
+array-read-take c = search needs
+
+cast-take : tie.Need-cast-take Inv-loop μ-loop
+cast-take c = search needs
+
+take-requires : tie.Need-take-requires Inv-loop μ-loop
+take-requires c κs = search needs
+
+add-i : tie.Need-add-i Inv-loop μ-loop
+add-i c = search needs
+
+loop-less : tie.Need-loop-less Inv-loop μ-loop
+loop-less c = search needs
+
+loop-again : tie.Need-loop-again Inv-loop μ-loop
+loop-again c = tt
+
+returns : tie.Need-returns Inv-loop μ-loop
 returns c = search needs
-
-returns-2 : tie.Need-returns-2
-returns-2 c = search needs
 
 pub take-text-spec : {M : Type 1} → statement M
 take-text-spec =
     tie.close
     (tie.spec
-    array-share-prefix-bytes
-    slice-aggregate-take-bytes
-    take-bytes-requires
-    returns
-    returns-2)
+    Inv-loop
+    μ-loop
+    loop-holds
+    array-read-take
+    cast-take
+    take-requires
+    add-i
+    loop-less
+    loop-again
+    returns)

@@ -3,7 +3,8 @@ use borrow.Author.Needs.{needs}
 use Rattle.opening.proofs.open_tree.Statement.{statement}
 use Rattle.opening.proofs.open_tree.Tie as tie
 use native.Mathlib.Omega.{arith}
-use Rattle.opening.proofs.Laws.{seek-inside, open-empty, open-absent, open-other, open-stopped, open-total}
+use Rattle.seeking.proofs.Laws.{seek-inside}
+use Rattle.opening.proofs.Laws.{open-empty, open-absent, open-other, open-stopped, open-total}
 
 returns : tie.Need-returns
 returns c = open-empty _ _ _ _ ((c .if1) .taken)

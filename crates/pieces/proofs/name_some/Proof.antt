@@ -1,95 +1,79 @@
 -- `pieces::name_some` meets its contract. Assumes nothing.
+use borrow.Author.Needs.{needs}
 use Rattle.pieces.proofs.name_some.Statement.{statement}
 use Rattle.pieces.proofs.name_some.Tie as tie
 use Rattle.pieces.proofs.name_some.Reads as reads
 use Rattle.pieces.proofs.name_some.Lts as lts
-use Rattle.piece_judge.proofs.meet.Reads as meet-reads
+use Rattle.output.proofs.put.Reads as put-reads
+use Rattle.pieces.proofs.name_end.Reads as name-end-reads
 use Rattle.pieces.proofs.name_taken.Reads as name-taken-reads
-use borrow.Author.Needs.{needs}
-use mathlib.Core.Path.{_≡_, refl, sym, _∙_}
-use Prim.Native.Nat.{ℕ, _+_, _-_, _≤_}
+use Rattle.pieces.proofs.shorter.Reads as shorter-reads
+use Rattle.pieces.proofs.stand_after.Reads as stand-after-reads
 use native.Mathlib.Omega.{arith}
-use lib.ListN.{length, drop}
-use mathlib.Core.List.{List}
-use Rattle.arriving.specs.Feed.{together, placedAt, lineAt, feedOf}
-use Rattle.arriving.specs.declared.Phase.the-variants.{Name}
-use Rattle.arriving.proofs.Bulk.{name-begin, name-again, took-name}
+use Rattle.arriving.proofs.Bulk.{name-begin, took-name}
+use Rattle.pieces.proofs.Stands.{names-took}
 
-abbrev Inv-loop : tie.InvT-loop
-Inv-loop held₀ m l piece i end last size₀ shared₀ stand₀ k₀ held size shared stand k =
-    (i ≤ k) × (k ≤ end)
-    × ((ends : List ℕ) → feedOf (together held₀ ends m) (drop i piece) ≡ feedOf (together held ends (placedAt m (m .at + (k - i)) (m .head) (Name (lineAt l size shared stand)))) (drop k piece))
-
-abbrev μ-loop : tie.MeasureT-loop
-μ-loop held₀ m l piece i end last size₀ shared₀ stand₀ k₀ held size shared stand k = end - k
-
-loop-holds : tie.Need-loop-holds Inv-loop μ-loop
-loop-holds c = (search needs, search needs, λ ends. name-begin (c .before .before .args .held .now) ends (c .before .before .args .m) (c .before .before .args .l) (c .before .before .args .piece .now) (c .before .before .args .i) (c .before .before .pre .0 .1))
-
-shared-slice-read-b : tie.Need-shared-slice-read-b Inv-loop μ-loop
-shared-slice-read-b c = search needs
-
-name-taken-requires : tie.Need-name-taken-requires Inv-loop μ-loop
+name-taken-requires : tie.Need-name-taken-requires
 name-taken-requires c κs = search needs
 
-returns : tie.Need-returns Inv-loop μ-loop
-returns c = λ ends. took-name (c .before .before .before .before .before .before .before .args .held .now) ends (c .before .before .before .before .before .before .before .args .m) (c .before .before .before .before .before .before .before .args .piece .now) (c .before .before .before .before .before .before .before .args .i) (c .before .before .before .before .loop .held) _ (c .before .before .before .before .loop .k) (c .before .before .before .before .loop .inv .0) (omega (arith, c .before .before .before .before .before .before .before .pre .1 .1)) (c .before .before .before .before .loop .inv .2 ends) _ (c .name-taken .ensures)
+returns : tie.Need-returns
+returns c = let x = c .before .before .before .args in λ ends. took-name (x .held .now) ends (x .m) (x .piece .now) (x .i) (x .held .now) _ (x .i) (omega arith) (omega (arith, c .before .before .before .pre .1)) (name-begin (x .held .now) ends (x .m) (x .l) (x .piece .now) (x .i) (c .before .before .before .pre .0 .1)) _ (c .name-taken .ensures)
 
-name-taken-requires-2 : tie.Need-name-taken-requires-2 Inv-loop μ-loop
+sub-shorter : tie.Need-sub-shorter
+sub-shorter c = search needs
+
+sub-shorter-2 : tie.Need-sub-shorter-2
+sub-shorter-2 c = search needs
+
+shorter-requires : tie.Need-shorter-requires
+shorter-requires c κs = search needs
+
+name-end-requires : tie.Need-name-end-requires
+name-end-requires c κs = search needs
+
+sub-some : tie.Need-sub-some
+sub-some c = search needs
+
+part-some-start : tie.Need-part-some-start
+part-some-start c = search needs
+
+part-some-end : tie.Need-part-some-end
+part-some-end c = search needs
+
+stand-after-requires : tie.Need-stand-after-requires
+stand-after-requires c κs = search needs
+
+put-requires : tie.Need-put-requires
+put-requires c κs = search needs
+
+sub-name-taken : tie.Need-sub-name-taken
+sub-name-taken c = search needs
+
+add-name-taken : tie.Need-add-name-taken
+add-name-taken c = search needs
+
+name-taken-requires-2 : tie.Need-name-taken-requires-2
 name-taken-requires-2 c κs = search needs
 
-returns-2 : tie.Need-returns-2 Inv-loop μ-loop
-returns-2 c = λ ends. took-name (c .before .before .before .before .before .before .before .before .args .held .now) ends (c .before .before .before .before .before .before .before .before .args .m) (c .before .before .before .before .before .before .before .before .args .piece .now) (c .before .before .before .before .before .before .before .before .args .i) (c .before .before .before .before .before .loop .held) _ (c .before .before .before .before .before .loop .k) (c .before .before .before .before .before .loop .inv .0) (omega (arith, c .before .before .before .before .before .before .before .before .pre .1 .1)) (c .before .before .before .before .before .loop .inv .2 ends) _ (c .name-taken2 .ensures)
-
-element-copy-out-x : tie.Need-element-copy-out-x Inv-loop μ-loop
-element-copy-out-x c = search needs
-
-element-write-held : tie.Need-element-write-held Inv-loop μ-loop
-element-write-held c = search needs
-
-meet-requires : tie.Need-meet-requires Inv-loop μ-loop
-meet-requires c κs = search needs
-
-add-size : tie.Need-add-size Inv-loop μ-loop
-add-size c = search needs
-
-sharing-requires : tie.Need-sharing-requires Inv-loop μ-loop
-sharing-requires c κs = search needs
-
-add-k : tie.Need-add-k Inv-loop μ-loop
-add-k c = search needs
-
-loop-less : tie.Need-loop-less Inv-loop μ-loop
-loop-less c = search needs
-
-loop-again : tie.Need-loop-again Inv-loop μ-loop
-loop-again c = (search needs, search needs, λ ends. name-again (c .before .before .before .before .before .before .before .before .before .before .args .m) (c .before .before .before .before .before .before .before .before .before .before .pre .0 .0) ends _ (c .before .before .before .before .before .before .before .loop .held) (c .before .before .before .before .before .before .before .before .before .before .args .l) (c .before .before .before .before .before .before .before .loop .size) (c .before .before .before .before .before .before .before .loop .shared) _ (c .before .before .before .before .before .before .before .loop .stand) _ (c .before .before .before .before .before .before .before .before .before .before .args .piece .now) (c .before .before .before .before .before .before .before .before .before .before .args .i) (c .before .before .before .before .before .before .before .loop .k) (c .before .before .before .before .before .before .before .before .before .before .args .end) _ (c .before .before .before .before .before .before .before .loop .inv .0) (c .before .before .before .before .before .before .loop-test .taken) (c .before .before .before .before .before .before .before .before .before .before .pre .1 .1) (c .before .before .before .before .before .before .before .before .before .before .pre .1 .2) refl (c .before .before .before .before .if1 .left) (c .before .before .before .if2 .left) (c .before .meet .ensures) (c .sharing .ensures) (c .before .before .before .before .before .before .before .loop .inv .2 ends))
-
-name-taken-requires-3 : tie.Need-name-taken-requires-3 Inv-loop μ-loop
-name-taken-requires-3 c κs = search needs
-
-returns-3 : tie.Need-returns-3 Inv-loop μ-loop
-returns-3 c = λ ends. took-name (c .before .before .before .before .before .args .held .now) ends (c .before .before .before .before .before .args .m) (c .before .before .before .before .before .args .piece .now) (c .before .before .before .before .before .args .i) (c .before .before .loop .held) _ (c .before .before .loop .k) (c .before .before .loop .inv .0) (omega (arith, c .before .before .before .before .before .pre .1 .1)) (c .before .before .loop .inv .2 ends) _ (c .name-taken3 .ensures)
+returns-2 : tie.Need-returns-2
+returns-2 c = let x = c .before .before .before .before .before .before .before .before .before .before .before .before .args in λ ends. names-took (x .held .now) ends (x .m) (x .l) (x .piece .now) (x .i) (x .end) (c .before .before .before .before .before .before .before .before .before .before .before .before .pre .0 .0) (c .before .before .before .before .before .before .before .before .before .before .before .before .pre .0 .1) (c .before .before .before .before .before .before .before .before .before .before .before .before .pre .1 .0) (c .before .before .before .before .before .before .before .before .before .before .before .before .pre .1 .1) (c .before .before .before .before .before .before .before .before .before .before .before .before .pre .1 .2) (c .before .before .before .before .before .before .before .before .before .shorter .result) (c .before .before .before .before .before .before .before .before .name-end .result) (omega (arith, c .before .before .before .before .before .before .before .before .before .shorter .ensures)) (omega (arith, c .before .before .before .before .before .before .before .before .before .shorter .ensures)) (c .before .before .before .before .before .before .before .before .before .before .if1 .left) (c .before .before .before .before .before .before .before .before .name-end .ensures .0) _ (c .before .before .before .stand-after .ensures) _ (c .before .put .ensures) _ (c .name-taken2 .ensures)
 
 pub name-some-spec : {M : Type 1} → statement M
 name-some-spec =
     tie.close
     (tie.spec
-    Inv-loop
-    μ-loop
-    loop-holds
-    shared-slice-read-b
     name-taken-requires
     returns
+    sub-shorter
+    sub-shorter-2
+    shorter-requires
+    name-end-requires
+    sub-some
+    part-some-start
+    part-some-end
+    stand-after-requires
+    put-requires
+    sub-name-taken
+    add-name-taken
     name-taken-requires-2
-    returns-2
-    element-copy-out-x
-    element-write-held
-    meet-requires
-    add-size
-    sharing-requires
-    add-k
-    loop-less
-    loop-again
-    name-taken-requires-3
-    returns-3)
+    returns-2)

@@ -5,10 +5,10 @@ use borrow.Author.Needs.{needs}
 use Prim.Native.Nat.{_-_}
 
 abbrev Inv-loop : tie.InvT-loop
-Inv-loop now call₀ call = Unit {0}
+Inv-loop g call₀ call = Unit {0}
 
 abbrev μ-loop : tie.MeasureT-loop
-μ-loop now call₀ call = 29 - call
+μ-loop g call₀ call = 29 - call
 
 loop-holds : tie.Need-loop-holds Inv-loop μ-loop
 loop-holds c = tt

@@ -2,13 +2,12 @@
 use Rattle.scan.proofs.common_start.Statement.{statement}
 use Rattle.scan.proofs.common_start.Tie as tie
 use Prim.Native.Nat.{_≤_, _-_, _+_}
-use mathlib.Core.Path.{_≡_}
+use mathlib.Core.Path.{_≡_, sym, _∙_}
 use native.Mathlib.Omega.{arith}
 use borrow.Author.Needs.{needs}
 use lib.ListN.{drop}
 use Rattle.ground.specs.Scan.{commonStart}
-use Rattle.ground.proofs.Laws.{walk-on, walk-off}
-use Rattle.scan.proofs.Laws.{common-end, common-past, common-in}
+use Rattle.scan.proofs.Laws.{common-past, common-in}
 
 abbrev Inv-loop : tie.InvT-loop
 Inv-loop a b n i₀ i = (i ≤ n) × (commonStart a b ≡ i + commonStart (drop i a) (drop i b))
@@ -16,34 +15,28 @@ Inv-loop a b n i₀ i = (i ≤ n) × (commonStart a b ≡ i + commonStart (drop 
 abbrev μ-loop : tie.MeasureT-loop
 μ-loop a b n i₀ i = n - i
 
-abbrev Inv-loop2 : tie.InvT-loop2
-Inv-loop2 a b n i₀ i = (i ≤ n) × (commonStart a b ≡ i + commonStart (drop i a) (drop i b))
-
-abbrev μ-loop2 : tie.MeasureT-loop2
-μ-loop2 a b n i₀ i = n - i
-
-shorter-requires : tie.Need-shorter-requires Inv-loop μ-loop Inv-loop2 μ-loop2
+shorter-requires : tie.Need-shorter-requires Inv-loop μ-loop
 shorter-requires c κs = search needs
 
-loop-holds : tie.Need-loop-holds Inv-loop μ-loop Inv-loop2 μ-loop2
+loop-holds : tie.Need-loop-holds Inv-loop μ-loop
 loop-holds c = (omega arith, omega arith)
 
-sub-loop : tie.Need-sub-loop Inv-loop μ-loop Inv-loop2 μ-loop2
+sub-loop : tie.Need-sub-loop Inv-loop μ-loop
 sub-loop c = search needs
 
-eight-requires : tie.Need-eight-requires Inv-loop μ-loop Inv-loop2 μ-loop2
+eight-requires : tie.Need-eight-requires Inv-loop μ-loop
 eight-requires c κs = search needs
 
-eight-requires-2 : tie.Need-eight-requires-2 Inv-loop μ-loop Inv-loop2 μ-loop2
+eight-requires-2 : tie.Need-eight-requires-2 Inv-loop μ-loop
 eight-requires-2 c κs = search needs
 
-place-requires : tie.Need-place-requires Inv-loop μ-loop Inv-loop2 μ-loop2
+place-requires : tie.Need-place-requires Inv-loop μ-loop
 place-requires c κs = search needs
 
-add-result : tie.Need-add-result Inv-loop μ-loop Inv-loop2 μ-loop2
+add-result : tie.Need-add-result Inv-loop μ-loop
 add-result c = search needs
 
-returns : tie.Need-returns Inv-loop μ-loop Inv-loop2 μ-loop2
+returns : tie.Need-returns Inv-loop μ-loop
 returns c =
     let args = c .before .before .before .before .before .before .before .before .before .args in
     let loop = c .before .before .before .before .before .loop in
@@ -55,13 +48,13 @@ returns c =
           (eight .ensures) (c .before .before .eight2 .ensures) _ (c .place .ensures .0) (c .before .if1 .taken),
     )
 
-add-i : tie.Need-add-i Inv-loop μ-loop Inv-loop2 μ-loop2
+add-i : tie.Need-add-i Inv-loop μ-loop
 add-i c = search needs
 
-loop-less : tie.Need-loop-less Inv-loop μ-loop Inv-loop2 μ-loop2
+loop-less : tie.Need-loop-less Inv-loop μ-loop
 loop-less c = search needs
 
-loop-again : tie.Need-loop-again Inv-loop μ-loop Inv-loop2 μ-loop2
+loop-again : tie.Need-loop-again Inv-loop μ-loop
 loop-again c =
     let args = c .before .before .before .before .before .before .before .before .args in
     let loop = c .before .before .before .before .loop in (
@@ -74,38 +67,11 @@ loop-again c =
       ),
     )
 
-loop2-holds : tie.Need-loop2-holds Inv-loop μ-loop Inv-loop2 μ-loop2
-loop2-holds c = c .before .loop .inv
+common-last-requires : tie.Need-common-last-requires Inv-loop μ-loop
+common-last-requires c κs = (c .before .before .shorter .ensures, c .before .loop .inv .0)
 
-shared-slice-read-if2 : tie.Need-shared-slice-read-if2 Inv-loop μ-loop Inv-loop2 μ-loop2
-shared-slice-read-if2 c = search needs
-
-shared-slice-read-if2-2 : tie.Need-shared-slice-read-if2-2 Inv-loop μ-loop Inv-loop2 μ-loop2
-shared-slice-read-if2-2 c = search needs
-
-returns-2 : tie.Need-returns-2 Inv-loop μ-loop Inv-loop2 μ-loop2
-returns-2 c =
-    let args = c .before .before .before .before .before .before .before .before .before .before .args in
-    let loop2 = c .before .before .before .before .loop2 in
-    omega (arith, loop2 .inv .1, walk-off (args .a .now) (args .b .now) (loop2 .i) (omega arith) (omega arith) (c .if2 .taken))
-
-add-i-2 : tie.Need-add-i-2 Inv-loop μ-loop Inv-loop2 μ-loop2
-add-i-2 c = search needs
-
-loop2-less : tie.Need-loop2-less Inv-loop μ-loop Inv-loop2 μ-loop2
-loop2-less c = search needs
-
-loop2-again : tie.Need-loop2-again Inv-loop μ-loop Inv-loop2 μ-loop2
-loop2-again c =
-    let args = c .before .before .before .before .before .before .before .before .before .before .args in
-    let loop2 = c .before .before .before .before .loop2 in
-    (omega arith, omega (arith, loop2 .inv .1, walk-on (args .a .now) (args .b .now) (loop2 .i) (omega arith) (omega arith) (c .if2 .left)))
-
-returns-3 : tie.Need-returns-3 Inv-loop μ-loop Inv-loop2 μ-loop2
-returns-3 c =
-    let args = c .before .before .before .before .before .before .before .args in
-    let loop2 = c .before .loop2 in
-    omega (arith, loop2 .inv .1, common-end (args .a .now) (args .b .now) (loop2 .i) (omega arith))
+returns-2 : tie.Need-returns-2 Inv-loop μ-loop
+returns-2 c = c .common-last .ensures ∙ sym (c .before .before .loop .inv .1)
 
 pub common-start-spec : {M : Type 1} → statement M
 common-start-spec =
@@ -113,8 +79,6 @@ common-start-spec =
     (tie.spec
     Inv-loop
     μ-loop
-    Inv-loop2
-    μ-loop2
     shorter-requires
     loop-holds
     sub-loop
@@ -126,11 +90,5 @@ common-start-spec =
     add-i
     loop-less
     loop-again
-    loop2-holds
-    shared-slice-read-if2
-    shared-slice-read-if2-2
-    returns-2
-    add-i-2
-    loop2-less
-    loop2-again
-    returns-3)
+    common-last-requires
+    returns-2)

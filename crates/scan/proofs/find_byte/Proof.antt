@@ -7,7 +7,7 @@ use native.Mathlib.Omega.{arith}
 use borrow.Author.Needs.{needs}
 use lib.ListN.{length}
 use Rattle.ground.specs.Scan.{placeFrom}
-use Rattle.ground.proofs.Laws.{place-here, place-next, place-end}
+use Rattle.ground.proofs.Laws.{place-end}
 use Rattle.scan.proofs.Laws.{place-past, place-in}
 
 abbrev Inv-loop : tie.InvT-loop
@@ -16,70 +16,47 @@ Inv-loop s from x i₀ i = (i ≤ length s) × (placeFrom x s from ≡ placeFrom
 abbrev μ-loop : tie.MeasureT-loop
 μ-loop s from x i₀ i = length s - i
 
-abbrev Inv-loop2 : tie.InvT-loop2
-Inv-loop2 s from x i₀ i = placeFrom x s from ≡ placeFrom x s i
-
-abbrev μ-loop2 : tie.MeasureT-loop2
-μ-loop2 s from x i₀ i = length s - i
-
-returns : tie.Need-returns Inv-loop μ-loop Inv-loop2 μ-loop2
+returns : tie.Need-returns Inv-loop μ-loop
 returns c = sym (place-end (c .before .before .args .x) _ _ (omega arith))
 
-loop-holds : tie.Need-loop-holds Inv-loop μ-loop Inv-loop2 μ-loop2
+loop-holds : tie.Need-loop-holds Inv-loop μ-loop
 loop-holds c = (omega arith, refl)
 
-sub-loop : tie.Need-sub-loop Inv-loop μ-loop Inv-loop2 μ-loop2
+sub-loop : tie.Need-sub-loop Inv-loop μ-loop
 sub-loop c = search needs
 
-marks-at-requires : tie.Need-marks-at-requires Inv-loop μ-loop Inv-loop2 μ-loop2
+marks-at-requires : tie.Need-marks-at-requires Inv-loop μ-loop
 marks-at-requires c κs = search needs
 
-place-requires : tie.Need-place-requires Inv-loop μ-loop Inv-loop2 μ-loop2
+place-requires : tie.Need-place-requires Inv-loop μ-loop
 place-requires c κs = search needs
 
-add-result : tie.Need-add-result Inv-loop μ-loop Inv-loop2 μ-loop2
+add-result : tie.Need-add-result Inv-loop μ-loop
 add-result c = search needs
 
-returns-2 : tie.Need-returns-2 Inv-loop μ-loop Inv-loop2 μ-loop2
+returns-2 : tie.Need-returns-2 Inv-loop μ-loop
 returns-2 c =
     let args = c .before .before .before .before .before .before .before .args in
     let loop = c .before .before .before .before .loop in
     sym (loop .inv .1 ∙ place-in (args .x) (args .s .now) (loop .i) _ (omega arith) (c .before .before .marks-at .ensures) _ (c .place .ensures .0) (c .before .if2 .taken))
 
-add-i : tie.Need-add-i Inv-loop μ-loop Inv-loop2 μ-loop2
+add-i : tie.Need-add-i Inv-loop μ-loop
 add-i c = search needs
 
-loop-less : tie.Need-loop-less Inv-loop μ-loop Inv-loop2 μ-loop2
+loop-less : tie.Need-loop-less Inv-loop μ-loop
 loop-less c = search needs
 
-loop-again : tie.Need-loop-again Inv-loop μ-loop Inv-loop2 μ-loop2
+loop-again : tie.Need-loop-again Inv-loop μ-loop
 loop-again c =
     let args = c .before .before .before .before .before .before .args in
     let loop = c .before .before .before .loop in
     (omega arith, loop .inv .1 ∙ place-past (args .x) (args .s .now) (loop .i) _ (omega arith) (c .before .marks-at .ensures) _ (c .if2 .left) (omega arith))
 
-loop2-holds : tie.Need-loop2-holds Inv-loop μ-loop Inv-loop2 μ-loop2
-loop2-holds c = c .before .loop .inv .1
+find-last-requires : tie.Need-find-last-requires Inv-loop μ-loop
+find-last-requires c κs = search needs
 
-shared-slice-read-if3 : tie.Need-shared-slice-read-if3 Inv-loop μ-loop Inv-loop2 μ-loop2
-shared-slice-read-if3 c = search needs
-
-returns-3 : tie.Need-returns-3 Inv-loop μ-loop Inv-loop2 μ-loop2
-returns-3 c = cc (place-here _ _ _ (c .before .before .loop2-test .taken) (c .if3 .taken))
-
-add-i-2 : tie.Need-add-i-2 Inv-loop μ-loop Inv-loop2 μ-loop2
-add-i-2 c = search needs
-
-loop2-less : tie.Need-loop2-less Inv-loop μ-loop Inv-loop2 μ-loop2
-loop2-less c = search needs
-
-loop2-again : tie.Need-loop2-again Inv-loop μ-loop Inv-loop2 μ-loop2
-loop2-again c = cc (place-next _ _ _ (c .before .before .loop2-test .taken) (c .if3 .left))
-
-returns-4 : tie.Need-returns-4 Inv-loop μ-loop Inv-loop2 μ-loop2
-returns-4 c =
-    let args = c .before .before .before .before .before .before .args in
-    cc (place-end (args .x) _ _ (c .loop2-test .left))
+returns-3 : tie.Need-returns-3 Inv-loop μ-loop
+returns-3 c = c .find-last .ensures ∙ sym (c .before .before .loop .inv .1)
 
 pub find-byte-spec : {M : Type 1} → statement M
 find-byte-spec =
@@ -87,8 +64,6 @@ find-byte-spec =
     (tie.spec
     Inv-loop
     μ-loop
-    Inv-loop2
-    μ-loop2
     returns
     loop-holds
     sub-loop
@@ -99,10 +74,5 @@ find-byte-spec =
     add-i
     loop-less
     loop-again
-    loop2-holds
-    shared-slice-read-if3
-    returns-3
-    add-i-2
-    loop2-less
-    loop2-again
-    returns-4)
+    find-last-requires
+    returns-3)

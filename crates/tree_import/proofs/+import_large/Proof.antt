@@ -1,11 +1,10 @@
 -- `tree_import::import_large` meets its contract: it calls itself only on a way that its `requires` shuts. Assumes nothing.
 use Prim.Native.Nat.{ℕ, _<_, _≤_}
 use native.Mathlib.Omega.{arith}
-use mathlib.Core.Path.{sym, subst}
-use lib.ListN.{length-replicate}
 use borrow.Fn.Kinds.{In}
 use borrow.Fn.PlainCycle.{Measures, is, falls, and}
 use Rattle.ground.specs.Verdict.{mostRecords}
+use Rattle.mend.proofs.Whole.{made-of, room-for, no-more}
 use Rattle.tree_import.proofs.Whole.{most-le}
 use Rattle.tree_import.proofs.import_large.Reads as import-large
 use Rattle.tree_import.proofs.import_large.Kinds as import-large-kinds
@@ -36,7 +35,7 @@ returns : (t : ℕ) → import-large-lts.Need-returns (claims t) (import-large-a
 returns t c = absurd (omega arith)
 
 slice-aggregate-import-with : (t : ℕ) → import-large-lts.Need-slice-aggregate-import-with (claims t) (import-large-at t) import-large.Post
-slice-aggregate-import-with t c = sym (length-replicate {A = ℕ} 1048576 0)
+slice-aggregate-import-with t c = made-of 1048576
 
 import-with-requires : (t : ℕ) → import-large-lts.Need-import-with-requires (claims t) (import-large-at t) import-large.Post
 import-with-requires t c κs =
@@ -44,8 +43,8 @@ import-with-requires t c κs =
       pre .0,
       (
         pre .1 .0,
-        subst (λ (k : ℕ). c .before .before .before .before .before .args .n ≤ k) (sym (length-replicate {A = ℕ} 1048576 0)) (pre .1 .1),
-        subst (λ (k : ℕ). k ≤ mostRecords) (sym (length-replicate {A = ℕ} 1048576 0)) most-le,
+        room-for 1048576 (c .before .before .before .before .before .args .n) (pre .1 .1),
+        no-more 1048576 mostRecords most-le,
       ),
     )
 

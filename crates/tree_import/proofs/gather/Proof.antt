@@ -5,7 +5,7 @@ use borrow.Author.Needs.{needs}
 use native.Mathlib.Omega.{arith}
 use Prim.Native.Nat.{_-_}
 use Rattle.ground.specs.Verdict.{mostRecords}
-use Rattle.tree_import.proofs.Walk.{Gathering, gathering-start, gathering-end, gathering-full, gathering-bad, gathering-inside, gathering-turn}
+use Rattle.tree_import.proofs.Walk.{Gathering, gathering-start, gathering-end, gathering-full, gathering-bad, gathering-inside, gathering-turn, called}
 
 abbrev Inv-loop : tie.InvT-loop
 Inv-loop text h rules folders list₀ at₀ n₀ list at n = Gathering folders rules h text list₀ list at n
@@ -17,10 +17,13 @@ loop-holds : tie.Need-loop-holds Inv-loop μ-loop
 loop-holds c = gathering-start _ _ _ _ _
 
 same-length : tie.Need-same-length Inv-loop μ-loop
-same-length c = c .before .before .loop .inv .size
+same-length c = c .before .before .before .loop .inv .size
+
+halt-requires : tie.Need-halt-requires Inv-loop μ-loop
+halt-requires c κs = search needs
 
 returns : tie.Need-returns Inv-loop μ-loop
-returns c = gathering-full _ _ _ _ _ _ _ _ (c .before .before .loop .inv) (c .before .loop-test .taken) (c .if1 .taken)
+returns c = called (c .halt .ensures) (gathering-full _ _ _ _ _ _ _ _ (c .before .before .before .loop .inv) (c .before .before .loop-test .taken) (c .before .if1 .taken))
 
 sub-record-number : tie.Need-sub-record-number Inv-loop μ-loop
 sub-record-number c = search needs
@@ -35,10 +38,13 @@ record-number-requires : tie.Need-record-number-requires Inv-loop μ-loop
 record-number-requires c κs = search needs
 
 same-length-2 : tie.Need-same-length-2 Inv-loop μ-loop
-same-length-2 c = c .before .before .before .before .before .loop .inv .size
+same-length-2 c = c .before .before .before .before .before .before .loop .inv .size
+
+halt-requires-2 : tie.Need-halt-requires-2 Inv-loop μ-loop
+halt-requires-2 c κs = search needs
 
 returns-2 : tie.Need-returns-2 Inv-loop μ-loop
-returns-2 c = gathering-bad _ _ _ _ _ _ _ _ (c .before .before .before .before .before .loop .inv) (c .before .before .before .before .loop-test .taken) (c .before .before .before .if1 .left) (c .before .record-number .ensures) (c .if2 .taken)
+returns-2 c = called (c .halt2 .ensures) (gathering-bad _ _ _ _ _ _ _ _ (c .before .before .before .before .before .before .loop .inv) (c .before .before .before .before .before .loop-test .taken) (c .before .before .before .before .if1 .left) (c .before .before .record-number .ensures) (c .before .if2 .taken))
 
 sub-element : tie.Need-sub-element Inv-loop μ-loop
 sub-element c = search needs
@@ -95,12 +101,14 @@ gather-spec =
     Inv-loop
     μ-loop
     loop-holds
+    halt-requires
     same-length
     returns
     sub-record-number
     part-record-number-start
     part-record-number-end
     record-number-requires
+    halt-requires-2
     same-length-2
     returns-2
     sub-element

@@ -6,6 +6,7 @@ use native.Mathlib.Omega.{arith}
 use mathlib.Core.Path.{sym, ap, _∙_}
 use lib.Seq.{length-take-le}
 use Rattle.ground.specs.declared.Verdict.{Verdict}
+use Rattle.tree_import.proofs.Walk.{called}
 use Rattle.tree_import.proofs.Whole.{with-list, with-refused, with-short, with-done}
 
 judge-requires : tie.Need-judge-requires
@@ -26,11 +27,14 @@ slice-aggregate-measure c = sym (length-take-le _ _ (c .before .before .before .
 measure-requires : tie.Need-measure-requires
 measure-requires c κs = let w = with-list (c .before .before .before .before .before .before .before .before .before .args .rules) (c .before .before .before .before .before .before .before .before .before .args .h) (c .before .before .before .before .before .before .before .before .before .args .text .now) (c .before .before .before .before .before .before .before .before .before .pre .0 .0) (c .before .before .before .before .before .before .before .before .before .args .n) (c .before .before .before .before .before .before .before .before .before .pre .1 .0) (omega (arith, c .before .before .before .before .before .before .before .before .before .pre .1 .1, c .before .before .before .before .before .before .before .before .before .pre .1 .2)) _ (c .before .before .before .before .judge .ensures .1 .1) in ((c .before .before .before .before .before .before .before .before .before .pre .0 .0, c .before .before .before .before .before .before .before .before .before .pre .0 .1, w .0), w .1)
 
+halt-requires : tie.Need-halt-requires
+halt-requires c κs = search needs
+
 same-length-2 : tie.Need-same-length-2
 same-length-2 c = search needs
 
 returns-2 : tie.Need-returns-2
-returns-2 c = with-short (c .before .before .before .before .before .before .before .before .before .before .before .args .rules) (c .before .before .before .before .before .before .before .before .before .before .before .args .h) (c .before .before .before .before .before .before .before .before .before .before .before .args .text .now) (c .before .before .before .before .before .before .before .before .before .before .before .args .out .now) (c .before .before .before .before .before .before .before .before .before .before .before .pre .0 .0) (c .before .before .before .before .before .before .before .before .before .before .before .pre .0 .2) (sym (ap (λ (v : Verdict). v .number) (c .before .before .before .before .before .before .judge .ensures .0)) ∙ c .before .before .before .if1 .left) _ (c .before .before .before .before .before .before .judge .ensures .1 .1) _ (c .before .measure .ensures) (c .if2 .taken)
+returns-2 c = called (c .halt .ensures) (with-short (c .before .before .before .before .before .before .before .before .before .before .before .before .args .rules) (c .before .before .before .before .before .before .before .before .before .before .before .before .args .h) (c .before .before .before .before .before .before .before .before .before .before .before .before .args .text .now) (c .before .before .before .before .before .before .before .before .before .before .before .before .args .out .now) (c .before .before .before .before .before .before .before .before .before .before .before .before .pre .0 .0) (c .before .before .before .before .before .before .before .before .before .before .before .before .pre .0 .2) (sym (ap (λ (v : Verdict). v .number) (c .before .before .before .before .before .before .before .judge .ensures .0)) ∙ c .before .before .before .before .if1 .left) _ (c .before .before .before .before .before .before .before .judge .ensures .1 .1) _ (c .before .before .measure .ensures) (c .before .if2 .taken))
 
 slice-reshare-prefix-write-all : tie.Need-slice-reshare-prefix-write-all
 slice-reshare-prefix-write-all c = c .before .before .before .before .before .before .before .judge .ensures .1 .0
@@ -60,6 +64,7 @@ import-with-spec =
     slice-reshare-prefix-measure
     slice-aggregate-measure
     measure-requires
+    halt-requires
     same-length-2
     returns-2
     slice-reshare-prefix-write-all

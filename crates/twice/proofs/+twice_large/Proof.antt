@@ -35,8 +35,8 @@ slice-aggregate-twice-with t c = sym (length-replicate {A = ℕ} 1048576 0)
 
 twice-with-requires : (t : ℕ) → twice-large-lts.Need-twice-with-requires (claims t) (twice-large-at t) twice-large.Post
 twice-with-requires t c κs =
-    let pre = c .before .before .before .pre .1 in
-    (pre .0, (subst (λ (k : ℕ). c .before .before .before .args .count ≤ k) (sym (length-replicate {A = ℕ} 1048576 0)) (pre .1 .0), pre .1 .1))
+    let pre = c .before .before .before .before .pre .1 in
+    (pre .0, (subst (λ (k : ℕ). c .before .before .before .before .args .k .count ≤ k) (sym (length-replicate {A = ℕ} 1048576 0)) (pre .1 .0), pre .1 .1))
 
 returns-2 : (t : ℕ) → twice-large-lts.Need-returns-2 (claims t) (twice-large-at t) twice-large.Post
 returns-2 t c = c .before .twice-with .ensures

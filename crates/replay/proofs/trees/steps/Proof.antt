@@ -7,10 +7,10 @@ use Prim.Native.Nat.{_-_}
 use lib.ListN.{length}
 
 abbrev Inv-loop : tie.InvT-loop
-Inv-loop a h from p₀ at₀ to₀ found₀ p at to found = length p ≡ length p₀
+Inv-loop object h from p₀ at₀ to₀ found₀ p at to found = length p ≡ length p₀
 
 abbrev μ-loop : tie.MeasureT-loop
-μ-loop a h from p₀ at₀ to₀ found₀ p at to found = 16384 - found
+μ-loop object h from p₀ at₀ to₀ found₀ p at to found = 16384 - found
 
 loop-holds : tie.Need-loop-holds Inv-loop μ-loop
 loop-holds c = refl
@@ -18,11 +18,20 @@ loop-holds c = refl
 step-requires : tie.Need-step-requires Inv-loop μ-loop
 step-requires c κs = search needs
 
+array-read-if1 : tie.Need-array-read-if1 Inv-loop μ-loop
+array-read-if1 c = search needs
+
 same-length : tie.Need-same-length Inv-loop μ-loop
 same-length c = search needs
 
 returns : tie.Need-returns Inv-loop μ-loop
 returns c = search needs
+
+set-record-requires : tie.Need-set-record-requires Inv-loop μ-loop
+set-record-requires c κs = search needs
+
+array-read-at : tie.Need-array-read-at Inv-loop μ-loop
+array-read-at c = search needs
 
 wrapping-add-usize-requires : tie.Need-wrapping-add-usize-requires Inv-loop μ-loop
 wrapping-add-usize-requires c κs = search needs
@@ -50,8 +59,11 @@ steps-spec =
     μ-loop
     loop-holds
     step-requires
+    array-read-if1
     same-length
     returns
+    set-record-requires
+    array-read-at
     wrapping-add-usize-requires
     add-found
     loop-less

@@ -1,0 +1,4 @@
+pub mod Parents
+pub mod Headers
+pub mod Fields
+pub mod Outcome

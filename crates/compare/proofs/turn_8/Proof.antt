@@ -1,0 +1,32 @@
+use borrow.Author.Needs.{needs}
+use Rattle.compare.proofs.turn_8.Statement.{statement}
+use Rattle.compare.proofs.turn_8.Tie as tie
+use Rattle.compare.proofs.turn_8.Reads as reads
+use Rattle.compare.proofs.turn_8.Lts as lts
+use Rattle.compare.proofs.turn_4.Reads as turn-4-reads
+use Prim.Native.Nat.{_/_}
+use native.Mathlib.Omega.{arith}
+use Rattle.compare.proofs.Laws.{turned-small, turned-eight}
+
+-- src/lib.rt:60:5
+turn-4-requires : tie.Need-turn-4-requires
+turn-4-requires c κs = search needs
+
+-- src/lib.rt:60:5
+mul-result : tie.Need-mul-result
+mul-result c = omega (arith, c .turn-4 .ensures, turned-small 4 (c .before .args .w))
+
+-- src/lib.rt:60:30
+turn-4-requires-2 : tie.Need-turn-4-requires-2
+turn-4-requires-2 c κs = search needs
+
+-- src/lib.rt:60:5
+add-result : tie.Need-add-result
+add-result c = omega (arith, c .before .turn-4 .ensures, c .turn-42 .ensures, turned-small 4 (c .before .before .args .w), turned-small 4 (c .before .before .args .w / 4294967296))
+
+-- src/lib.rt:57:1
+returns : tie.Need-returns
+returns c = rw (c .before .turn-4 .ensures, c .turn-42 .ensures) (turned-eight (c .before .before .args .w))
+
+pub turn-8-spec : {M : Type 1} → statement M
+turn-8-spec = tie.close (tie.spec turn-4-requires mul-result turn-4-requires-2 add-result returns)

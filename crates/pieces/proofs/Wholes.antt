@@ -1,0 +1,395 @@
+-- Laws of the leaves that take whole entries of a piece. Assumes nothing.
+use Prim.Native.Nat.{ℕ, _+_, _-_, _/_, _%_, _≤_, _<_, min}
+use native.Mathlib.Decide.{decLt}
+use native.Mathlib.Omega.{arith}
+use mathlib.Core.Path.{_≡_, refl, ap, sym, _∙_}
+use mathlib.Core.Bool.{Bool, true, false}
+use mathlib.Core.List.{List, [], _∷_}
+use lib.Dec.{eqb, leb}
+use lib.ListN.{length, getD, take, drop, replicate, length-take, length-drop}
+use lib.Seq.{sets, drop-drop, take-take}
+use borrow.Author.Tests.{eq-eqb, ne-eqb, eqb-true, eqb-false, leb-true}
+use Rattle.ground.specs.Basics.{pick, part}
+use Rattle.ground.specs.Scan.{countTo, placeFrom, commonStart}
+use Rattle.ground.specs.Verdict.{verdict, fine, mostBytes, mostRecords}
+use Rattle.ground.specs.declared.Verdict.{Verdict}
+use Rattle.mode.specs.Mode.{isTree}
+use Rattle.mode.specs.Read.{readMode, readModeAt, moved}
+use Rattle.mode.specs.declared.ModeRead.{ModeRead}
+use Rattle.mode.specs.declared.ModeRead.the-variants.{Mode, Bad}
+use Rattle.mode.specs.declared.EntryMode.{EntryMode}
+use Rattle.mode.proofs.Laws.{eight-decide, read-next}
+use Rattle.mode_code.specs.Code.{codeAt, quickAt}
+use Rattle.mode_code.proofs.Laws.{quick-is-code, code-mode, code-inside}
+use Rattle.order.specs.Order.{nameOrder}
+use Rattle.order.specs.declared.Order.{Order}
+use Rattle.order.specs.declared.Order.the-variants.{Below, Same, Above}
+use Rattle.doubles.specs.Stack.{openAt, marksAt, isDouble, ifBelow, placeOf, marksOf}
+use Rattle.doubles.specs.declared.Placed.{Placed}
+use Rattle.doubles.specs.declared.Placed.the-variants.{Fine, NotAfter, Double}
+use Rattle.rules.specs.Rules.{isText, modesOf, bareNumber}
+use Rattle.rules.proofs.Laws.{name-empty, number-bad}
+use Rattle.strict.specs.Strict.{textOf}
+use Rattle.strict.proofs.Judging.{mode-quick}
+use Rattle.arriving.specs.Feed.{mostHeld, together, fresh, feedOf, stepOf}
+use Rattle.arriving.specs.Bulk.{Took}
+use Rattle.arriving.specs.declared.Phase.{Phase}
+use Rattle.arriving.specs.declared.Phase.the-variants.{Head}
+use Rattle.arriving.specs.declared.Marks.{Marks}
+use Rattle.arriving.specs.declared.Check.{Check}
+use Rattle.arriving.specs.declared.Taken.{Taken}
+use Rattle.arriving.proofs.Steps.{st}
+use Rattle.arriving.proofs.Laws.{feed-turn, feed-end}
+use Rattle.pieces.specs.Wholes.{Whole, heldAfter, Runs, between, headAfter, rest, Went, Between, ranOf}
+use Rattle.pieces.specs.declared.Seen.{Seen}
+use Rattle.pieces.specs.declared.Run.{Run}
+use Rattle.pieces.proofs.Entry.{entry-fine, entry-double}
+
+-- ---- an entry that is seen
+
+-- what is read at a place, without the place
+read-there : (at n : ℕ) (m : EntryMode) (r : ModeRead) → moved at r ≡ Mode m (at + n) → r ≡ Mode m n
+read-there at n m (Mode k i) e =
+    let z : at + i ≡ at + n = cc in
+    let y : i ≡ n = omega arith in
+    let x : k ≡ m = cc in
+    rw (x, y)
+read-there at n m Bad e = let z : _≡_ {A = ℕ} 0 1 = cc in absurd (omega arith)
+
+module _ (s : List ℕ) (i h code : ℕ) (q : code ≡ quickAt s i) (n : code ≡ 0 → ⊥) where
+  code-is : codeAt s i ≡ code
+  code-is = quick-is-code s i (λ z. n (q ∙ z)) ∙ sym q
+
+  some-code : codeAt s i ≡ 0 → ⊥
+  some-code z = n (sym code-is ∙ z)
+
+  reads-mode : readMode (drop i s) ≡ Mode (record { internal = code / 16 }) (code % 16)
+  unfolding readModeAt
+  reads-mode = read-there i (code % 16) (record { internal = code / 16 }) (readMode (drop i s)) (code-mode s i some-code ∙ rw code-is)
+
+  pub code-fits : (1 ≤ code % 16) × (i + code % 16 ≤ length s) × (code / 16 < 65536) × (code < 1048576)
+  code-fits = rw code-is at (code-inside s i some-code)
+
+  pub whole-is : (end : ℕ) → end ≡ placeFrom 0 s (i + code % 16) → h < length s - end → end - (i + code % 16) ≤ mostHeld → (number : ℕ)
+      → number ≡ bareNumber (part (i + code % 16) end s) → number ≡ 0 → (folder : Bool) → folder ≡ isTree (code / 16)
+      → Whole s i h (record { start = i + code % 16; end = end; folder = folder })
+  unfolding textOf
+  whole-is end e w l number u z folder f =
+      let y : i + code % 16 - i ≡ code % 16 = omega arith in
+      record {
+        mode = code / 16;
+        reads = reads-mode ∙ ap (Mode (record { internal = code / 16 })) (sym y);
+        starts = omega (arith, code-fits);
+        written = λ k. mode-quick k s i (record { mode = 0; «name_start» = i + code % 16; «name_end» = 0; «id_start» = 0; «text_start» = 0 })
+            (λ v. n (q ∙ v)) (ap (λ (v : ℕ). i + v % 16) (sym code-is));
+        sort = f;
+        ends = e;
+        whole = w;
+        small = l;
+        named = sym u ∙ z;
+      }
+
+-- it lies inside
+pub seen-within : (s : List ℕ) (i h : ℕ) (e : Seen) → Whole s i h e → (e .start ≤ e .end) × (e .end ≤ length s) × (e .end + 1 + h ≤ length s)
+unfolding placeFrom
+seen-within s i h e o = (omega (arith, o .ends), omega (arith, o .whole), omega (arith, o .whole))
+
+-- ---- entries that are taken
+
+not-empty : (n : List ℕ) → bareNumber n ≡ 0 → 0 < length n
+not-empty [] p = absurd (omega (arith, number-bad [] (name-empty [] refl)))
+not-empty (x ∷ n) p = omega arith
+
+-- what is not placed leaves the open names
+not-left : (o : Order) (v : Bool) (n : ℕ) (x a : List ℕ) → ifBelow o (pick v Double (Fine n)) NotAfter ≡ NotAfter → ifBelow o x a ≡ a
+not-left Below true n x a e = let z : _≡_ {A = ℕ} 0 1 = cc in absurd (omega arith)
+not-left Below false n x a e = let z : _≡_ {A = ℕ} 0 1 = cc in absurd (omega arith)
+not-left Same v n x a e = refl
+not-left Above v n x a e = refl
+
+-- nothing is taken
+pub went-none : (held ends : List ℕ) (r : Run) (s : List ℕ) (h : ℕ) → Runs s h r → Went held ends r s h held ends r
+went-none held ends r s h w =
+    record {
+      same = λ k at head e b.
+          let z : at + (r .next - r .next) ≡ at = omega arith in
+          rw (w .single, eq-eqb (r .next) (r .next) refl, z);
+      from = omega arith;
+      within = w .within;
+      some = w .after;
+      fits = w .fits;
+    }
+
+st-same : (k ended h count : ℕ) (left : List ℕ) {a b size size' : ℕ} {folder folder' : Bool} {held held' head head' xs xs' : List ℕ} → a ≡ b → held ≡ held'
+    → size ≡ size' → folder ≡ folder' → head ≡ head' → xs ≡ xs'
+    → feedOf (st k left ended held h a a count (record { size = size; folder = folder }) head (Head 0)) xs
+    ≡ feedOf (st k left ended held' h b b count (record { size = size'; folder = folder' }) head' (Head 0)) xs'
+st-same k ended h count left p q f g u v = rw (p, q, f, g, u, v)
+
+module _ (held ends : List ℕ) (r : Run) (s : List ℕ) (h : ℕ) (w : Runs s h r) (few : r .count < mostRecords) (room : length held ≡ mostHeld) (e : Seen)
+    (o : Whole s (r .next) h e) (p : Placed) (q : p ≡ placeOf ends (r .ended) (take (r .last .size) held) (r .last .folder) (part (e .start) (e .end) s)
+    (e .folder))
+    (left : List ℕ) (f : left ≡ marksOf ends (r .ended) (take (r .last .size) held) (r .last .folder) (part (e .start) (e .end) s) (e .folder))
+    (after : List ℕ) (d : after ≡ heldAfter p held (part (e .start) (e .end) s)) where
+  abbrev xs· : List ℕ
+  xs· = drop (r .next) s
+
+  abbrev n· : ℕ
+  n· = e .start - r .next
+
+  abbrev m· : EntryMode
+  m· = record { internal = o .mode }
+
+  long-is : length xs· ≡ length s - r .next
+  long-is = length-drop (r .next) s
+
+  name-at : drop n· xs· ≡ drop (e .start) s
+  name-at =
+      let z : r .next + (e .start - r .next) ≡ e .start = omega (arith, o .starts) in
+      drop-drop n· (r .next) s ∙ ap (λ (i : ℕ). drop i s) z
+
+  name-long : length (drop n· xs·) ≡ length s - e .start
+  name-long = ap length name-at ∙ length-drop (e .start) s
+
+  size-is : countTo 0 (drop n· xs·) ≡ e .end - e .start
+  unfolding placeFrom
+  size-is = ap (countTo 0) name-at ∙ omega (arith, o .ends)
+
+  end-after : e .start ≤ e .end
+  unfolding placeFrom
+  end-after = omega (arith, o .ends)
+
+  name-is : take (countTo 0 (drop n· xs·)) (drop n· xs·) ≡ part (e .start) (e .end) s
+  name-is = rw (size-is, name-at)
+
+  text-is : (k : ℕ) → isText (modesOf k) (take (n· - 1) (take 8 xs·)) ≡ true
+  text-is k =
+      let u = read-next (take 8 xs·) (o .mode) n· (eight-decide xs· ∙ o .reads) in
+      let z : e .start - 1 - r .next ≡ n· - 1 = omega arith in
+      let t : take (n· - 1) (take 8 xs·) ≡ take (n· - 1) xs· = take-take (n· - 1) 8 xs· (omega (arith, u, length-take 8 xs·)) in
+      ap (isText (modesOf k)) (t ∙ ap (λ (j : ℕ). take j xs·) (sym z)) ∙ o .written k
+
+  place-is : p ≡ placeOf ends (r .ended) (take (r .last .size) held) (r .last .folder) (take (countTo 0 (drop n· xs·)) (drop n· xs·)) (isTree (m· .internal))
+  place-is = q ∙ rw (o .sort, name-is)
+
+  left-is : left ≡ marksOf ends (r .ended) (take (r .last .size) held) (r .last .folder) (take (countTo 0 (drop n· xs·)) (drop n· xs·)) (isTree (m· .internal))
+  left-is = f ∙ rw (o .sort, name-is)
+
+  named-is : bareNumber (take (countTo 0 (drop n· xs·)) (drop n· xs·)) ≡ 0
+  named-is = ap bareNumber name-is ∙ o .named
+
+  whole-long : countTo 0 (drop n· xs·) + 1 + h ≤ length (drop n· xs·)
+  whole-long = omega (arith, size-is, name-long, o .whole, end-after)
+
+  small-is : countTo 0 (drop n· xs·) ≤ mostHeld
+  small-is = omega (arith, size-is, o .small)
+
+  size-long : length (part (e .start) (e .end) s) ≡ e .end - e .start
+  size-long = length-take (e .end - e .start) (drop (e .start) s) ∙ omega (arith, length-drop (e .start) s, o .whole)
+
+  pub went-fine : (i : ℕ) → p ≡ Fine i
+      → Went held ends r s h after left
+      (record { next = e .end + 1 + h; count = r .count + 1; last = record { size = e .end - e .start; folder = e .folder }; ended = i; double = false })
+  went-fine i u =
+      record {
+        same = λ k at head v b.
+            let a : at + (n· + (countTo 0 (drop n· xs·) + 1 + h)) ≡ at + (e .end + 1 + h - r .next) = omega (arith, size-is, end-after, o .starts) in
+            let z : r .next + (n· + (countTo 0 (drop n· xs·) + 1 + h)) ≡ e .end + 1 + h = omega (arith, size-is, end-after, o .starts) in
+            entry-fine k ends (r .ended) h at (r .count) (r .last) held head xs· room (w .fits) m· n· v few (w .long) (o .reads)
+            (omega (arith, long-is)) small-is whole-long
+            (text-is k) named-is (w .after) p place-is (λ y. fine-not i (sym u ∙ y)) left left-is i u
+            ∙ st-same k i h (r .count + 1) left a (ap (sets held 0) name-is ∙ sym
+            (d ∙ ap (λ (y : Placed). heldAfter y held (part (e .start) (e .end) s)) u)) size-is (sym (o .sort))
+            (sym (ap (λ (y : Bool). pick y head (replicate 8 0)) (ne-eqb (e .end + 1 + h) (r .next) (λ y. omega (arith, end-after, o .starts)))))
+            (drop-drop (n· + (countTo 0 (drop n· xs·) + 1 + h)) (r .next) s ∙ ap (λ (j : ℕ). drop j s) z);
+        from = omega (arith, end-after, o .starts);
+        within = omega (arith, o .whole);
+        some = omega (arith, size-long, not-empty (part (e .start) (e .end) s) (o .named));
+        fits = o .small;
+      }
+    where
+      fine-not : (i : ℕ) → Fine i ≡ NotAfter → ⊥
+      fine-not i y = let z : _≡_ {A = ℕ} 0 1 = cc in absurd (omega arith)
+
+  pub went-double : p ≡ Double
+      → Went held ends r s h after left (record { next = r .next; count = r .count; last = r .last; ended = r .ended; double = true })
+  went-double u =
+      record {
+        same = λ k at head v b.
+            let z : at ≡ at + (r .next - r .next) = omega arith in
+            entry-double k ends (r .ended) h at (r .count) (r .last) held head xs· room (w .fits) m· n· v few (w .long) (o .reads)
+            (omega (arith, long-is)) small-is whole-long
+            (text-is k) named-is (w .after) p place-is (λ y. double-not (sym u ∙ y)) left left-is u
+            ∙ ap (λ (y : List ℕ). together y left (fresh h k (verdict 17 at)))
+            (ap (sets held 0) name-is ∙ sym (d ∙ ap (λ (y : Placed). heldAfter y held (part (e .start) (e .end) s)) u))
+            ∙ ap (λ (j : ℕ). together after left (fresh h k (verdict 17 j))) z;
+        from = omega arith;
+        within = w .within;
+        some = w .after;
+        fits = w .fits;
+      }
+    where
+      double-not : Double ≡ NotAfter → ⊥
+      double-not y = let z : _≡_ {A = ℕ} 0 1 = cc in absurd (omega arith)
+
+  -- it stands below: nothing is taken
+  pub went-not : p ≡ NotAfter → Went held ends r s h after left r
+  unfolding placeOf marksOf
+  went-not u =
+      let x : after ≡ held = d ∙ ap (λ (y : Placed). heldAfter y held (part (e .start) (e .end) s)) u in
+      let a : List ℕ = take (r .last .size) held in
+      let n : List ℕ = part (e .start) (e .end) s in
+      let i : ℕ = min (r .ended) (length ends) in
+      let j : ℕ = commonStart a n in
+      let y : left ≡ ends
+      = f ∙ not-left (nameOrder a (r .last .folder) n (e .folder))
+      (isDouble (marksAt ends i j (length a) (r .last .folder)) (openAt ends i j (length a) (r .last .folder)) (length n) (e .folder))
+      (openAt ends i j (length a) (r .last .folder)) (marksAt ends i j (length a) (r .last .folder)) ends (sym q ∙ u) in
+      rw (x, y) (went-none held ends r s h w)
+
+-- one after the other
+module _ (held ends : List ℕ) (r : Run) (s : List ℕ) (h : ℕ) (middle open· : List ℕ) (t : Run) (a : Went held ends r s h middle open· t)
+    (single : t .double ≡ false)
+    (after left : List ℕ) (u : Run) (b : Went middle open· t s h after left u) where
+  head-twice : (head : List ℕ) → headAfter (headAfter head (r .next) (t .next)) (t .next) (u .next) ≡ headAfter head (r .next) (u .next)
+  head-twice head = go (eqb (u .next) (t .next)) refl (eqb (t .next) (r .next)) refl
+    where
+      go : (v : Bool) → eqb (u .next) (t .next) ≡ v → (w : Bool) → eqb (t .next) (r .next) ≡ w
+          → pick v (pick w head (replicate 8 0)) (replicate 8 0) ≡ headAfter head (r .next) (u .next)
+      go true e true g =
+          let i = eqb-true (u .next) (t .next) e in
+          let j = eqb-true (t .next) (r .next) g in
+          sym (ap (λ (y : Bool). pick y head (replicate 8 0)) (eq-eqb (u .next) (r .next) (i ∙ j)))
+      go true e false g =
+          let i = eqb-true (u .next) (t .next) e in
+          let j = eqb-false (t .next) (r .next) g in
+          sym (ap (λ (y : Bool). pick y head (replicate 8 0)) (ne-eqb (u .next) (r .next) (λ z. j (sym i ∙ z))))
+      go false e w g =
+          let i = eqb-false (u .next) (t .next) e in
+          sym (ap (λ (y : Bool). pick y head (replicate 8 0)) (ne-eqb (u .next) (r .next) (λ z. i (omega (arith, a .from, b .from)))))
+
+  head-eight : (head : List ℕ) → length head ≡ 8 → length (headAfter head (r .next) (t .next)) ≡ 8
+  head-eight head e = go (eqb (t .next) (r .next))
+    where
+      go : (v : Bool) → length (pick v head (replicate 8 0)) ≡ 8
+      go true = e
+      go false = refl
+
+  pub went-then : Went held ends r s h after left u
+  went-then =
+      record {
+        same = λ k at head e w.
+            let z : at + (t .next - r .next) + (u .next - t .next) ≡ at + (u .next - r .next) = omega (arith, a .from, b .from) in
+            a .same k at head e w
+            ∙ ap (λ (v : Bool). pick v (together middle open· (fresh h k (verdict 17 (at + (t .next - r .next)))))
+            (feedOf (between k h (at + (t .next - r .next)) t (headAfter head (r .next) (t .next)) middle open·) (drop (t .next) s))) single
+            ∙ b .same k (at + (t .next - r .next)) (headAfter head (r .next) (t .next)) (head-eight head e) (omega (arith, a .from, a .within))
+            ∙ ap (λ (j : ℕ). rest k h j u (headAfter (headAfter head (r .next) (t .next)) (t .next) (u .next)) after left s) z
+            ∙ ap (λ (y : List ℕ). rest k h (at + (u .next - r .next)) u y after left s) (head-twice head);
+        from = omega (arith, a .from, b .from);
+        within = b .within;
+        some = b .some;
+        fits = b .fits;
+      }
+
+-- they may go on
+pub runs-next : (held ends : List ℕ) (r : Run) (s : List ℕ) (h : ℕ) (after left : List ℕ)
+    (t : Run) → Runs s h r → Went held ends r s h after left t → t .double ≡ false
+    → Runs s h t
+runs-next held ends r s h after left t w g d = record { long = w .long; within = g .within; single = d; after = g .some; fits = g .fits }
+
+-- ---- where an entry begins
+
+pub fine-is : (v : Verdict) → v .number ≡ 0 → v .place ≡ 0 → eqb (v .part) 0 ≡ true → v ≡ fine
+fine-is v a b c =
+    ap (λ (i : ℕ). record { number = i; place = v .place; part = v .part }) a ∙ ap (λ (i : ℕ). record { number = 0; place = i; part = v .part }) b
+    ∙ ap (λ (i : ℕ). record { number = 0; place = 0; part = i }) (eqb-true (v .part) 0 c)
+
+pub next-is : (p : Phase) (k : ℕ) → p ≡ Head k → eqb k 0 ≡ true → p ≡ Head 0
+next-is p k e z = e ∙ ap Head (eqb-true k 0 z)
+
+pub after-is : (size : ℕ) → (size ≡ 0 → ⊥) → leb size mostHeld ≡ true → (0 < size) × (size ≤ mostHeld)
+after-is size n e = (omega arith, leb-true size mostHeld e)
+
+pub first-is : (at left : ℕ) → at ≤ mostBytes → leb left (mostBytes - at) ≡ true → at + left ≤ mostBytes
+first-is at left w e = let u = leb-true left (mostBytes - at) e in omega arith
+
+pub head-same : (head : List ℕ) (i next : ℕ) → next ≡ i → head ≡ headAfter head i next
+head-same head i next e = rw (eq-eqb next i e)
+
+pub head-new : (head : List ℕ) (i next : ℕ) → (next ≡ i → ⊥) → replicate 8 0 ≡ headAfter head i next
+head-new head i next e = rw (ne-eqb next i e)
+
+-- ---- bytes of a piece
+
+-- the marks where an entry begins
+module _ (m : Marks) (left : ℕ) (b : Between m left) where
+  abbrev made : Verdict → ℕ → Phase → Marks
+  made v f p =
+      record {
+        verdict = v;
+        h = m .h;
+        rules = m .rules;
+        at = m .at;
+        first = f;
+        count = m .count;
+        last = m .last;
+        ended = m .ended;
+        head = m .head;
+        phase = p;
+      }
+
+  marks-are : (held ends : List ℕ) → together held ends m ≡ together held ends (made fine (m .at) (Head 0))
+  marks-are held ends =
+      ap (λ (v : Verdict). together held ends (made v (m .first) (m .phase))) (b .open·)
+      ∙ ap (λ (f : ℕ). together held ends (made fine f (m .phase))) (b .first .0)
+      ∙ ap (λ (p : Phase). together held ends (made fine (m .at) p)) (b .next)
+
+pub took-ran : (held ends : List ℕ) (m : Marks) (s : List ℕ) (i : ℕ) → i ≤ length s → Between m (length s - i) → length
+    (m .head) ≡ 8 → (after left : List ℕ) (t : Run)
+    → Went held ends (record { next = i; count = m .count; last = m .last; ended = m .ended; double = false }) s (m .h) after left t → (x : Taken)
+    → x ≡ ranOf m (m .head) (length s) i t → Took held ends m s i after left x
+took-ran held ends m s i w b e after left t g x q = go (t .double) refl
+  where
+    same : feedOf (together held ends m) (drop i s) ≡ rest (m .rules) (m .h) (m .at + (t .next - i)) t (headAfter (m .head) i (t .next)) after left s
+    same = ap (λ (c : Check). feedOf c (drop i s)) (marks-are m (length s - i) b held ends) ∙ g .same (m .rules) (m .at) (m .head) e (b .first .1)
+
+    stops : Check
+    stops = together after left (fresh (m .h) (m .rules) (verdict 17 (m .at + (t .next - i))))
+
+    goes : Check
+    goes = between (m .rules) (m .h) (m .at + (t .next - i)) t (headAfter (m .head) i (t .next)) after left
+
+    by : (v : Bool) → t .double ≡ v → x ≡ pick v (record { marks = stops .marks; next = length s }) (record { marks = goes .marks; next = t .next })
+    by v z = q ∙ ap (λ (v : Bool). pick v (record { marks = stops .marks; next = length s }) (record { marks = goes .marks; next = t .next })) z
+
+    then : (v : Bool) → t .double ≡ v → feedOf (together held ends m) (drop i s) ≡ pick v stops (feedOf goes (drop (t .next) s))
+    then v z = same ∙ ap (λ (v : Bool). pick v stops (feedOf goes (drop (t .next) s))) z
+
+    go : (v : Bool) → t .double ≡ v → Took held ends m s i after left x
+    go true z =
+        rw (by true z) (record { same = then true z ∙ sym (feed-end stops s (length s) (omega arith)); from = w; within = omega arith })
+    go false z = rw (by false z) (record { same = then false z; from = g .from; within = g .within })
+
+pub ran-double : (m : Marks) (first : List ℕ) (all i : ℕ) (t : Run) → t .double ≡ true → (x : Marks) → x ≡ fresh (m .h) (m .rules)
+    (verdict 17 (m .at + (t .next - i)))
+    → record { marks = x; next = all } ≡ ranOf m first all i t
+ran-double m first all i t z x e = rw (z, e)
+
+pub ran-on : (m : Marks) (first : List ℕ) (all i : ℕ) (t : Run) → t .double ≡ false → (head : List ℕ) → head ≡ headAfter first i (t .next)
+    → record { marks = between (m .rules) (m .h) (m .at + (t .next - i)) t head [] [] .marks; next = t .next } ≡ ranOf m first all i t
+ran-on m first all i t z head e = rw (z, e)
+
+pub took-then : (held ends : List ℕ) (m : Marks) (s : List ℕ) (i : ℕ) (middle open· : List ℕ) (x : Taken) (after left : List ℕ) (y : Taken)
+    → Took held ends m s i middle open· x → Took middle open· (x .marks) s (x .next) after left y → Took held ends m s i after left y
+took-then held ends m s i middle open· x after left y a b =
+    record { same = a .same ∙ b .same; from = omega (arith, a .from, b .from); within = b .within }
+
+-- a turn goes on: to the end, or past one byte more
+pub turn-more : (i a b c all : ℕ) → i < all → i ≤ a → a ≤ b → b ≤ all → b ≤ c → (b < all → b < c) → i < c
+turn-more i a b c all p q r s t f = elim (decLt b all) [ yes w ↦ let u = f w in omega arith | no w ↦ omega arith ]
+
+pub took-step : (held ends : List ℕ) (m : Marks) (s : List ℕ) (i : ℕ) → i < length s → (after left : List ℕ) (x : Marks)
+    → together after left x ≡ stepOf (together held ends m) (getD s i 0) → Took held ends m s i after left (record { marks = x; next = i + 1 })
+took-step held ends m s i w after left x e =
+    record { same = feed-turn (together held ends m) s i w (together after left x) e; from = omega arith; within = omega arith }

@@ -1,0 +1,70 @@
+-- `pieces::stand_level` meets its contract. Assumes nothing.
+use borrow.Author.Needs.{needs}
+use Rattle.pieces.proofs.stand_level.Statement.{statement}
+use Rattle.pieces.proofs.stand_level.Tie as tie
+use Rattle.pieces.proofs.stand_level.Reads as reads
+use Rattle.pieces.proofs.stand_level.Lts as lts
+use Rattle.pieces.proofs.differs.Reads as differs-reads
+use Rattle.pieces.proofs.shorter.Reads as shorter-reads
+use Rattle.scan.proofs.common_start.Reads as common-start-reads
+use native.Mathlib.Omega.{arith}
+use Rattle.ground.specs.Basics.{part}
+use Rattle.ground.proofs.Laws.{common-right}
+use Rattle.pieces.proofs.Stands.{level-past, level-none, level-some}
+
+shorter-requires : tie.Need-shorter-requires
+shorter-requires c κs = search needs
+
+differs-requires : tie.Need-differs-requires
+differs-requires c κs = search needs
+
+returns : tie.Need-returns
+returns c = let x = c .before .before .before .before .before .args in level-past (x .held .now) (x .last) (x .size) (x .shared) (x .some .now) (c .before .before .before .before .before .pre) _ (c .before .before .shorter .ensures) _ (c .before .if1 .taken) (c .differs .ensures)
+
+sub-common-start : tie.Need-sub-common-start
+sub-common-start c = search needs
+
+part-common-start-start : tie.Need-part-common-start-start
+part-common-start-start c = search needs
+
+part-common-start-end : tie.Need-part-common-start-end
+part-common-start-end c = search needs
+
+common-start-requires : tie.Need-common-start-requires
+common-start-requires c κs = search needs
+
+differs-requires-2 : tie.Need-differs-requires-2
+differs-requires-2 c κs = search needs
+
+returns-2 : tie.Need-returns-2
+returns-2 c = let x = c .before .before .before .before .before .before .before .before .args in level-none (x .held .now) (x .last) (x .size) (x .shared) (x .some .now) (c .before .before .before .before .before .before .before .before .pre) _ (c .before .before .before .before .before .shorter .ensures) _ _ (c .before .before .common-start .ensures) (c .before .if2 .taken) (c .differs2 .ensures)
+
+add-differs : tie.Need-add-differs
+add-differs c = omega (arith, c .before .before .before .before .before .before .before .pre, c .before .common-start .ensures, common-right (part (c .before .before .before .before .before .before .before .args .size) (c .before .before .before .before .shorter .result) (c .before .before .before .before .before .before .before .args .held .now)) (c .before .before .before .before .before .before .before .args .some .now))
+
+add-differs-2 : tie.Need-add-differs-2
+add-differs-2 c = omega (arith, c .before .before .before .before .before .before .before .pre, c .before .common-start .ensures, common-right (part (c .before .before .before .before .before .before .before .args .size) (c .before .before .before .before .shorter .result) (c .before .before .before .before .before .before .before .args .held .now)) (c .before .before .before .before .before .before .before .args .some .now))
+
+differs-requires-3 : tie.Need-differs-requires-3
+differs-requires-3 c κs = search needs
+
+returns-3 : tie.Need-returns-3
+returns-3 c = let x = c .before .before .before .before .before .before .before .before .args in level-some (x .held .now) (x .last) (x .size) (x .shared) (x .some .now) (c .before .before .before .before .before .before .before .before .pre) _ (c .before .before .before .before .before .shorter .ensures) _ _ (c .before .before .common-start .ensures) (c .before .if2 .left) (c .differs3 .ensures)
+
+pub stand-level-spec : {M : Type 1} → statement M
+stand-level-spec =
+    tie.close
+    (tie.spec
+    shorter-requires
+    differs-requires
+    returns
+    sub-common-start
+    part-common-start-start
+    part-common-start-end
+    common-start-requires
+    differs-requires-2
+    returns-2
+    add-differs
+    add-differs-2
+    differs-requires-3
+    returns-3)

@@ -1,0 +1,64 @@
+-- `replay::copy_numbers` is safe and ends. Assumes nothing.
+use Rattle.replay.proofs.cases.copy_numbers.Statement.{statement}
+use Rattle.replay.proofs.cases.copy_numbers.Tie as tie
+use borrow.Author.Needs.{needs}
+use Prim.Native.Nat.{_-_}
+use mathlib.Core.Path.{_≡_}
+use lib.ListN.{length}
+
+abbrev Inv-loop : tie.InvT-loop
+Inv-loop g₀ from to n count i₀ g i = length g ≡ length g₀
+
+abbrev μ-loop : tie.MeasureT-loop
+μ-loop g₀ from to n count i₀ g i = count - i
+
+least-requires : tie.Need-least-requires Inv-loop μ-loop
+least-requires c κs = search needs
+
+loop-holds : tie.Need-loop-holds Inv-loop μ-loop
+loop-holds c = search needs
+
+wrapping-add-usize-requires : tie.Need-wrapping-add-usize-requires Inv-loop μ-loop
+wrapping-add-usize-requires c κs = search needs
+
+given-requires : tie.Need-given-requires Inv-loop μ-loop
+given-requires c κs = search needs
+
+wrapping-add-usize-requires-2 : tie.Need-wrapping-add-usize-requires-2 Inv-loop μ-loop
+wrapping-add-usize-requires-2 c κs = search needs
+
+set-number-requires : tie.Need-set-number-requires Inv-loop μ-loop
+set-number-requires c κs = search needs
+
+add-i : tie.Need-add-i Inv-loop μ-loop
+add-i c = search needs
+
+loop-less : tie.Need-loop-less Inv-loop μ-loop
+loop-less c = search needs
+
+loop-again : tie.Need-loop-again Inv-loop μ-loop
+loop-again c = search needs
+
+same-length : tie.Need-same-length Inv-loop μ-loop
+same-length c = search needs
+
+returns : tie.Need-returns Inv-loop μ-loop
+returns c = search needs
+
+pub copy-numbers-spec : {M : Type 1} → statement M
+copy-numbers-spec =
+    tie.close
+    (tie.spec
+    Inv-loop
+    μ-loop
+    least-requires
+    loop-holds
+    wrapping-add-usize-requires
+    given-requires
+    wrapping-add-usize-requires-2
+    set-number-requires
+    add-i
+    loop-less
+    loop-again
+    same-length
+    returns)

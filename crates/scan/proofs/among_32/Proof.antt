@@ -1,0 +1,58 @@
+-- `scan::among_32` meets its contract. Assumes nothing.
+use Rattle.scan.proofs.among_32.Statement.{statement}
+use Rattle.scan.proofs.among_32.Tie as tie
+use Prim.Native.Nat.{_-_, _+_, _≤_}
+use mathlib.Core.Path.{_≡_, sym, _∙_}
+use mathlib.Core.Logic.{⊎-elim}
+use native.Mathlib.Nat.{add-zero}
+use native.Mathlib.Omega.{arith}
+use borrow.Author.Needs.{needs}
+use Rattle.ground.specs.Scan.{placeFrom}
+use Rattle.scan.proofs.Laws.{place-step}
+
+abbrev Inv-loop : tie.InvT-loop
+Inv-loop s at x hit₀ k₀ hit k = (k ≤ 32) × (hit ≡ 0 → placeFrom x s at ≡ placeFrom x s (at + k))
+
+abbrev μ-loop : tie.MeasureT-loop
+μ-loop s at x hit₀ k₀ hit k = 32 - k
+
+loop-holds : tie.Need-loop-holds Inv-loop μ-loop
+loop-holds c = (omega arith, λ z. rw add-zero)
+
+add-if1 : tie.Need-add-if1 Inv-loop μ-loop
+add-if1 c = search needs
+
+shared-slice-read-if1 : tie.Need-shared-slice-read-if1 Inv-loop μ-loop
+shared-slice-read-if1 c = search needs
+
+add-k : tie.Need-add-k Inv-loop μ-loop
+add-k c = search needs
+
+loop-less : tie.Need-loop-less Inv-loop μ-loop
+loop-less c = search needs
+
+loop-again : tie.Need-loop-again Inv-loop μ-loop
+loop-again c =
+    let loop = c .before .before .before .loop in (
+      omega arith,
+      ⊎-elim (λ w z. absurd (omega (arith, sym (w .1) ∙ z))) (λ w z. place-step _ _ _ _ (omega arith) (w .0 .left) (loop .inv .1 (sym (w .1) ∙ z))) (c .if1 .came),
+    )
+
+returns : tie.Need-returns Inv-loop μ-loop
+returns c =
+    let e : c .before .loop .k ≡ 32 = omega arith in
+    λ z. rw (← e) (c .before .loop .inv .1 z)
+
+pub among-32-spec : {M : Type 1} → statement M
+among-32-spec =
+    tie.close
+    (tie.spec
+    Inv-loop
+    μ-loop
+    loop-holds
+    add-if1
+    shared-slice-read-if1
+    add-k
+    loop-less
+    loop-again
+    returns)

@@ -1,0 +1,4 @@
+pub mod Halving
+pub mod Indexed
+pub mod Laws
+pub mod Made

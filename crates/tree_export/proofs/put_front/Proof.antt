@@ -1,0 +1,42 @@
+-- `tree_export::put_front` meets its contract. Assumes nothing.
+use borrow.Author.Needs.{needs}
+use Rattle.tree_export.proofs.put_front.Statement.{statement}
+use Rattle.tree_export.proofs.put_front.Tie as tie
+use native.Mathlib.Omega.{arith}
+use mathlib.Core.Path.{sym}
+use lib.Seq.{length-take-le}
+use Rattle.tree_text.proofs.Laws.{front-is}
+use Rattle.tree_export.proofs.Laws.{front-added}
+
+front-of-requires : tie.Need-front-of-requires
+front-of-requires c κs = search needs
+
+array-share-prefix-first : tie.Need-array-share-prefix-first
+array-share-prefix-first c = let w = front-is _ _ (c .before .before .front-of .ensures) in omega (arith, w .1, w .2)
+
+slice-aggregate-put : tie.Need-slice-aggregate-put
+slice-aggregate-put c = let w = front-is _ _ (c .before .before .before .front-of .ensures) in sym (length-take-le _ _ (omega (arith, w .1, w .2)))
+
+put-requires : tie.Need-put-requires
+put-requires c κs = search needs
+
+add-result : tie.Need-add-result
+add-result c = omega (arith, front-is _ _ (c .before .before .before .before .before .before .front-of .ensures) .1, c .before .before .before .before .before .before .before .before .pre)
+
+same-length : tie.Need-same-length
+same-length c = search needs
+
+returns : tie.Need-returns
+returns c = front-added _ _ _ _ (c .before .before .before .before .before .before .before .before .args .at) (c .before .before .before .before .before .before .front-of .ensures) (c .before .before .put .ensures)
+
+pub put-front-spec : {M : Type 1} → statement M
+put-front-spec =
+    tie.close
+    (tie.spec
+    front-of-requires
+    array-share-prefix-first
+    slice-aggregate-put
+    put-requires
+    add-result
+    same-length
+    returns)
