@@ -16,7 +16,6 @@ returns c = c .bounds .ensures ∙ sym (rule-known _ _ _ _ (set-is _ (c .before 
 bounds-requires-2 : tie.Need-bounds-requires-2
 bounds-requires-2 c κs = search needs
 
--- /work/h/d/target/rlib/ground.rlib/interface/lang/src/lib.rt:34:28
 enum-told : tie.Need-enum-told
 enum-told c = search needs
 
