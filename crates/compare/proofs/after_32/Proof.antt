@@ -16,55 +16,42 @@ Inv-loop a b n last i₀ i = (i ≤ n) × (take i a ≡ take i b)
 abbrev μ-loop : tie.MeasureT-loop
 μ-loop a b n last i₀ i = n - i
 
--- src/lib.rt:190:16
 sub-last : tie.Need-sub-last Inv-loop μ-loop
 sub-last c = c .before .before .pre .2
 
--- src/lib.rt:192:5
 loop-holds : tie.Need-loop-holds Inv-loop μ-loop
 loop-holds c = (c .before .before .pre .2, c .before .before .pre .1)
 
--- src/lib.rt:193:15
 order-32-requires : tie.Need-order-32-requires Inv-loop μ-loop
 order-32-requires c κs = ready-after (c .before .before .before .before .args .a .now) (c .before .before .before .before .args .b .now) (c .before .loop .i) (c .before .before .before .before .args .n) (c .before .loop .i) 32 (c .before .loop .inv .1) (c .before .before .before .before .pre .0) (omega arith) (omega arith)
 
--- src/lib.rt:195:17
 enum-told : tie.Need-enum-told Inv-loop μ-loop
 enum-told c = search needs
 
--- src/lib.rt:195:17
 returns : tie.Need-returns Inv-loop μ-loop
 returns c = told-below (c .before .before .before .before .before .before .before .args .a .now) (c .before .before .before .before .before .before .before .args .b .now) _ (c .before .before .order-32 .ensures) _ (c .enum-told .given .1)
 
--- src/lib.rt:198:17
 enum-told-2 : tie.Need-enum-told-2 Inv-loop μ-loop
 enum-told-2 c = search needs
 
--- src/lib.rt:198:17
 add-i : tie.Need-add-i Inv-loop μ-loop
 add-i c = search needs
 
--- src/lib.rt:192:5
 loop-less : tie.Need-loop-less Inv-loop μ-loop
 loop-less c = search needs
 
--- src/lib.rt:192:5
 loop-again : tie.Need-loop-again Inv-loop μ-loop
 loop-again c = (omega arith, told-same (c .before .before .before .before .before .before .before .args .a .now) (c .before .before .before .before .before .before .before .args .b .now) (c .before .before .before .before .loop .i + 32) (c .before .before .order-32 .ensures) (c .enum-told2 .given .1))
 
--- src/lib.rt:202:17
 enum-told-3 : tie.Need-enum-told-3 Inv-loop μ-loop
 enum-told-3 c = search needs
 
--- src/lib.rt:202:17
 returns-2 : tie.Need-returns-2 Inv-loop μ-loop
 returns-2 c = told-above (c .before .before .before .before .before .before .before .args .a .now) (c .before .before .before .before .before .before .before .args .b .now) _ (c .before .before .order-32 .ensures) _ (c .enum-told3 .given .1)
 
--- src/lib.rt:206:5
 order-32-requires-2 : tie.Need-order-32-requires-2 Inv-loop μ-loop
 order-32-requires-2 c κs = ready-after (c .before .before .before .before .args .a .now) (c .before .before .before .before .args .b .now) (c .before .loop .i) (c .before .before .before .before .args .n) (c .before .before .before .before .args .n - 32) 32 (c .before .loop .inv .1) (c .before .before .before .before .pre .0) (omega arith) (omega (arith, c .before .before .before .before .pre .2))
 
--- src/lib.rt:184:1
 returns-3 : tie.Need-returns-3 Inv-loop μ-loop
 returns-3 c = told-at (c .before .before .before .before .before .args .a .now) (c .before .before .before .before .before .args .b .now) (c .before .before .before .before .before .args .n - 32 + 32) (c .before .before .before .before .before .args .n) (c .order-322 .result) (omega (arith, c .before .before .before .before .before .pre .2)) (c .order-322 .ensures)
 

@@ -8,39 +8,30 @@ use Prim.Native.Nat.{_+_, _-_}
 use native.Mathlib.Omega.{arith}
 use Rattle.compare.proofs.Laws.{ready-first, ready-after, told-same, told-at, told-below, told-above}
 
--- src/lib.rt:176:11
 order-16-requires : tie.Need-order-16-requires
 order-16-requires c κs = search needs
 
--- src/lib.rt:177:25
 enum-told : tie.Need-enum-told
 enum-told c = search needs
 
--- src/lib.rt:178:39
 enum-told-2 : tie.Need-enum-told-2
 enum-told-2 c = search needs
 
--- src/lib.rt:178:39
 sub-order-16 : tie.Need-sub-order-16
 sub-order-16 c = search needs
 
--- src/lib.rt:178:24
 order-16-requires-2 : tie.Need-order-16-requires-2
 order-16-requires-2 c κs = ready-after (c .before .before .before .before .before .args .a .now) (c .before .before .before .before .before .args .b .now) 16 (c .before .before .before .before .before .args .n) (c .before .before .before .before .before .args .n - 16) 16 (told-same (c .before .before .before .before .before .args .a .now) (c .before .before .before .before .before .args .b .now) 16 (c .before .before .order-16 .ensures) (c .enum-told2 .given .1)) (c .before .before .before .before .before .pre .0) (omega (arith, c .before .before .before .before .before .pre .1, c .before .before .before .before .before .pre .2)) (omega (arith, c .before .before .before .before .before .pre .1))
 
--- src/lib.rt:179:25
 enum-told-3 : tie.Need-enum-told-3
 enum-told-3 c = search needs
 
--- src/lib.rt:170:1
 returns : tie.Need-returns
 returns c = told-below (c .before .before .before .before .before .args .a .now) (c .before .before .before .before .before .args .b .now) _ (c .before .before .order-16 .ensures) _ (c .enum-told .given .1)
 
--- src/lib.rt:170:1
 returns-2 : tie.Need-returns-2
 returns-2 c = told-at (c .before .before .before .before .before .before .args .a .now) (c .before .before .before .before .before .before .args .b .now) (c .before .before .before .before .before .before .args .n - 16 + 16) (c .before .before .before .before .before .before .args .n) (c .order-162 .result) (omega (arith, c .before .before .before .before .before .before .pre .1)) (c .order-162 .ensures)
 
--- src/lib.rt:170:1
 returns-3 : tie.Need-returns-3
 returns-3 c = told-above (c .before .before .before .before .before .args .a .now) (c .before .before .before .before .before .args .b .now) _ (c .before .before .order-16 .ensures) _ (c .enum-told3 .given .1)
 

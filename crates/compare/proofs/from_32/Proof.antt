@@ -7,35 +7,27 @@ use Rattle.compare.proofs.after_32.Reads as after-32-reads
 use Rattle.compare.proofs.order_32.Reads as order-32-reads
 use Rattle.compare.proofs.Laws.{told-same, told-below, told-above}
 
--- src/lib.rt:208:11
 order-32-requires : tie.Need-order-32-requires
 order-32-requires c κs = search needs
 
--- src/lib.rt:209:25
 enum-told : tie.Need-enum-told
 enum-told c = search needs
 
--- src/lib.rt:210:24
 enum-told-2 : tie.Need-enum-told-2
 enum-told-2 c = search needs
 
--- src/lib.rt:210:24
 after-32-requires : tie.Need-after-32-requires
 after-32-requires c κs = (c .before .before .before .before .before .pre .0, told-same (c .before .before .before .before .before .args .a .now) (c .before .before .before .before .before .args .b .now) 32 (c .before .before .order-32 .ensures) (c .enum-told2 .given .1), c .before .before .before .before .before .pre .1)
 
--- src/lib.rt:211:25
 enum-told-3 : tie.Need-enum-told-3
 enum-told-3 c = search needs
 
--- src/lib.rt:204:1
 returns : tie.Need-returns
 returns c = told-below (c .before .before .before .before .before .args .a .now) (c .before .before .before .before .before .args .b .now) _ (c .before .before .order-32 .ensures) _ (c .enum-told .given .1)
 
--- src/lib.rt:204:1
 returns-2 : tie.Need-returns-2
 returns-2 c = search needs
 
--- src/lib.rt:204:1
 returns-3 : tie.Need-returns-3
 returns-3 c = told-above (c .before .before .before .before .before .args .a .now) (c .before .before .before .before .before .args .b .now) _ (c .before .before .order-32 .ensures) _ (c .enum-told3 .given .1)
 

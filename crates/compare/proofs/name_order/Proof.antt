@@ -10,39 +10,30 @@ use native.Mathlib.Omega.{arith}
 use mathlib.Core.Path.{sym, _∙_}
 use Rattle.compare.proofs.Laws.{order-below, order-above, told-same, by-end}
 
--- src/lib.rt:240:9
 shorter-requires : tie.Need-shorter-requires
 shorter-requires c κs = search needs
 
--- src/lib.rt:241:11
 by-first-requires : tie.Need-by-first-requires
 by-first-requires c κs = search needs
 
--- src/lib.rt:242:25
 enum-told : tie.Need-enum-told
 enum-told c = search needs
 
--- src/lib.rt:243:24
 enum-told-2 : tie.Need-enum-told-2
 enum-told-2 c = search needs
 
--- src/lib.rt:243:24
 by-next-requires : tie.Need-by-next-requires
 by-next-requires c κs = search needs
 
--- src/lib.rt:244:25
 enum-told-3 : tie.Need-enum-told-3
 enum-told-3 c = search needs
 
--- src/lib.rt:237:1
 returns : tie.Need-returns
 returns c = order-below (c .before .before .before .before .before .before .args .a .now) (c .before .before .before .before .before .before .args .b .now) _ (c .before .before .before .before .before .before .args .atree) (c .before .before .before .before .before .before .args .btree) (c .before .before .by-first .ensures) (c .enum-told .given .1)
 
--- src/lib.rt:237:1
 returns-2 : tie.Need-returns-2
 returns-2 c = c .by-next .ensures ∙ sym (by-end (c .before .before .before .before .before .before .before .args .a .now) (c .before .before .before .before .before .before .before .args .b .now) _ (c .before .before .before .before .before .before .before .args .atree) (c .before .before .before .before .before .before .before .args .btree) (c .before .before .before .before .shorter .ensures) (told-same (c .before .before .before .before .before .before .before .args .a .now) (c .before .before .before .before .before .before .before .args .b .now) _ (c .before .before .before .by-first .ensures) (c .before .enum-told2 .given .1)))
 
--- src/lib.rt:237:1
 returns-3 : tie.Need-returns-3
 returns-3 c = order-above (c .before .before .before .before .before .before .args .a .now) (c .before .before .before .before .before .before .args .b .now) _ (c .before .before .before .before .before .before .args .atree) (c .before .before .before .before .before .before .args .btree) (c .before .before .by-first .ensures) (c .enum-told3 .given .1)
 

@@ -8,39 +8,30 @@ use Prim.Native.Nat.{_+_}
 use native.Mathlib.Omega.{arith}
 use Rattle.compare.proofs.Laws.{ready-after, told-same, told-at, told-below, told-above}
 
--- src/lib.rt:100:11
 order-8-requires : tie.Need-order-8-requires
 order-8-requires c κs = search needs
 
--- src/lib.rt:101:25
 enum-told : tie.Need-enum-told
 enum-told c = search needs
 
--- src/lib.rt:102:38
 enum-told-2 : tie.Need-enum-told-2
 enum-told-2 c = search needs
 
--- src/lib.rt:102:38
 add-order-8 : tie.Need-add-order-8
 add-order-8 c = search needs
 
--- src/lib.rt:102:24
 order-8-requires-2 : tie.Need-order-8-requires-2
 order-8-requires-2 c κs = ready-after (c .before .before .before .before .before .args .a .now) (c .before .before .before .before .before .args .b .now) (c .before .before .before .before .before .args .i + 8) (c .before .before .before .before .before .args .i + 16) (c .before .before .before .before .before .args .i + 8) 8 (told-same (c .before .before .before .before .before .args .a .now) (c .before .before .before .before .before .args .b .now) (c .before .before .before .before .before .args .i + 8) (c .before .before .order-8 .ensures) (c .enum-told2 .given .1)) (c .before .before .before .before .before .pre .0) (omega arith) (omega arith)
 
--- src/lib.rt:103:25
 enum-told-3 : tie.Need-enum-told-3
 enum-told-3 c = search needs
 
--- src/lib.rt:96:1
 returns : tie.Need-returns
 returns c = told-below (c .before .before .before .before .before .args .a .now) (c .before .before .before .before .before .args .b .now) _ (c .before .before .order-8 .ensures) _ (c .enum-told .given .1)
 
--- src/lib.rt:96:1
 returns-2 : tie.Need-returns-2
 returns-2 c = told-at (c .before .before .before .before .before .before .args .a .now) (c .before .before .before .before .before .before .args .b .now) (c .before .before .before .before .before .before .args .i + 8 + 8) (c .before .before .before .before .before .before .args .i + 16) (c .order-82 .result) (omega arith) (c .order-82 .ensures)
 
--- src/lib.rt:96:1
 returns-3 : tie.Need-returns-3
 returns-3 c = told-above (c .before .before .before .before .before .args .a .now) (c .before .before .before .before .before .args .b .now) _ (c .before .before .order-8 .ensures) _ (c .enum-told3 .given .1)
 

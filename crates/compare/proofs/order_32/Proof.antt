@@ -8,39 +8,30 @@ use Prim.Native.Nat.{_+_}
 use native.Mathlib.Omega.{arith}
 use Rattle.compare.proofs.Laws.{ready-after, told-same, told-at, told-below, told-above}
 
--- src/lib.rt:112:11
 order-16-requires : tie.Need-order-16-requires
 order-16-requires c κs = search needs
 
--- src/lib.rt:113:25
 enum-told : tie.Need-enum-told
 enum-told c = search needs
 
--- src/lib.rt:114:39
 enum-told-2 : tie.Need-enum-told-2
 enum-told-2 c = search needs
 
--- src/lib.rt:114:39
 add-order-16 : tie.Need-add-order-16
 add-order-16 c = search needs
 
--- src/lib.rt:114:24
 order-16-requires-2 : tie.Need-order-16-requires-2
 order-16-requires-2 c κs = ready-after (c .before .before .before .before .before .args .a .now) (c .before .before .before .before .before .args .b .now) (c .before .before .before .before .before .args .i + 16) (c .before .before .before .before .before .args .i + 32) (c .before .before .before .before .before .args .i + 16) 16 (told-same (c .before .before .before .before .before .args .a .now) (c .before .before .before .before .before .args .b .now) (c .before .before .before .before .before .args .i + 16) (c .before .before .order-16 .ensures) (c .enum-told2 .given .1)) (c .before .before .before .before .before .pre .0) (omega arith) (omega arith)
 
--- src/lib.rt:115:25
 enum-told-3 : tie.Need-enum-told-3
 enum-told-3 c = search needs
 
--- src/lib.rt:108:1
 returns : tie.Need-returns
 returns c = told-below (c .before .before .before .before .before .args .a .now) (c .before .before .before .before .before .args .b .now) _ (c .before .before .order-16 .ensures) _ (c .enum-told .given .1)
 
--- src/lib.rt:108:1
 returns-2 : tie.Need-returns-2
 returns-2 c = told-at (c .before .before .before .before .before .before .args .a .now) (c .before .before .before .before .before .before .args .b .now) (c .before .before .before .before .before .before .args .i + 16 + 16) (c .before .before .before .before .before .before .args .i + 32) (c .order-162 .result) (omega arith) (c .order-162 .ensures)
 
--- src/lib.rt:108:1
 returns-3 : tie.Need-returns-3
 returns-3 c = told-above (c .before .before .before .before .before .args .a .now) (c .before .before .before .before .before .args .b .now) _ (c .before .before .order-16 .ensures) _ (c .enum-told3 .given .1)
 

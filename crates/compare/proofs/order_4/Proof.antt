@@ -8,31 +8,24 @@ use Rattle.compare.proofs.turn_8.Reads as turn-8-reads
 use native.Mathlib.Omega.{arith}
 use Rattle.compare.proofs.Laws.{words-same, words-below, words-above}
 
--- src/lib.rt:68:9
 four-requires : tie.Need-four-requires
 four-requires c κs = search needs
 
--- src/lib.rt:69:9
 four-requires-2 : tie.Need-four-requires-2
 four-requires-2 c κs = search needs
 
--- src/lib.rt:71:9
 returns : tie.Need-returns
 returns c = words-same (c .before .before .before .before .before .args .a .now) (c .before .before .before .before .before .args .b .now) _ 4 _ _ (c .before .before .before .before .before .pre) (omega arith) (c .before .before .four .ensures .0) (c .before .four2 .ensures .0) (c .if1 .taken)
 
--- src/lib.rt:73:8
 turn-8-requires : tie.Need-turn-8-requires
 turn-8-requires c κs = search needs
 
--- src/lib.rt:73:20
 turn-8-requires-2 : tie.Need-turn-8-requires-2
 turn-8-requires-2 c κs = search needs
 
--- src/lib.rt:74:9
 returns-2 : tie.Need-returns-2
 returns-2 c = words-below (c .before .before .before .before .before .before .before .before .args .a .now) (c .before .before .before .before .before .before .before .before .args .b .now) _ 4 _ _ (c .before .before .before .before .before .before .before .before .pre) (omega arith) (c .before .before .before .before .before .four .ensures .0) (c .before .before .before .before .four2 .ensures .0) (c .before .before .turn-8 .ensures) (c .before .turn-82 .ensures) (c .if2 .taken)
 
--- src/lib.rt:64:1
 returns-3 : tie.Need-returns-3
 returns-3 c = words-above (c .before .before .before .before .before .before .before .before .args .a .now) (c .before .before .before .before .before .before .before .before .args .b .now) _ 4 _ _ (c .before .before .before .before .before .before .before .before .pre) (omega arith) (c .before .before .before .before .before .four .ensures .0) (c .before .before .before .before .four2 .ensures .0) (c .before .before .turn-8 .ensures) (c .before .turn-82 .ensures) (c .before .before .before .if1 .left) (c .if2 .left)
 

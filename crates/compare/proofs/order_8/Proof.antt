@@ -8,31 +8,24 @@ use Rattle.compare.proofs.turn_8.Reads as turn-8-reads
 use native.Mathlib.Omega.{arith}
 use Rattle.compare.proofs.Laws.{words-same, words-below, words-above}
 
--- src/lib.rt:84:9
 eight-requires : tie.Need-eight-requires
 eight-requires c κs = search needs
 
--- src/lib.rt:85:9
 eight-requires-2 : tie.Need-eight-requires-2
 eight-requires-2 c κs = search needs
 
--- src/lib.rt:87:9
 returns : tie.Need-returns
 returns c = words-same (c .before .before .before .before .before .args .a .now) (c .before .before .before .before .before .args .b .now) _ 8 _ _ (c .before .before .before .before .before .pre) (omega arith) (c .before .before .eight .ensures) (c .before .eight2 .ensures) (c .if1 .taken)
 
--- src/lib.rt:89:8
 turn-8-requires : tie.Need-turn-8-requires
 turn-8-requires c κs = search needs
 
--- src/lib.rt:89:20
 turn-8-requires-2 : tie.Need-turn-8-requires-2
 turn-8-requires-2 c κs = search needs
 
--- src/lib.rt:90:9
 returns-2 : tie.Need-returns-2
 returns-2 c = words-below (c .before .before .before .before .before .before .before .before .args .a .now) (c .before .before .before .before .before .before .before .before .args .b .now) _ 8 _ _ (c .before .before .before .before .before .before .before .before .pre) (omega arith) (c .before .before .before .before .before .eight .ensures) (c .before .before .before .before .eight2 .ensures) (c .before .before .turn-8 .ensures) (c .before .turn-82 .ensures) (c .if2 .taken)
 
--- src/lib.rt:80:1
 returns-3 : tie.Need-returns-3
 returns-3 c = words-above (c .before .before .before .before .before .before .before .before .args .a .now) (c .before .before .before .before .before .before .before .before .args .b .now) _ 8 _ _ (c .before .before .before .before .before .before .before .before .pre) (omega arith) (c .before .before .before .before .before .eight .ensures) (c .before .before .before .before .eight2 .ensures) (c .before .before .turn-8 .ensures) (c .before .turn-82 .ensures) (c .before .before .before .if1 .left) (c .if2 .left)
 

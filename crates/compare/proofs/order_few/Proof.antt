@@ -16,47 +16,36 @@ Inv-loop a b n i₀ i = (i ≤ n) × (take i a ≡ take i b)
 abbrev μ-loop : tie.MeasureT-loop
 μ-loop a b n i₀ i = n - i
 
--- src/lib.rt:125:5
 loop-holds : tie.Need-loop-holds Inv-loop μ-loop
 loop-holds c = (omega arith, refl)
 
--- src/lib.rt:126:12
 shared-slice-read-if1 : tie.Need-shared-slice-read-if1 Inv-loop μ-loop
 shared-slice-read-if1 c = omega (arith, c .before .before .before .pre .0)
 
--- src/lib.rt:126:19
 shared-slice-read-if1-2 : tie.Need-shared-slice-read-if1-2 Inv-loop μ-loop
 shared-slice-read-if1-2 c = omega (arith, c .before .before .before .before .pre .1)
 
--- src/lib.rt:127:13
 returns : tie.Need-returns Inv-loop μ-loop
 returns c = byte-below (c .before .before .before .before .before .args .a .now) (c .before .before .before .before .before .args .b .now) (c .before .before .before .before .loop .i) (omega (arith, c .before .before .before .before .before .pre .0)) (omega (arith, c .before .before .before .before .before .pre .1)) (c .before .before .before .before .loop .inv .1) _ (c .if1 .taken)
 
--- src/lib.rt:129:12
 shared-slice-read-if2 : tie.Need-shared-slice-read-if2 Inv-loop μ-loop
 shared-slice-read-if2 c = omega (arith, c .before .before .before .before .before .before .pre .1)
 
--- src/lib.rt:129:19
 shared-slice-read-if2-2 : tie.Need-shared-slice-read-if2-2 Inv-loop μ-loop
 shared-slice-read-if2-2 c = omega (arith, c .before .before .before .before .before .before .before .pre .0)
 
--- src/lib.rt:130:13
 returns-2 : tie.Need-returns-2 Inv-loop μ-loop
 returns-2 c = byte-above (c .before .before .before .before .before .before .before .before .args .a .now) (c .before .before .before .before .before .before .before .before .args .b .now) (c .before .before .before .before .before .before .before .loop .i) (omega (arith, c .before .before .before .before .before .before .before .before .pre .0)) (omega (arith, c .before .before .before .before .before .before .before .before .pre .1)) (c .before .before .before .before .before .before .before .loop .inv .1) _ (c .if2 .taken)
 
--- src/lib.rt:132:9
 add-i : tie.Need-add-i Inv-loop μ-loop
 add-i c = search needs
 
--- src/lib.rt:125:5
 loop-less : tie.Need-loop-less Inv-loop μ-loop
 loop-less c = search needs
 
--- src/lib.rt:125:5
 loop-again : tie.Need-loop-again Inv-loop μ-loop
 loop-again c = (omega arith, byte-same (c .before .before .before .before .before .before .before .before .args .a .now) (c .before .before .before .before .before .before .before .before .args .b .now) (c .before .before .before .before .before .before .before .loop .i) (omega (arith, c .before .before .before .before .before .before .before .before .pre .0)) (omega (arith, c .before .before .before .before .before .before .before .before .pre .1)) (c .before .before .before .before .before .before .before .loop .inv .1) (c .before .before .before .before .before .before .before .loop .i + 1) (omega arith) (c .before .before .before .if1 .left) (c .if2 .left))
 
--- src/lib.rt:120:1
 returns-3 : tie.Need-returns-3 Inv-loop μ-loop
 returns-3 c = told-from (c .before .before .args .a .now) (c .before .before .args .b .now) (c .before .loop .i) _ (omega arith) (c .before .loop .inv .1)
 

@@ -5,15 +5,12 @@ use Rattle.compare.proofs.turn_2.Reads as reads
 use Rattle.compare.proofs.turn_2.Lts as lts
 use Rattle.compare.proofs.Laws.{turned-two}
 
--- src/lib.rt:46:5
 mul-result : tie.Need-mul-result
 mul-result c = search needs
 
--- src/lib.rt:46:5
 add-result : tie.Need-add-result
 add-result c = search needs
 
--- src/lib.rt:43:1
 returns : tie.Need-returns
 returns c = turned-two _
 

@@ -8,23 +8,18 @@ use Prim.Native.Nat.{_/_}
 use native.Mathlib.Omega.{arith}
 use Rattle.compare.proofs.Laws.{turned-small, turned-four}
 
--- src/lib.rt:53:5
 turn-2-requires : tie.Need-turn-2-requires
 turn-2-requires c κs = search needs
 
--- src/lib.rt:53:5
 mul-result : tie.Need-mul-result
 mul-result c = omega (arith, c .turn-2 .ensures, turned-small 2 (c .before .args .w))
 
--- src/lib.rt:53:25
 turn-2-requires-2 : tie.Need-turn-2-requires-2
 turn-2-requires-2 c κs = search needs
 
--- src/lib.rt:53:5
 add-result : tie.Need-add-result
 add-result c = omega (arith, c .before .turn-2 .ensures, c .turn-22 .ensures, turned-small 2 (c .before .before .args .w), turned-small 2 (c .before .before .args .w / 65536))
 
--- src/lib.rt:50:1
 returns : tie.Need-returns
 returns c = rw (c .before .turn-2 .ensures, c .turn-22 .ensures) (turned-four (c .before .before .args .w))
 

@@ -8,23 +8,18 @@ use Prim.Native.Nat.{_/_}
 use native.Mathlib.Omega.{arith}
 use Rattle.compare.proofs.Laws.{turned-small, turned-eight}
 
--- src/lib.rt:60:5
 turn-4-requires : tie.Need-turn-4-requires
 turn-4-requires c κs = search needs
 
--- src/lib.rt:60:5
 mul-result : tie.Need-mul-result
 mul-result c = omega (arith, c .turn-4 .ensures, turned-small 4 (c .before .args .w))
 
--- src/lib.rt:60:30
 turn-4-requires-2 : tie.Need-turn-4-requires-2
 turn-4-requires-2 c κs = search needs
 
--- src/lib.rt:60:5
 add-result : tie.Need-add-result
 add-result c = omega (arith, c .before .turn-4 .ensures, c .turn-42 .ensures, turned-small 4 (c .before .before .args .w), turned-small 4 (c .before .before .args .w / 4294967296))
 
--- src/lib.rt:57:1
 returns : tie.Need-returns
 returns c = rw (c .before .turn-4 .ensures, c .turn-42 .ensures) (turned-eight (c .before .before .args .w))
 

@@ -9,43 +9,33 @@ use Prim.Native.Nat.{_+_, _-_}
 use native.Mathlib.Omega.{arith}
 use Rattle.compare.proofs.Laws.{ready-after, told-same, told-at, told-below, told-above}
 
--- src/lib.rt:158:9
 under-8-requires : tie.Need-under-8-requires
 under-8-requires c κs = (c .before .before .before .pre .0, omega arith)
 
--- src/lib.rt:158:9
 returns : tie.Need-returns
 returns c = search needs
 
--- src/lib.rt:160:11
 order-8-requires : tie.Need-order-8-requires
 order-8-requires c κs = search needs
 
--- src/lib.rt:161:25
 enum-told : tie.Need-enum-told
 enum-told c = search needs
 
--- src/lib.rt:162:38
 enum-told-2 : tie.Need-enum-told-2
 enum-told-2 c = search needs
 
--- src/lib.rt:162:24
 order-8-requires-2 : tie.Need-order-8-requires-2
 order-8-requires-2 c κs = ready-after (c .before .before .before .before .before .before .args .a .now) (c .before .before .before .before .before .before .args .b .now) 8 (c .before .before .before .before .before .before .args .n) (c .before .before .before .before .before .before .args .n - 8) 8 (told-same (c .before .before .before .before .before .before .args .a .now) (c .before .before .before .before .before .before .args .b .now) 8 (c .before .before .order-8 .ensures) (c .enum-told2 .given .1)) (c .before .before .before .before .before .before .pre .0) (omega (arith, c .before .before .before .before .before .before .pre .1)) (omega arith)
 
--- src/lib.rt:163:25
 enum-told-3 : tie.Need-enum-told-3
 enum-told-3 c = search needs
 
--- src/lib.rt:153:1
 returns-2 : tie.Need-returns-2
 returns-2 c = told-below (c .before .before .before .before .before .before .args .a .now) (c .before .before .before .before .before .before .args .b .now) _ (c .before .before .order-8 .ensures) _ (c .enum-told .given .1)
 
--- src/lib.rt:153:1
 returns-3 : tie.Need-returns-3
 returns-3 c = told-at (c .before .before .before .before .before .before .before .args .a .now) (c .before .before .before .before .before .before .before .args .b .now) (c .before .before .before .before .before .before .before .args .n - 8 + 8) (c .before .before .before .before .before .before .before .args .n) (c .order-82 .result) (omega arith) (c .order-82 .ensures)
 
--- src/lib.rt:153:1
 returns-4 : tie.Need-returns-4
 returns-4 c = told-above (c .before .before .before .before .before .before .args .a .now) (c .before .before .before .before .before .before .args .b .now) _ (c .before .before .order-8 .ensures) _ (c .enum-told3 .given .1)
 

@@ -9,31 +9,24 @@ use Rattle.names.proofs.name_number.Reads as name-number-reads
 use mathlib.Core.Path.{sym, _∙_}
 use Rattle.fate.proofs.Laws.{fate-name, fate-mode, fate-before, fate-kept}
 
--- src/lib.rt:86:8
 name-number-requires : tie.Need-name-number-requires
 name-number-requires c κs = search needs
 
--- src/lib.rt:87:9
 returns : tie.Need-returns
 returns c = sym (fate-name _ _ _ _ (λ e. c .if1 .taken (c .before .name-number .ensures ∙ e)))
 
--- src/lib.rt:89:8
 stays-mode-requires : tie.Need-stays-mode-requires
 stays-mode-requires c κs = search needs
 
--- src/lib.rt:91:13
 returns-2 : tie.Need-returns-2
 returns-2 c = sym (fate-before _ _ _ _ (sym (c .before .before .before .before .name-number .ensures) ∙ c .before .before .before .if1 .left) (sym (c .before .before .stays-mode .ensures) ∙ c .before .if2 .taken) (c .if3 .taken))
 
--- src/lib.rt:93:9
 is-own-requires : tie.Need-is-own-requires
 is-own-requires c κs = search needs
 
--- src/lib.rt:93:9
 returns-3 : tie.Need-returns-3
 returns-3 c = c .is-own .ensures ∙ sym (fate-kept _ _ _ _ (sym (c .before .before .before .before .before .name-number .ensures) ∙ c .before .before .before .before .if1 .left) (sym (c .before .before .before .stays-mode .ensures) ∙ c .before .before .if2 .taken) (c .before .if3 .left))
 
--- src/lib.rt:83:1
 returns-4 : tie.Need-returns-4
 returns-4 c = sym (fate-mode _ _ _ _ (sym (c .before .before .before .name-number .ensures) ∙ c .before .before .if1 .left) (sym (c .before .stays-mode .ensures) ∙ c .if2 .left))
 

@@ -10,27 +10,21 @@ use lib.Seq.{length-take-le}
 use Rattle.fate.proofs.Laws.{own-fits, text-own}
 use mathlib.Core.Bool.{true, false}
 
--- src/lib.rt:73:9
 own-text-requires : tie.Need-own-text-requires
 own-text-requires c κs = search needs
 
--- src/lib.rt:76:25
 array-share-prefix-bytes : tie.Need-array-share-prefix-bytes
 array-share-prefix-bytes c = own-fits _ _ (c .before .own-text .ensures) .1
 
--- src/lib.rt:76:25
 slice-aggregate-same-bytes : tie.Need-slice-aggregate-same-bytes
 slice-aggregate-same-bytes c = sym (length-take-le _ _ (own-fits _ _ (c .before .before .own-text .ensures) .1))
 
--- src/lib.rt:76:8
 same-bytes-requires : tie.Need-same-bytes-requires
 same-bytes-requires c κs = search needs
 
--- src/lib.rt:77:9
 returns : tie.Need-returns
 returns c = sym (text-own (c .before .before .before .before .before .before .args .text .now) (c .before .before .before .before .before .before .args .mode) true (c .before .before .before .before .own-text .ensures) (sym (c .before .same-bytes .ensures) ∙ c .if1 .taken))
 
--- src/lib.rt:70:1
 returns-2 : tie.Need-returns-2
 returns-2 c = sym (text-own (c .before .before .before .before .before .before .args .text .now) (c .before .before .before .before .before .before .args .mode) false (c .before .before .before .before .own-text .ensures) (sym (c .before .same-bytes .ensures) ∙ c .if1 .left))
 

@@ -8,19 +8,15 @@ use Rattle.names.proofs.name_number.Reads as name-number-reads
 use mathlib.Core.Path.{sym, _∙_}
 use Rattle.fate.proofs.Laws.{may-not, may-if}
 
--- src/lib.rt:63:8
 name-number-requires : tie.Need-name-number-requires
 name-number-requires c κs = search needs
 
--- src/lib.rt:64:9
 returns : tie.Need-returns
 returns c = may-not _ _ (λ e. c .if1 .taken (c .before .name-number .ensures ∙ e))
 
--- src/lib.rt:66:5
 stays-mode-requires : tie.Need-stays-mode-requires
 stays-mode-requires c κs = search needs
 
--- src/lib.rt:60:1
 returns-2 : tie.Need-returns-2
 returns-2 c = c .stays-mode .ensures ∙ may-if _ _ (sym (c .before .before .name-number .ensures) ∙ c .before .if1 .left)
 

@@ -7,19 +7,15 @@ use Rattle.mode.proofs.EntryMode.kind.Reads as kind-reads
 use Rattle.mode_table.proofs.written_of.Reads as written-of-reads
 use Rattle.fate.proofs.Laws.{own-row}
 
--- src/lib.rt:53:19
 cast-t5 : tie.Need-cast-t5
 cast-t5 c = search needs
 
--- src/lib.rt:55:26
 kind-requires : tie.Need-kind-requires
 kind-requires c κs = search needs
 
--- src/lib.rt:55:9
 written-of-requires : tie.Need-written-of-requires
 written-of-requires c κs = search needs
 
--- src/lib.rt:49:1
 returns : tie.Need-returns
 returns c = own-row _ _ _ (c .before .written-of .ensures) (c .before .before .kind .ensures)
 

@@ -10,39 +10,30 @@ use Rattle.mode.proofs.EntryMode.is_tree.Reads as is-tree-reads
 use mathlib.Core.Path.{sym, _∙_}
 use Rattle.fate.proofs.Laws.{stays-file, stays-link, stays-tree, stays-commit}
 
--- src/lib.rt:34:19
 cast-t4 : tie.Need-cast-t4
 cast-t4 c = search needs
 
--- src/lib.rt:36:8
 is-blob-requires : tie.Need-is-blob-requires
 is-blob-requires c κs = search needs
 
--- src/lib.rt:37:9
 returns : tie.Need-returns
 returns c = stays-file _ (sym (c .before .is-blob .ensures) ∙ c .if1 .taken)
 
--- src/lib.rt:39:8
 is-link-requires : tie.Need-is-link-requires
 is-link-requires c κs = search needs
 
--- src/lib.rt:40:9
 returns-2 : tie.Need-returns-2
 returns-2 c = stays-link _ (sym (c .before .before .before .is-blob .ensures) ∙ c .before .before .if1 .left) (sym (c .before .is-link .ensures) ∙ c .if2 .taken)
 
--- src/lib.rt:42:8
 is-tree-requires : tie.Need-is-tree-requires
 is-tree-requires c κs = search needs
 
--- src/lib.rt:43:9
 returns-3 : tie.Need-returns-3
 returns-3 c = stays-tree _ (sym (c .before .before .before .before .before .is-blob .ensures) ∙ c .before .before .before .before .if1 .left) (sym (c .before .before .before .is-link .ensures) ∙ c .before .before .if2 .left) (sym (c .before .is-tree .ensures) ∙ c .if3 .taken)
 
--- src/lib.rt:45:5
 is-commit-requires : tie.Need-is-commit-requires
 is-commit-requires c κs = search needs
 
--- src/lib.rt:30:1
 returns-4 : tie.Need-returns-4
 returns-4 c = c .is-commit .ensures ∙ stays-commit _ (sym (c .before .before .before .before .before .before .is-blob .ensures) ∙ c .before .before .before .before .before .if1 .left) (sym (c .before .before .before .before .is-link .ensures) ∙ c .before .before .before .if2 .left) (sym (c .before .before .is-tree .ensures) ∙ c .before .if3 .left)
 

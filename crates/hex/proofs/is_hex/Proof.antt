@@ -17,49 +17,38 @@ Inv-loop t digits i₀ i = isHex t ≡ isHex (drop i t)
 abbrev μ-loop : tie.MeasureT-loop
 μ-loop t digits i₀ i = length t - i
 
--- src/lib.rt:52:5
 loop-holds : tie.Need-loop-holds Inv-loop μ-loop
 loop-holds c = refl
 
--- src/lib.rt:53:22
 shared-slice-read-wide : tie.Need-shared-slice-read-wide Inv-loop μ-loop
 shared-slice-read-wide c = search needs
 
--- src/lib.rt:53:13
 wide-requires : tie.Need-wide-requires Inv-loop μ-loop
 wide-requires c κs = search needs
 
--- src/lib.rt:56:12
 mul-if1 : tie.Need-mul-if1 Inv-loop μ-loop
 mul-if1 c = search needs
 
--- src/lib.rt:56:12
 index-1-if1 : tie.Need-index-1-if1 Inv-loop μ-loop
 index-1-if1 c = search needs
 
--- src/lib.rt:56:12
 index-2-if1 : tie.Need-index-2-if1 Inv-loop μ-loop
 index-2-if1 c = search needs
 
--- src/lib.rt:57:13
 returns : tie.Need-returns Inv-loop μ-loop
 unfolding hexValue
 returns c = sym (c .before .before .before .before .before .loop .inv ∙ hex-not _ _ (c .before .before .before .before .loop-test .taken) (sym (ap hexValue (c .before .before .wide .ensures .0)) ∙ sym (table-is (c .before .before .wide .result) (c .before .before .wide .ensures .1)) ∙ c .if1 .taken))
 
--- src/lib.rt:59:9
 add-i : tie.Need-add-i Inv-loop μ-loop
 add-i c = search needs
 
--- src/lib.rt:52:5
 loop-less : tie.Need-loop-less Inv-loop μ-loop
 loop-less c = search needs
 
--- src/lib.rt:52:5
 loop-again : tie.Need-loop-again Inv-loop μ-loop
 unfolding hexValue
 loop-again c = c .before .before .before .before .before .loop .inv ∙ hex-more _ _ (c .before .before .before .before .loop-test .taken) (λ e. c .if1 .left (table-is (c .before .before .wide .result) (c .before .before .wide .ensures .1) ∙ ap hexValue (c .before .before .wide .ensures .0) ∙ e))
 
--- src/lib.rt:47:1
 returns-2 : tie.Need-returns-2 Inv-loop μ-loop
 returns-2 c = sym (c .before .loop .inv ∙ hex-end _ _ (c .loop-test .left))
 

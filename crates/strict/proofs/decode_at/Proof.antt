@@ -11,49 +11,38 @@ use mathlib.Core.Path.{sym, _∙_}
 use Rattle.mode_code.proofs.Laws.{quick-is-code}
 use Rattle.reading.proofs.Front.{name-starts, name-ends, name-whole}
 
--- src/lib.rt:52:9
 quick-code-requires : tie.Need-quick-code-requires
 quick-code-requires c κs = search needs
 
--- src/lib.rt:54:9
 decode-requires : tie.Need-decode-requires
 decode-requires c κs = search needs
 
--- src/lib.rt:54:9
 returns : tie.Need-returns
 returns c = search needs
 
--- src/lib.rt:57:22
 add-name-start : tie.Need-add-name-start
 add-name-start c = let q = c .before .quick-code .ensures ∙ sym (quick-is-code (c .before .before .before .args .s .now) (c .before .before .before .args .at) (λ e. c .if1 .left (c .before .quick-code .ensures ∙ e))) in
     omega (arith, name-starts (c .before .before .before .args .s .now) (c .before .before .before .args .h) (c .before .before .before .args .at) _ q (c .if1 .left))
 
--- src/lib.rt:58:9
 find-nul-requires : tie.Need-find-nul-requires
 find-nul-requires c κs = search needs
 
--- src/lib.rt:59:16
 sub-left : tie.Need-sub-left
 sub-left c = let q = c .before .before .quick-code .ensures ∙ sym (quick-is-code (c .before .before .before .before .args .s .now) (c .before .before .before .before .args .at) (λ e. c .before .if1 .left (c .before .before .quick-code .ensures ∙ e))) in
     name-ends (c .before .before .before .before .args .s .now) (c .before .before .before .before .args .h) (c .before .before .before .before .args .at) _ q (c .before .if1 .left) _ (c .find-nul .ensures)
 
--- src/lib.rt:61:9
 decode-requires-2 : tie.Need-decode-requires-2
 decode-requires-2 c κs = search needs
 
--- src/lib.rt:61:9
 returns-2 : tie.Need-returns-2
 returns-2 c = search needs
 
--- src/lib.rt:63:20
 add-id-start : tie.Need-add-id-start
 add-id-start c = search needs
 
--- src/lib.rt:64:16
 add-next : tie.Need-add-next
 add-next c = search needs
 
--- src/lib.rt:48:1
 returns-3 : tie.Need-returns-3
 returns-3 c = let q = c .before .before .before .quick-code .ensures ∙ sym (quick-is-code (c .before .before .before .before .before .args .s .now) (c .before .before .before .before .before .args .at) (λ e. c .before .before .if1 .left (c .before .before .before .quick-code .ensures ∙ e))) in
     sym (name-whole (c .before .before .before .before .before .args .s .now) (c .before .before .before .before .before .args .h) (c .before .before .before .before .before .args .at) _ q (c .before .before .if1 .left) _ (c .before .find-nul .ensures) (c .if2 .left))
