@@ -4,6 +4,8 @@ what was measured in the last of them: the call, the entries of the tree (of a c
 by how much to divide."""
 import collections, sys
 
+if sys.argv[1:2] in (["-h"], ["--help"]):
+    sys.exit(print(__doc__))
 names = [line.split() for line in open(sys.argv[1])]
 counts = [int(line) for line in open(sys.argv[2])]
 tables = collections.defaultdict(lambda: collections.defaultdict(dict))
@@ -17,3 +19,4 @@ for call, rows in tables.items():
     print(f"\n{call}\n\n| {'parents' if call == 'commit' else 'entries'} | " + " | ".join(f"{n} bytes" for n in lengths) + " |\n|" + "---|" * (len(lengths) + 1))
     for entries, row in sorted(rows.items()):
         print(f"| {entries} | " + " | ".join(f"{row[n]:.0f}" for n in lengths) + " |")
+print(f"\nbench/instructions: {len(names)} calls counted")

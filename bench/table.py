@@ -3,6 +3,9 @@
 import glob
 import sys
 
+if sys.argv[1:2] in (["-h"], ["--help"]):
+    sys.exit(print(__doc__))
+
 
 def dumps(folder):
     """Instructions by key: a dump's trigger names it."""
@@ -76,3 +79,4 @@ def show(what, cost):
 show("x86-64 instructions", dumps(sys.argv[1]))
 if len(sys.argv) > 2:
     show("Nanoseconds, native, best of the rounds", times(sys.argv[2]))
+print(f"bench/run: {len(dumps(sys.argv[1]))} workloads counted, answers compared first")

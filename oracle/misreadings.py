@@ -307,7 +307,8 @@ def main():
         seen = next((i for i, case in enumerate(cases) if differs(misread, *case)), None)
         unseen += seen is None
         print(f"{seen!s:>6}  {right!r} -> {wrong!r}", flush=True)
-    sys.exit(f"{unseen} of {len(MISREADINGS)} misreadings go unseen" if unseen else None)
+    print(f"misreadings: {len(MISREADINGS)} tried, {unseen} go unseen")
+    sys.exit(unseen > 0)
 
 
 if __name__ == "__main__":

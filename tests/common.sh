@@ -60,3 +60,17 @@ library() {
     SARPUKTEN_LIB=$(cd "$SARPUKTEN_LIB" && pwd -P)
     export SARPUKTEN_LIB
 }
+
+# What counts x86-64 instructions on any machine: the compilers, QEMU's user emulator, the library, and the plugin as made/count.so.
+counting() {
+    made=$root/target/instructions cross=gcc
+    need qemu-x86_64 qemu-user
+    need gcc gcc libc6-dev
+    if [ "$(uname -m)" != x86_64 ]; then
+        cross=x86_64-linux-gnu-gcc
+        need "$cross" gcc-x86-64-linux-gnu libc6-dev-amd64-cross
+    fi
+    library
+    mkdir -p "$made"
+    gcc -O2 -Wall -Wextra -shared -fPIC -o "$made/count.so" "$root/bench/count.c"
+}
