@@ -50,7 +50,7 @@ use Rattle.border_tree.specs.Border.{stepNumbers}
 use Rattle.border_lookup.specs.Border.{lookedNumbers}
 use Rattle.border_commit.specs.Border.{commitNumbers}
 use Rattle.border_commit_write.specs.Border.{partsOf}
-use Rattle.tables.specs.Examples.{O}
+use Rattle.examples.specs.Examples.{O}
 
 -- what lies in an array that was lent for an answer, and the parts that an array of ten numbers says
 pub data Array : Type 0 where

@@ -3,17 +3,16 @@
 use entry::EntryRecord;
 use entry_record::WIDTH;
 use entry_record::entry_at;
-use ground::BOUND;
 use ground::DONE;
-use ground::FINE;
-use ground::Verdict;
 use hex_of_id::hex_of_id;
 use libc::STDIN_FILENO;
-use libc::STDOUT_FILENO;
 use lookup::bisect_entry;
 use mode::EntryMode;
 use mode_text::ShortText;
 use reading::read_tree;
+use saying::say;
+use saying::say_refused;
+use saying::say_too_long;
 use words::id_length;
 use words::word_at;
 
@@ -21,24 +20,6 @@ use words::word_at;
 const LONGEST: usize = 135168;
 
 const MOST: usize = 6144;
-
-fn say(s: &[u8]) {
-    io::write_all(STDOUT_FILENO, s);
-}
-
-fn number(n: usize) {
-    io::print_decimal(STDOUT_FILENO, n as u64);
-}
-
-fn refused(v: Verdict) {
-    say(b"refused ");
-    number(v.number);
-    say(b" at ");
-    number(v.place);
-    say(b" part ");
-    number(v.part);
-    say(b"\n");
-}
 
 // The bytes from one place to another, or none where they do not lie inside.
 fn part(s: &[u8], from: usize, to: usize) -> &[u8] {
@@ -95,7 +76,7 @@ fn look(s: &[u8], h: usize, records: &[usize], name: &[u8], folder: bool) {
     let a = bisect_entry(s, h, records, name, folder);
     let v = a.verdict;
     if v.number != DONE {
-        refused(v);
+        say_refused(v);
         return;
     }
     found(s, h, entry_at(records, a.index));
@@ -121,7 +102,7 @@ fn seek(object: &[u8], h: usize, name: &[u8]) {
     let a = read_tree(object, h, &mut records);
     let v = a.verdict;
     if v.number != DONE {
-        refused(v);
+        say_refused(v);
         return;
     }
     sought(object, h, first(&records, a.count), name);
@@ -145,10 +126,7 @@ fn main() {
     let mut more = [0u8; 1];
     let n = io::read_full(STDIN_FILENO, &mut all);
     if libc::read(STDIN_FILENO, &mut more) != 0 {
-        refused(Verdict {
-            number: BOUND,
-            ..FINE
-        });
+        say_too_long();
         return;
     }
     work(part(&all, 0, n));

@@ -3,7 +3,8 @@ use Prim.Native.Nat.{ℕ}
 use mathlib.Core.List.{List}
 use lib.ListN.{length}
 use Rattle.ground.specs.declared.Answer.{Answer}
-use Rattle.difference.specs.Whole.{answer, itemsAfter, pathsAfter, itemsIn}
+use Rattle.walk.specs.Lent.{itemsIn}
+use Rattle.difference.specs.Whole.{answer, itemsAfter, pathsAfter}
 
 -- the answer
 abbrev pub compareAnswered : List ℕ → List ℕ → List ℕ → List ℕ → List ℕ → Answer

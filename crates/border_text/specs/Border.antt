@@ -5,7 +5,7 @@ use lib.ListN.{length}
 use Rattle.ground.specs.Verdict.{stored}
 use Rattle.ground.specs.declared.Answer.{Answer}
 use Rattle.tree_export.specs.Export.{textIn, exportAnswer}
-use Rattle.tree_import.specs.Import.{texts, imported, importAnswer}
+use Rattle.text_import.specs.Import.{texts, imported, importAnswer}
 
 -- the text of a strict object: the answer, and the output
 abbrev pub exportAnswered : ℕ → ℕ → List ℕ → List ℕ → Answer

@@ -1,4 +1,4 @@
--- Laws of ids that ascend, and of a bundle that is opened. Assumes nothing.
+-- Laws of a bundle that is opened. Assumes nothing.
 use Prim.Native.Nat.{ℕ, _+_, _-_, _≤_}
 use native.Mathlib.Omega.{arith}
 use mathlib.Core.Path.{_≡_, refl, sym, ap, _∙_}
@@ -14,81 +14,15 @@ use Rattle.ground.specs.declared.Verdict.{Verdict}
 use Rattle.ground.specs.declared.Gate.{Gate}
 use Rattle.ground.specs.declared.Gate.the-variants as gate
 use Rattle.ground.proofs.Laws.{and-left, and-right, is-false, same-true, size-open, size-fine}
-use Rattle.order.specs.Order.{nameOrder}
-use Rattle.order.specs.declared.Order.{Order}
-use Rattle.order.specs.declared.Order.the-variants.{Below, Same, Above}
-use Rattle.order.proofs.Laws.{order-irreflexive, order-trans}
-use Rattle.rules.specs.Rules.{isBelow}
 use Rattle.frame.specs.Frame.{headOf, Frames, done, fault, frame, framesBy, whole}
-use Rattle.frame.specs.Place.{idIn}
 use Rattle.frame.specs.declared.Header.{Header}
 use Rattle.frame.specs.declared.Head.{Head}
 use Rattle.frame.specs.declared.Head.the-variants.{Good, Bad}
-use Rattle.frame.specs.declared.Frame.{Frame}
-use Rattle.frame.proofs.Laws.{id-part}
 use Rattle.twice.specs.Ids.{idsIn, among, repeats}
-use Rattle.bundle.specs.Ids.{below, rises}
 use Rattle.bundle.specs.Bundle.{openBy, openFrom, openOf, ownLength, told, checkOf}
 use Rattle.bundle.specs.declared.Checked.{Checked}
 use Rattle.bundle.specs.declared.Opening.{Opening}
 use Rattle.bundle.specs.declared.Opening.the-variants.{Open, Shut}
-
--- ---- ids that ascend
-
-below-is : (o : Order) → isBelow o ≡ true → o ≡ Below
-below-is Below e = refl
-below-is Same e = absurd (false≢true e)
-below-is Above e = absurd (false≢true e)
-
-below-trans : (x y z : List ℕ) → below x y ≡ true → below y z ≡ true → below x z ≡ true
-below-trans x y z p q = rw (order-trans x false y false z false (below-is _ p) (below-is _ q))
-
-below-other : (x y : List ℕ) → below x y ≡ true → sameBytes y x ≡ false
-below-other x y p = is-false (sameBytes y x) (λ e. order-irreflexive x false (below-is _ (rw (same-true y x e) at p)))
-
--- what is below the first of ascending ids is none of them
-under : (w x : List ℕ) (ys : List (List ℕ)) → below w x ≡ true → rises x ys ≡ true → among w ys ≡ false
-unfolding rises among
-under w x [] p r = refl
-under w x (y ∷ ys) p r =
-    let a = and-left (below x y) (rises y ys) r in
-    let b = and-right (below x y) (rises y ys) r in
-    let q = below-trans w x y p a in
-    rw (below-other w y q, under w y ys q b)
-
--- ids that ascend do not stand twice
-pub rises-apart : (x : List ℕ) (ys : List (List ℕ)) → rises x ys ≡ true → repeats ys ≡ false
-unfolding rises repeats among
-rises-apart x [] r = refl
-rises-apart x (y ∷ ys) r = let b = and-right (below x y) (rises y ys) r in rw (first ys b, rises-apart y ys b)
-  where
-    first : (ys : List (List ℕ)) → rises y ys ≡ true → among y ys ≡ false
-    first [] r = refl
-    first (z ∷ zs) r =
-        let a = and-left (below y z) (rises z zs) r in
-        let b = and-right (below y z) (rises z zs) r in
-        rw (below-other y z a, under y z zs a b)
-
-module _ (h : ℕ) (s x : List ℕ) (l : Frames) where
-  pub rises-end : (b : Bool) → l ≡ pick b done fault → rises x (idsIn h s l) ≡ true
-  unfolding idsIn rises
-  rises-end true e = rw e
-  rises-end false e = rw e
-
-  pub rises-fault : l ≡ fault → rises x (idsIn h s l) ≡ true
-  unfolding idsIn rises
-  rises-fault e = rw e
-
-  module _ (f : Frame) (m : Frames) (e : l ≡ frame f m) where
-    pub rises-on : below x (take (f .id + h - f .id) (drop (f .id) s)) ≡ true → rises x (idsIn h s l) ≡ rises (take (f .id + h - f .id) (drop (f .id) s)) (idsIn h s m)
-    unfolding idsIn rises
-    rises-on t = let u : below x (idIn h s f) ≡ true = rw (id-part h s f) at t in rw (e, id-part h s f) (rw u)
-
-    pub rises-off : below x (take (f .id + h - f .id) (drop (f .id) s)) ≡ false → rises x (idsIn h s l) ≡ false
-    unfolding idsIn rises
-    rises-off t = let u : below x (idIn h s f) ≡ false = rw (id-part h s f) at t in rw e (rw u)
-
--- ---- a bundle that is opened
 
 module _ (s : List ℕ) (n : ℕ) (d : Head) (k : Header) (e : d ≡ Good k) where
   pub open-other : (n ≡ k .h → ⊥) → openBy s n d ≡ Shut (verdict 24 0)

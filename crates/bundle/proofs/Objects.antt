@@ -101,3 +101,12 @@ open-head s n (Good j) k e = go (eqb n (j .h)) (whole (framesBy s j)) (repeats (
     go true false c e = let z : _≡_ {A = ℕ} 0 1 = cc in absurd (omega arith)
     go false b c e = let z : _≡_ {A = ℕ} 0 1 = cc in absurd (omega arith)
 open-head s n Bad k e = let z : _≡_ {A = ℕ} 0 1 = cc in absurd (omega arith)
+
+-- an object that was found lies inside the bundle
+pub place-inside : (s id : List ℕ) (f : Frame) → placeOf s id ≡ At f → (f .start ≤ f .end) × (f .end ≤ length s)
+unfolding placeBy
+place-inside s id f e = placed (headOf s) e
+  where
+    placed : (d : Head) → placeBy s id d ≡ At f → (f .start ≤ f .end) × (f .end ≤ length s)
+    placed (Good k) q = first-inside (k .h) s id (k .count) (k .from) f q
+    placed Bad q = let z : _≡_ {A = ℕ} 0 1 = cc in absurd (omega arith)

@@ -1,35 +1,16 @@
 // Lists what differs between two trees of a bundle: `./run differ LEFT RIGHT <bundle`, the ids of both root trees in hex (docs/FORMAT.md,
 // "Differences"). Prints the lines of `git diff-tree -r -t --no-renames`, or a refusal in one line. Words and bundle have at most 2,400,000
 // bytes together, and the items are at most 10,000, with 600,000 bytes of paths: all of it lies on the stack, beside 4 MiB of an index.
-use difference::ITEM;
 use difference::compare_trees;
-use ground::BOUND;
 use ground::DONE;
-use ground::FINE;
-use ground::Verdict;
 use hex_of_id::hex_of_id;
 use id_of_hex::id_of_hex;
+use item::ITEM;
 use libc::STDIN_FILENO;
-use libc::STDOUT_FILENO;
+use saying::say;
+use saying::say_refused;
+use saying::say_too_long;
 use words::word_at;
-
-fn say(s: &[u8]) {
-    io::write_all(STDOUT_FILENO, s);
-}
-
-fn number(n: usize) {
-    io::print_decimal(STDOUT_FILENO, n as u64);
-}
-
-fn refused(v: Verdict) {
-    say(b"refused ");
-    number(v.number);
-    say(b" at ");
-    number(v.place);
-    say(b" part ");
-    number(v.part);
-    say(b"\n");
-}
 
 // The bytes from one place to another, or none where they do not lie inside.
 fn part(s: &[u8], from: usize, to: usize) -> &[u8] {
@@ -228,7 +209,7 @@ fn compare(bundle: &[u8], left: &[u8], right: &[u8], items: &mut [usize], paths:
     let a = compare_trees(bundle, left, right, items, paths);
     let v = a.verdict;
     if v.number != DONE {
-        refused(v);
+        say_refused(v);
         return;
     }
     lines(bundle, left.len(), items, paths, a.count);
@@ -241,7 +222,7 @@ fn with_left(s: &[u8], at: usize, left: &[u8], items: &mut [usize], paths: &mut 
     let b = id_of_hex(part(s, right.start, right.end), &mut to);
     let w = b.verdict;
     if w.number != DONE {
-        refused(w);
+        say_refused(w);
         return;
     }
     let blank = word_at(s, right.next);
@@ -261,7 +242,7 @@ fn differ(s: &[u8], items: &mut [usize], paths: &mut [u8]) {
     let a = id_of_hex(part(s, left.start, left.end), &mut from);
     let v = a.verdict;
     if v.number != DONE {
-        refused(v);
+        say_refused(v);
         return;
     }
     with_left(s, left.next, part(&from, 0, a.count), items, paths);
@@ -272,10 +253,7 @@ fn work(all: &mut [u8], items: &mut [usize], paths: &mut [u8]) {
     let mut more = [0u8; 1];
     let n = io::read_full(STDIN_FILENO, all);
     if libc::read(STDIN_FILENO, &mut more) != 0 {
-        refused(Verdict {
-            number: BOUND,
-            ..FINE
-        });
+        say_too_long();
         return;
     }
     differ(part(all, 0, n), items, paths);

@@ -1,7 +1,3 @@
-pub mod Walks
-pub mod Steps
-pub mod Openings
-pub mod Doing
-pub mod Turning
+pub mod Folders
 pub mod Ending
 pub mod Roots

@@ -1,10 +1,10 @@
 -- The call `compare_trees`: its answer, and what was lent afterwards (docs/FORMAT.md, "Differences"). Assumes nothing.
-use Prim.Native.Nat.{ℕ, _+_, _/_, max}
-use mathlib.Core.List.{List, [], _∷_, _++_}
-use lib.Dec.{eqb, leb}
+use Prim.Native.Nat.{ℕ, max}
+use mathlib.Core.List.{List, []}
+use lib.Dec.{eqb}
 use lib.ListN.{length}
 use Rattle.ground.specs.Basics.{pick, part}
-use Rattle.ground.specs.Verdict.{verdict, counted, refused, sizeGate, stored}
+use Rattle.ground.specs.Verdict.{verdict, sizeGate, stored}
 use Rattle.ground.specs.declared.Answer.{Answer}
 use Rattle.ground.specs.declared.Gate.{Gate}
 use Rattle.ground.specs.declared.Gate.the-variants as gate
@@ -15,8 +15,9 @@ use Rattle.frame.specs.declared.Placed.the-variants.{At, Absent}
 use Rattle.bundle.specs.Bundle.{openOf}
 use Rattle.bundle.specs.declared.Opening.{Opening}
 use Rattle.bundle.specs.declared.Opening.the-variants as opening
-use Rattle.difference.specs.Items.{Item, Stored, missing, object, Folder, folderOf}
-use Rattle.difference.specs.Walk.{Out, refusedBy, compareFolders}
+use Rattle.item.specs.Items.{Stored, missing, object, Folder, folderOf}
+use Rattle.walk.specs.Walk.{Out, refusedBy, levels, compareFolders}
+use Rattle.walk.specs.Lent.{pathsOf, numbersOf, itemsIn, fitted}
 
 -- ---- a bundle as a store
 
@@ -31,39 +32,9 @@ storeOf s id = storedAt s (placeOf s id)
 abbrev pub foldersOf : Header → List ℕ → List ℕ → Folder
 foldersOf k s = folderOf (k .rules) (k .h) (storeOf s)
 
--- the levels of folders that may be opened: the roots are at depth 0, and the last is at depth 32
-abbrev pub levels : ℕ
-levels = 33
-
 -- how two roots differ
 unfoldable pub differences : Header → List ℕ → List ℕ → List ℕ → Out
 differences k s left right = compareFolders (foldersOf k s) levels [] left right 0
-
--- ---- as it is lent back
-
--- all paths, with nothing between them
-unfoldable pub pathsOf : List Item → List ℕ
-pathsOf [] = []
-pathsOf (x ∷ xs) = x .path ++ pathsOf xs
-
--- six numbers an item: where its path starts and ends, the modes, the places of the ids; the first path starts at a place
-unfoldable pub numbersOf : ℕ → List Item → List ℕ
-numbersOf at [] = []
-numbersOf at (x ∷ xs) =
-    at ∷ (at + length (x .path)) ∷ x .left .mode ∷ x .right .mode ∷ x .left .place ∷ x .right .place ∷ numbersOf (at + length (x .path)) xs
-
--- how many items lie in so many numbers
-abbrev pub itemsIn : ℕ → ℕ
-itemsIn numbers = numbers / 6
-
--- the refusal of the walk; then 4 with the items needed, then 8 with the bytes that the paths need
-unfoldable pub fitted : ℕ → ℕ → Out → Answer
-fitted room bytes o =
-    pick (eqb (o .verdict .number) 0)
-    (pick (leb (length (o .items)) room)
-    (pick (leb (length (pathsOf (o .items))) bytes) (counted (length (o .items))) (refused (verdict 8 (length (pathsOf (o .items))))))
-    (refused (verdict 4 (length (o .items)))))
-    (refused (o .verdict))
 
 -- ---- the whole: 2, 24, 25, then the walk
 

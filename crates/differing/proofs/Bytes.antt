@@ -17,7 +17,7 @@ use Rattle.rules.specs.Rules.{Rules, gitRules, judge}
 use Rattle.strict.specs.Strict.{strictly, strictCount, cut, textOf}
 use Rattle.one_listing.proofs.Cutting.{uncut-sound}
 use Rattle.one_listing.proofs.Present.{git-ok}
-use Rattle.difference.specs.Items.{Named, namedOf, Stored, object, holds, readStrictly, treeOf, folderOf, entryOf}
+use Rattle.item.specs.Items.{Named, namedOf, Stored, object, holds, readStrictly, treeOf, folderOf, entryOf}
 use Rattle.differing.specs.Differing.{StoreSameBytes}
 use Rattle.differing.proofs.Stores.{store-empty}
 

@@ -21,9 +21,11 @@ use Rattle.twice.specs.Ids.{idsIn, repeats}
 use Rattle.bundle.specs.Bundle.{openBy, openFrom, openOf}
 use Rattle.bundle.specs.declared.Opening.{Opening}
 use Rattle.bundle.specs.declared.Opening.the-variants.{Open, Shut}
-use Rattle.difference.specs.Items.{Item, folderOf}
-use Rattle.difference.specs.Walk.{Out, Done}
-use Rattle.difference.specs.Whole.{storeOf, foldersOf, levels, differences, numbersOf, pathsOf, itemsIn, fitted, rootsOf, walked, gated, found}
+use Rattle.item.specs.Items.{Item, folderOf}
+use Rattle.walk.specs.Walk.{Out, Done}
+use Rattle.walk.specs.Walk.{levels}
+use Rattle.walk.specs.Lent.{numbersOf, pathsOf, itemsIn, fitted}
+use Rattle.difference.specs.Whole.{storeOf, foldersOf, differences, rootsOf, walked, gated, found}
 use Rattle.difference.specs.Whole.{answer, itemsAfter, pathsAfter}
 use Rattle.differing.specs.Exactly.{Differing, StoreExactly, CompareRun, CallExactly}
 use Rattle.differing.proofs.Stores.{store-ascending}

@@ -15,10 +15,10 @@ use Rattle.order.proofs.Laws.{order-same, order-flip, order-trans, order-irrefl
 use Rattle.rules.specs.Rules.{permitted}
 use Rattle.rules.proofs.Laws.{permitted-parts}
 use Rattle.merge.specs.Merge.{byOrder}
-use Rattle.difference.specs.Items.{Side, absent, Named, isFolder, Item, Folder, shut, holds, join, sameId, sameSide}
-use Rattle.difference.specs.Walk.{Out, Done, nothing, put, andThen, Lower, change, leftOnly, rightOnly, both, rights, against}
-use Rattle.difference.specs.Walk.{compareEntries, opened, compareFolders}
-use Rattle.difference.proofs.Walks.{then-is, then-first, then-second, put-done}
+use Rattle.item.specs.Items.{Side, absent, Named, isFolder, Item, Folder, shut, holds, join, sameId, sameSide}
+use Rattle.walk.specs.Walk.{Out, Done, nothing, put, andThen, Lower, change, leftOnly, rightOnly, both, rights, against}
+use Rattle.walk.specs.Walk.{compareEntries, opened, compareFolders}
+use Rattle.walk.proofs.Walks.{then-is, then-first, then-second, put-done}
 use Rattle.differing.specs.Differing.{Bound, any, past, Ascending}
 use Rattle.differing.specs.Exactly.{Alone, Changed, only-left, only-right, in-both, itemOf, goesOn, Differing, here, inside, Exactly}
 use Rattle.differing.proofs.Theorems.{trees-open}

@@ -15,7 +15,7 @@ use Rattle.order.specs.declared.Order.the-variants.{Below}
 use Rattle.order.proofs.Laws.{order-trans, order-irreflexive}
 use Rattle.rules.specs.Rules.{permitted}
 use Rattle.rules.proofs.Laws.{permitted-parts}
-use Rattle.difference.specs.Items.{Item, join}
+use Rattle.item.specs.Items.{Item, join}
 use Rattle.differing.specs.Differing.{ofFolder, Bound, any, past, Beyond, InOrder, none, block, Differs, All, Distinct}
 
 -- ---- lists

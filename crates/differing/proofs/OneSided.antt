@@ -4,10 +4,10 @@ use mathlib.Core.Bool.{Bool, true, false}
 use mathlib.Core.Path.{_≡_, refl, ap, sym, _∙_}
 use mathlib.Core.List.{List, [], _∷_}
 use Rattle.ground.specs.Basics.{pick}
-use Rattle.difference.specs.Items.{Side, absent, Named, isFolder, Item, Folder, shut, holds, join}
-use Rattle.difference.specs.Walk.{Out, nothing, put, andThen, Lower, change, rights, against, compareEntries, opened, compareFolders, Done}
+use Rattle.item.specs.Items.{Side, absent, Named, isFolder, Item, Folder, shut, holds, join}
+use Rattle.walk.specs.Walk.{Out, nothing, put, andThen, Lower, change, rights, against, compareEntries, opened, compareFolders, Done}
 use Rattle.differing.specs.Differing.{everyEntry, everything, leftItem, rightItem, OneSide}
-use Rattle.difference.proofs.Walks.{then-same}
+use Rattle.walk.proofs.Walks.{then-same}
 
 opened-same : (f : Folder) (go go′ : List Named → Out) → ((es : List Named) → go es ≡ go′ es) → opened f go ≡ opened f go′
 unfolding opened

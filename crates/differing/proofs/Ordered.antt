@@ -18,11 +18,11 @@ use Rattle.order.specs.declared.Order.the-variants.{Below, Same, Above}
 use Rattle.order.proofs.Laws.{order-same, order-flip, order-trans}
 use Rattle.rules.specs.Rules.{permitted}
 use Rattle.rules.proofs.Laws.{permitted-parts}
-use Rattle.difference.specs.Items.{Side, absent, Named, isFolder, Item, Folder, shut, holds, join, sameId, sameSide}
-use Rattle.difference.specs.Walk.{Out, refusedBy, nothing, put, andThen, Lower, change, leftOnly, rightOnly, both, rights, against, compareEntries, opened, compareFolders, Done}
+use Rattle.item.specs.Items.{Side, absent, Named, isFolder, Item, Folder, shut, holds, join, sameId, sameSide}
+use Rattle.walk.specs.Walk.{Out, refusedBy, nothing, put, andThen, Lower, change, leftOnly, rightOnly, both, rights, against, compareEntries, opened, compareFolders, Done}
 use Rattle.merge.specs.Merge.{byOrder}
 use Rattle.differing.specs.Differing.{ofFolder, Bound, any, past, Beyond, Ascending, InOrder, none, block, GitOrder}
-use Rattle.difference.proofs.Walks.{then-is, then-stop, put-done}
+use Rattle.walk.proofs.Walks.{then-is, then-stop, put-done}
 
 done-or : (o : Out) → Done o ⊎ (Done o → ⊥)
 done-or o = cases (eqb (o .verdict .number) 0) refl

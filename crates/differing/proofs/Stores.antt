@@ -24,8 +24,8 @@ use Rattle.strict.specs.Strict.{strictly, strictCount, cut, textOf}
 use Rattle.reading.specs.declared.Counted.{Counted}
 use Rattle.reading.specs.declared.Counted.the-variants.{Total, Stopped}
 use Rattle.rules.proofs.Laws.{permitted-parts}
-use Rattle.difference.specs.Items.{Named, namedOf, isFolder, Stored, missing, object, Folder, shut, holds, readStrictly, treeOf, folderOf}
-use Rattle.difference.specs.Walk.{compareFolders, Done}
+use Rattle.item.specs.Items.{Named, namedOf, isFolder, Stored, missing, object, Folder, shut, holds, readStrictly, treeOf, folderOf}
+use Rattle.walk.specs.Walk.{compareFolders, Done}
 use Rattle.differing.specs.Differing.{Slashless, Bound, any, past, Beyond, Ascending, StoreOrder, StoreEmpty, StoreDistinct}
 use Rattle.differing.proofs.Theorems.{empty-exactly}
 use Rattle.differing.proofs.Ordered.{git-order}

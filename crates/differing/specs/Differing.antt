@@ -14,8 +14,8 @@ use Rattle.order.specs.declared.Order.the-variants.{Below}
 use Rattle.rules.specs.Rules.{permitted}
 use Rattle.strict.specs.Strict.{strictCount}
 use Rattle.reading.specs.declared.Counted.the-variants.{Total}
-use Rattle.difference.specs.Items.{Side, absent, Named, isFolder, Item, Stored, object, Folder, holds, folderOf, join, entryOf}
-use Rattle.difference.specs.Walk.{Lower, Out, refusedBy, nothing, Done, put, andThen, opened, compareEntries, compareFolders}
+use Rattle.item.specs.Items.{Side, absent, Named, isFolder, Item, Stored, object, Folder, holds, folderOf, join, entryOf}
+use Rattle.walk.specs.Walk.{Lower, Out, refusedBy, nothing, Done, put, andThen, opened, compareEntries, compareFolders}
 
 -- ---- no item exactly where nothing differs
 

@@ -14,9 +14,10 @@ use Rattle.ground.specs.declared.Answer.{Answer}
 use Rattle.frame.specs.declared.Header.{Header}
 use Rattle.bundle.specs.Bundle.{openOf}
 use Rattle.bundle.specs.declared.Opening.the-variants.{Open}
-use Rattle.difference.specs.Items.{absent, Named, isFolder, Item, Stored, Folder, holds, folderOf, join, sameId, sameSide}
-use Rattle.difference.specs.Walk.{Done, compareFolders}
-use Rattle.difference.specs.Whole.{foldersOf, numbersOf, pathsOf}
+use Rattle.item.specs.Items.{absent, Named, isFolder, Item, Stored, Folder, holds, folderOf, join, sameId, sameSide}
+use Rattle.walk.specs.Walk.{Done, compareFolders}
+use Rattle.walk.specs.Lent.{numbersOf, pathsOf}
+use Rattle.difference.specs.Whole.{foldersOf}
 use Rattle.difference.proofs.compare_trees.Kinds as kinds
 use Rattle.difference.proofs.compare_trees.Reads as reads
 use Rattle.differing.specs.Differing.{any, Ascending}

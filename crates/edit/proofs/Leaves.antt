@@ -17,7 +17,7 @@ use Rattle.mode.specs.Write.{writeMode, again}
 use Rattle.mode.specs.declared.EntryMode.{EntryMode}
 use Rattle.mode.specs.declared.ModeRead.the-variants.{Mode}
 use Rattle.mode_table.specs.declared.Written.{Written}
-use Rattle.mode.proofs.Again.{again-same, again-less, written-reads}
+use Rattle.mode_round.proofs.Again.{again-same, again-less, written-reads}
 use Rattle.entry.specs.Entry.{Entry}
 use Rattle.rules.specs.Rules.{orElse, isText, groupRow, modesOf, isPlain, permitted, isDotGit, nameNumber, bareNumber, gitRules}
 use Rattle.rules.proofs.Laws.{number-free}

@@ -1,37 +1,18 @@
 // Finds what a path leads to in a bundle: `./run find ROOT PATH <bundle`, the root's id in hex (docs/FORMAT.md, "Bundles"). Prints the mode,
 // the word of its kind and the id, or a refusal in one line. Words and bundle have at most 4,000,000 bytes together: the bundle is lent
 // whole, and the stack, of 8 MiB, has to hold it beside the 4 MiB that a bundle with its ids in no order needs.
-use ground::BOUND;
 use ground::DONE;
-use ground::FINE;
-use ground::Verdict;
 use hex_of_id::hex_of_id;
 use id_of_hex::id_of_hex;
 use libc::STDIN_FILENO;
-use libc::STDOUT_FILENO;
 use mode::EntryMode;
 use mode_text::ShortText;
 use path::Followed;
 use path::follow_path;
+use saying::say;
+use saying::say_refused;
+use saying::say_too_long;
 use words::word_at;
-
-fn say(s: &[u8]) {
-    io::write_all(STDOUT_FILENO, s);
-}
-
-fn number(n: usize) {
-    io::print_decimal(STDOUT_FILENO, n as u64);
-}
-
-fn refused(v: Verdict) {
-    say(b"refused ");
-    number(v.number);
-    say(b" at ");
-    number(v.place);
-    say(b" part ");
-    number(v.part);
-    say(b"\n");
-}
 
 // The bytes from one place to another, or none where they do not lie inside.
 fn part(s: &[u8], from: usize, to: usize) -> &[u8] {
@@ -68,7 +49,7 @@ fn follow(bundle: &[u8], root: &[u8], path: &[u8]) {
     let f = follow_path(bundle, root, path);
     let v = f.verdict;
     if v.number != DONE {
-        refused(v);
+        say_refused(v);
         return;
     }
     found(f);
@@ -83,7 +64,7 @@ fn find(s: &[u8]) {
     let a = id_of_hex(part(s, root.start, root.end), &mut id);
     let v = a.verdict;
     if v.number != DONE {
-        refused(v);
+        say_refused(v);
         return;
     }
     follow(
@@ -98,10 +79,7 @@ fn work(all: &mut [u8]) {
     let mut more = [0u8; 1];
     let n = io::read_full(STDIN_FILENO, all);
     if libc::read(STDIN_FILENO, &mut more) != 0 {
-        refused(Verdict {
-            number: BOUND,
-            ..FINE
-        });
+        say_too_long();
         return;
     }
     find(part(all, 0, n));

@@ -1,9 +1,8 @@
-// A bundle's framing: its header, one object at a place, and where the object of an id stands (docs/FORMAT.md, "Bundles").
+// A bundle's framing: its header, and one object at a place (docs/FORMAT.md, "Bundles").
 ghost use mathlib.Core.Path.{_≡_};
 ghost use Prim.Native.Nat.{_+_, _≤_, _<_};
 ghost use lib.ListN.{length, take, drop};
-ghost use Rattle.frame.specs.Frame.{little, fieldsAt, headOf, frameAt, frames};
-ghost use Rattle.frame.specs.Place.{firstOf, placeOf};
+ghost use Rattle.frame.specs.Frame.{little, fieldsAt, headOf, frameAt};
 use ground::MOST_RECORDS;
 use scan::same_bytes;
 
@@ -167,37 +166,4 @@ pub fn frame_at(s: &[u8], h: usize, at: usize) -> Framed
         start,
         end,
     })
-}
-
-// The first object of an id among so many from a place on.
-fn find_from(s: &[u8], h: usize, count: usize, from: usize, id: &[u8]) -> Placed
-    ensures { λ r. ⌜ r ≡ firstOf h (now (s .entry)) (now (id .entry)) (frames h (now (s .entry)) count from) ⌝ }
-{
-    let mut at = from;
-    let mut left = count;
-    while 0 < left {
-        match frame_at(s, h, at) {
-            Framed::Broken => return Placed::Absent,
-            Framed::Whole(f) => {
-                let start = f.id;
-                let end = start + h;
-                if same_bytes(&s[start..end], id) {
-                    return Placed::At(f);
-                }
-                at = f.end;
-                left -= 1;
-            }
-        }
-    }
-    Placed::Absent
-}
-
-// Where the object of an id stands: the first, before any fault of the framing. Every run of bytes is taken.
-pub fn find_object(s: &[u8], id: &[u8]) -> Placed
-    ensures { λ r. ⌜ r ≡ placeOf (now (s .entry)) (now (id .entry)) ⌝ }
-{
-    match read_header(s) {
-        Head::Good(k) => find_from(s, k.h, k.count, k.from, id),
-        Head::Bad => Placed::Absent,
-    }
 }

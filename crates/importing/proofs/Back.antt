@@ -41,9 +41,9 @@ use Rattle.tree_text.specs.Text.{recordText, asText}
 use Rattle.tree_export.specs.Export.{textIn, countedIn, exportAnswer}
 use Rattle.tree_export.proofs.Laws.{export-shut, export-open, counted-length, counted-total}
 use Rattle.text_record.specs.Record.{textNumber, entryIn, sizeIn}
-use Rattle.tree_import.specs.Import.{Texts, done, stop, one, readFrom, texts, entriesIn, ending}
-use Rattle.tree_import.specs.Import.{isSame, compareSame, nameSame, anyBefore, repeated, orThen, importVerdict, imported, importAnswer, importOutput}
-use Rattle.tree_import.proofs.Whole.{import-open, counted-fine}
+use Rattle.text_import.specs.Import.{Texts, done, stop, one, readFrom, texts, entriesIn, ending}
+use Rattle.text_import.specs.Import.{isSame, compareSame, nameSame, anyBefore, repeated, orThen, importVerdict, imported, importAnswer, importOutput}
+use Rattle.text_import.proofs.Whole.{import-open, counted-fine}
 use Rattle.importing.specs.Back.{ExportRun, ImportRun, SameObject}
 use Rattle.importing.proofs.Sorted.{Apart}
 use Rattle.importing.proofs.Record.{record-back, record-some}

@@ -27,8 +27,8 @@ use Rattle.tree_text.specs.Text.{frontText, recordText, asText}
 use Rattle.text_form.specs.Form.{between, within, allWithin, allLower, begins, frontLen, nameFrom}
 use Rattle.text_record.specs.Record.{frontMode, nameEnd, nameIn, idIn, textNumber, entryIn, sizeIn}
 use Rattle.text_record.proofs.Shape.{shape, lower-hex, tab-inside}
-use Rattle.tree_import.specs.Import.{Texts, stop, one, readFrom, texts, entriesIn, ending}
-use Rattle.tree_import.specs.Import.{compareSame, nameSame, repeated, orThen, importVerdict}
+use Rattle.text_import.specs.Import.{Texts, stop, one, readFrom, texts, entriesIn, ending}
+use Rattle.text_import.specs.Import.{compareSame, nameSame, repeated, orThen, importVerdict}
 use Rattle.importing.specs.Importing.{given, importedListing}
 use Rattle.importing.specs.Back.{SameText}
 use Rattle.importing.proofs.Theorem.{front-known, whole, importing}

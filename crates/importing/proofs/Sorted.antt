@@ -18,7 +18,7 @@ use Rattle.one_listing.specs.Sound.{SoundEntry, Before, Ascending, EachSound, D
 use Rattle.sorting.specs.Sort.{insertBy, sortBy, Perm, none, more, flip, then}
 use Rattle.sorting.proofs.Sorted.{sort-perm, perm-sym}
 use Rattle.sorting.proofs.Repeats.{perm-mem}
-use Rattle.tree_import.specs.Import.{Texts, done, stop, one, entriesIn, isSame, compareSame, nameSame, anyBefore, repeated}
+use Rattle.text_import.specs.Import.{Texts, done, stop, one, entriesIn, isSame, compareSame, nameSame, anyBefore, repeated}
 
 -- ---- no entry repeats an earlier one
 

@@ -33,18 +33,18 @@ use Rattle.one_listing.proofs.Present.{git-ok, plainly, git-one-listing}
 use Rattle.sorting.specs.Sort.{sortBy, Perm}
 use Rattle.sorting.proofs.Sorted.{sort-perm, perm-sym, perm-length}
 use Rattle.sorting.proofs.Repeats.{perm-mem}
-use Rattle.mend.proofs.Sorts.{name-free}
+use Rattle.mend_kept.proofs.Sorts.{name-free}
 use Rattle.id_of_hex.proofs.Laws.{bytes-length}
 use Rattle.tree_text.specs.Text.{frontText, asText}
 use Rattle.text_form.specs.Form.{begins, nameFrom}
 use Rattle.tree_export.specs.Export.{textIn}
 use Rattle.text_record.specs.Record.{frontMode, nameIn, idIn, textNumber, entryIn}
 use Rattle.text_record.proofs.Shape.{shape}
-use Rattle.tree_import.specs.Import.{Texts, done, stop, one, texts, entriesIn, ending, compareSame, nameSame, repeated, orThen, importVerdict, imported, countedOf, importAnswer}
-use Rattle.tree_import.proofs.Walk.{read-few}
-use Rattle.tree_import.proofs.Places.{Good, good-texts}
-use Rattle.tree_import.proofs.Bytes.{one-digits}
-use Rattle.tree_import.proofs.Whole.{import-shut, import-open, counted-fine}
+use Rattle.text_import.specs.Import.{Texts, done, stop, one, texts, entriesIn, ending, compareSame, nameSame, repeated, orThen, importVerdict, imported, countedOf, importAnswer}
+use Rattle.text_import.proofs.Walk.{read-few}
+use Rattle.text_import.proofs.Places.{Good, good-texts}
+use Rattle.text_import.proofs.Bytes.{one-digits}
+use Rattle.text_import.proofs.Whole.{import-shut, import-open, counted-fine}
 use Rattle.importing.specs.Importing.{given, importedListing, Done, Importing}
 use Rattle.importing.proofs.Sorted.{clear, sort-up, each-perm, distinct-perm, apart-distinct}
 

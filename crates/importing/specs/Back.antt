@@ -13,7 +13,7 @@ use Rattle.one_listing.specs.Sound.{Ascending}
 use Rattle.hex_of_id.specs.Demand.{Bytes}
 use Rattle.tree_text.specs.Text.{asText}
 use Rattle.tree_export.specs.Export.{textIn}
-use Rattle.tree_import.specs.Import.{texts, imported}
+use Rattle.text_import.specs.Import.{texts, imported}
 use Rattle.importing.specs.Importing.{given, Done}
 use Rattle.tree_export.proofs.export_tree.Kinds as export-kinds
 use Rattle.tree_export.proofs.export_tree.Reads as export-reads

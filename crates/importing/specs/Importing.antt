@@ -12,7 +12,7 @@ use Rattle.one_listing.specs.Demand.{Accepts, SameSet}
 use Rattle.sorting.specs.Sort.{sortBy, Perm}
 use Rattle.tree_text.specs.Text.{asText}
 use Rattle.tree_export.specs.Export.{textIn}
-use Rattle.tree_import.specs.Import.{texts, entriesIn, imported, importAnswer}
+use Rattle.text_import.specs.Import.{texts, entriesIn, imported, importAnswer}
 
 -- the entries that the records of a text say, as they come, and in Git's order
 abbrev pub given : ℕ → ℕ → List ℕ → List Entry

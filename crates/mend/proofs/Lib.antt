@@ -1,6 +1,2 @@
-pub mod Walk
-pub mod Bisect
-pub mod Bytes
-pub mod Fates
 pub mod Sorts
 pub mod Whole

@@ -28,10 +28,10 @@ use Rattle.keys.specs.Key.{keyAt, belowBy}
 use Rattle.sorting.specs.Sort.{sortBy}
 use Rattle.sorting.proofs.Sorted.{sort-length}
 use Rattle.mend.specs.Mend.{fatesFrom, fatesOf, keptFrom, keptOf, mended, namesAfter, notMended, inRoom, countedAnswer, answerBy, mendAnswer}
-use Rattle.mend.specs.Code.{chosen, elementOf, elements, Known, codeFates, codeSize, allBytes}
+use Rattle.mend_kept.specs.Code.{chosen, elementOf, elements, Known, codeFates, codeSize, allBytes}
 use Rattle.mend.specs.declared.Mended.{Mended}
-use Rattle.mend.proofs.Fates.{reads-all, sorted-known, fates-are, kept-elements}
-use Rattle.mend.proofs.Sorts.{mended-is, mended-length, size-kept, sized-of}
+use Rattle.mend_kept.proofs.Fates.{reads-all, sorted-known, fates-are, kept-elements}
+use Rattle.mend_kept.proofs.Sorts.{mended-is, mended-length, size-kept, sized-of}
 
 -- ---- lengths
 

@@ -18,7 +18,7 @@ ghost use Rattle.keys.specs.Key.{keyAt, belowBy};
 ghost use Rattle.sorting.specs.Sort.{Ascends, sortBy};
 ghost use Rattle.fate.specs.Fate.{ownText};
 ghost use Rattle.mend.specs.Mend.{fatesOf, mended, notMended, inRoom, countedAnswer, mendAnswer};
-ghost use Rattle.mend.specs.Code.{Inside, chosen, elementOf, elements, Lowest, Known, hasName, earlier, codeFate, codeFates, keptSize, codeSize, bytesAt, allBytes};
+ghost use Rattle.mend_kept.specs.Code.{Inside, chosen, elementOf, elements, Lowest, Known, hasName, earlier, codeFate, codeFates, keptSize, codeSize, bytesAt, allBytes};
 use entry::Cursor;
 use entry::Decoded;
 use entry::EntryRecord;

@@ -8,14 +8,13 @@ use fate::KEPT;
 use fate::NO_NAME;
 use fate::NO_SORT;
 use fate::own_text;
-use ground::BOUND;
 use ground::DONE;
-use ground::FINE;
-use ground::Verdict;
 use libc::STDIN_FILENO;
-use libc::STDOUT_FILENO;
 use mend::mend_tree;
 use reading::read_tree;
+use saying::say;
+use saying::say_refused;
+use saying::say_too_long;
 use words::id_length;
 use words::word_at;
 
@@ -23,24 +22,6 @@ use words::word_at;
 const LONGEST: usize = 135168;
 
 const MOST: usize = 6144;
-
-fn say(s: &[u8]) {
-    io::write_all(STDOUT_FILENO, s);
-}
-
-fn number(n: usize) {
-    io::print_decimal(STDOUT_FILENO, n as u64);
-}
-
-fn refused(v: Verdict) {
-    say(b"refused ");
-    number(v.number);
-    say(b" at ");
-    number(v.place);
-    say(b" part ");
-    number(v.part);
-    say(b"\n");
-}
 
 // The bytes from one place to another, or none where they do not lie inside.
 fn part(s: &[u8], from: usize, to: usize) -> &[u8] {
@@ -120,7 +101,7 @@ fn mend(object: &[u8], h: usize) {
     let a = mend_tree(object, h, &mut fates, &mut out);
     let v = a.verdict;
     if v.number != DONE {
-        refused(v);
+        say_refused(v);
         return;
     }
     let mut records = [0usize; MOST * WIDTH];
@@ -141,10 +122,7 @@ fn main() {
     let mut more = [0u8; 1];
     let n = io::read_full(STDIN_FILENO, &mut all);
     if libc::read(STDIN_FILENO, &mut more) != 0 {
-        refused(Verdict {
-            number: BOUND,
-            ..FINE
-        });
+        say_too_long();
         return;
     }
     work(part(&all, 0, n));

@@ -1,13 +1,12 @@
 // Mends a tree object: `./run mended [sha256] <object >new` (docs/FORMAT.md, "Mending"); the program `mend` says what is done to each entry.
 // A refusal is one line with its number, place and part.
-use ground::BOUND;
 use ground::DONE;
-use ground::FINE;
-use ground::Verdict;
 use libc::STDIN_FILENO;
-use libc::STDOUT_FILENO;
 use mend::Mended;
 use mend::mend_tree;
+use saying::say;
+use saying::say_refused;
+use saying::say_too_long;
 use words::id_length;
 use words::word_at;
 
@@ -15,23 +14,6 @@ use words::word_at;
 const LONGEST: usize = 135168;
 
 const MOST: usize = 6144;
-
-fn say(s: &[u8]) {
-    io::write_all(STDOUT_FILENO, s);
-}
-
-// A word, and a number behind it.
-fn say_with(word: &[u8], n: usize) {
-    say(word);
-    io::print_decimal(STDOUT_FILENO, n as u64);
-}
-
-fn refused(v: Verdict) {
-    say_with(b"refused ", v.number);
-    say_with(b" at ", v.place);
-    say_with(b" part ", v.part);
-    say(b"\n");
-}
 
 // The bytes from one place to another, or none where they do not lie inside.
 fn part(s: &[u8], from: usize, to: usize) -> &[u8] {
@@ -47,7 +29,7 @@ fn part(s: &[u8], from: usize, to: usize) -> &[u8] {
 fn tell(a: Mended, out: &[u8]) {
     let v = a.verdict;
     if v.number != DONE {
-        refused(v);
+        say_refused(v);
         return;
     }
     say(part(out, 0, a.count));
@@ -74,10 +56,7 @@ fn read(all: &mut [u8]) -> usize {
 fn work(all: &mut [u8], fates: &mut [usize], out: &mut [u8]) {
     let n = read(all);
     if LONGEST < n {
-        refused(Verdict {
-            number: BOUND,
-            ..FINE
-        });
+        say_too_long();
         return;
     }
     tell(mended(part(all, 0, n), fates, out), out);

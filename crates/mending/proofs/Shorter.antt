@@ -25,9 +25,9 @@ use Rattle.entry.specs.declared.Decoded.the-variants.{Whole}
 use Rattle.entry.proofs.Laws.{decode-inside, decode-parts}
 use Rattle.fate.specs.Fate.{staysMode, ownText}
 use Rattle.mend.specs.Mend.{fateIn, isKept, namesAfter, keptFrom, mendedEntry}
-use Rattle.mend.proofs.Bytes.{own-most, bytes-size}
-use Rattle.mend.proofs.Fates.{Reads}
-use Rattle.mend.proofs.Sorts.{kept-mode}
+use Rattle.mend_kept.proofs.Bytes.{own-most, bytes-size}
+use Rattle.mend_kept.proofs.Fates.{Reads}
+use Rattle.mend_kept.proofs.Sorts.{kept-mode}
 
 -- ---- few digits say a small number
 

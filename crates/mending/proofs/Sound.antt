@@ -34,9 +34,9 @@ use Rattle.sorting.proofs.Sorted.{sort-perm, sort-ascends, perm-sym}
 use Rattle.sorting.proofs.Repeats.{perm-mem, Once, perm-once}
 use Rattle.fate.specs.Fate.{ownMode}
 use Rattle.mend.specs.Mend.{keptFrom, keptOf, mendedEntry, mended}
-use Rattle.mend.specs.Code.{elementOf}
-use Rattle.mend.proofs.Fates.{All, all-mem}
-use Rattle.mend.proofs.Sorts.{sort-map, sort-same, all-of, Kept, kept-are, Distinct, kept-distinct, one-name, name-free, own-tree, below-stands}
+use Rattle.mend_kept.specs.Code.{elementOf}
+use Rattle.mend_kept.proofs.Fates.{All, all-mem}
+use Rattle.mend_kept.proofs.Sorts.{sort-map, sort-same, all-of, Kept, kept-are, Distinct, kept-distinct, one-name, name-free, own-tree, below-stands}
 use Rattle.mending.specs.Mending.{mendedListing}
 
 -- ---- one entry

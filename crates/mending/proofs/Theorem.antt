@@ -30,8 +30,8 @@ use Rattle.sorting.proofs.Sorted.{sort-length, sort-perm}
 use Rattle.sorting.proofs.Repeats.{perm-mem}
 use Rattle.mend.specs.Mend.{fateIn, isKept, namesAfter, fatesOf, keptFrom, keptOf, mendedEntry, mended, notMended, inRoom, countedAnswer, answerBy, mendAnswer}
 use Rattle.mend.specs.declared.Mended.{Mended}
-use Rattle.mend.proofs.Fates.{All, reads-all}
-use Rattle.mend.proofs.Sorts.{mended-length}
+use Rattle.mend_kept.proofs.Fates.{All, reads-all}
+use Rattle.mend_kept.proofs.Sorts.{mended-length}
 use Rattle.mend.proofs.Whole.{fates-length}
 use Rattle.mending.specs.Mending.{mendedListing, Done, AllKept, Mending}
 use Rattle.mending.proofs.Shorter.{kept-shorter}

@@ -37,8 +37,8 @@ use Rattle.sorting.proofs.Sorted.{sort-done}
 use Rattle.fate.specs.Fate.{staysMode, ownMode, ownText, fateOf}
 use Rattle.fate.proofs.Laws.{fate-kept}
 use Rattle.mend.specs.Mend.{among, fateIn, isKept, namesAfter, fatesFrom, keptFrom, fatesOf, keptOf, mendedEntry, mended}
-use Rattle.mend.proofs.Bytes.{own-text}
-use Rattle.mend.proofs.Fates.{All}
+use Rattle.mend_kept.proofs.Bytes.{own-text}
+use Rattle.mend_kept.proofs.Fates.{All}
 
 -- ---- one of the five modes is its kind's own
 

@@ -12,16 +12,12 @@ use Rattle.ground.specs.Verdict.{verdict, sizeGate}
 use Rattle.ground.specs.declared.Verdict.{Verdict}
 use Rattle.ground.specs.declared.Gate.the-variants.{Open, Shut}
 use Rattle.ground.proofs.Laws.{same-test}
-use Rattle.ground.proofs.Table.{rows-agree}
 use Rattle.mode_text.specs.Read.{octalFrom, hasSix, textLen, settle, restAt, readText, readTextAt}
 use Rattle.mode_text.specs.Read as reads
-use Rattle.mode_text.specs.Write.{shown}
 use Rattle.mode_text.specs.declared.TextRead.{TextRead}
 use Rattle.mode_text.specs.declared.TextRead.the-variants as text
 use Rattle.mode_text.specs.declared.Octal.the-variants.{Number, Other}
 use Rattle.mode_text.proofs.Laws as texts
-use Rattle.mode_table.specs.Table.{rows, noRow, rowAt}
-use Rattle.mode_table.specs.declared.Written.{Written}
 use Rattle.mode.specs.Mode.{topBits, valueOf, sortOf, executes, kindOf, accepted, rejected, fromNumber}
 use Rattle.mode.specs.Read.{made, modeOf, readMode, moved, readModeAt, alone, modeAlone}
 use Rattle.mode.specs.declared.EntryMode.{EntryMode}
@@ -144,15 +140,3 @@ module _ (i : List ℕ) where
   pub alone-shut : (v : Verdict) → sizeGate (length i) 0 ≡ Shut v → modeAlone i ≡ rejected v
   unfolding modeAlone
   alone-shut v e = rw e
-
--- ---- the table's rule, over all of its rows at once: each kind is the kind of the row's mode, ..
-pub row-kind-is : (i : ℕ) → i < 5 → rowAt i .kind ≡ kindOf (rowAt i .mode)
-unfolding rows rowAt kindOf sortOf valueOf executes
-row-kind-is = rows-agree rows noRow (λ (r : Written). r .kind) (λ (r : Written). kindOf (r .mode)) refl
-
--- .. and each text with a space behind it reads as that mode.
-pub row-reads : (i : ℕ) → i < 5 → readMode (shown (rowAt i .text) ++ 32 ∷ []) ≡ Mode (record { internal = rowAt i .mode }) (rowAt i .text .len + 1)
-unfolding rows rowAt readMode readText octalFrom hasSix textLen settle restAt
-row-reads =
-    rows-agree rows noRow (λ (r : Written). readMode (shown (r .text) ++ 32 ∷ []))
-    (λ (r : Written). Mode (record { internal = r .mode }) (r .text .len + 1)) refl

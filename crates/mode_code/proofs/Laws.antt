@@ -24,8 +24,8 @@ use Rattle.mode_table.specs.declared.Written.{Written}
 use Rattle.mode.proofs.Laws.{read-parts, read-next}
 use Rattle.mode_table.proofs.Laws.{row-text-is}
 use Rattle.mode_text.proofs.Laws.{rest-more, rest-end, text-is}
-use Rattle.mode.proofs.Space.{read-small}
-use Rattle.mode.proofs.Again.{written-reads}
+use Rattle.mode_round.proofs.Space.{read-small}
+use Rattle.mode_round.proofs.Again.{written-reads}
 use Rattle.mode_code.specs.Code.{coded, codeOf, codeAt, spaced, codeIn, quickAt}
 
 -- ---- what was read is known by its code

@@ -2,7 +2,7 @@
 use native.Mathlib.Numerals.{add-one}
 use native.Mathlib.Omega.{arith}
 use Prim.Native.Nat.{ℕ, _+_, _*_, _<_, _≤_}
-use mathlib.Core.Path.{_≡_, refl, _∙_}
+use mathlib.Core.Path.{_≡_, refl, sym, _∙_}
 use mathlib.Core.Bool.{Bool, true, false, _&&_, and-true}
 use mathlib.Core.List.{List, [], _∷_}
 use lib.Dec.{eqb}
@@ -16,7 +16,7 @@ use Rattle.ground.specs.Scan.{sameBytes}
 use Rattle.ground.proofs.Laws.{and-left, and-right, is-false, same-test}
 use Rattle.mode_table.specs.Table.{rows}
 use Rattle.mode_code.specs.Code.{coded, codeIn, quickAt}
-use Rattle.mode_code.specs.Quad.{four, quadAt}
+use Rattle.mode_code.specs.Quad.{four, quadAt, sixOf}
 
 -- ---- four bytes are known by their number
 
@@ -67,11 +67,7 @@ five-tests true true true true true f = and-true f
 
 -- the code that the table gives three numbers of four bytes: those at the front, from the fourth on, and from the third on
 abbrev toldBy : ℕ → ℕ → ℕ → ℕ
-toldBy a b d =
-    pick (eqb a 0x30303034 && eqb d 0x20303030) (coded 0o40000 6)
-    (pick (eqb a 0x36303031 && eqb b 0x20343436) (coded 0o100644 7)
-    (pick (eqb a 0x37303031 && eqb b 0x20353537) (coded 0o100755 7)
-    (pick (eqb a 0x30303231 && eqb b 0x20303030) (coded 0o120000 7) (pick (eqb a 0x30303631 && eqb b 0x20303030) (coded 0o160000 7) 0))))
+toldBy a b d = pick (eqb a 0x30303034 && eqb d 0x20303030) (coded 0o40000 6) (sixOf a b)
 
 apart : (a x b y : ℕ) → (a ≡ x → b ≡ y → ⊥) → (eqb a x && eqb b y) ≡ false
 apart a x b y n = is-false _ (λ e. n (eqb-true a x (and-left (eqb a x) _ e)) (eqb-true b y (and-right (eqb a x) _ e)))
@@ -137,7 +133,7 @@ module _ (s : List ℕ) (at : ℕ) (h : at + 7 ≤ length s) (byte : (i : ℕ) �
 
   -- the table's answer by the numbers
   quick-told : quickAt s at ≡ toldBy (quadAt s at) (quadAt s (at + 3)) (quadAt s (at + 2))
-  unfolding quickAt codeIn rows
+  unfolding quickAt codeIn rows sixOf
   quick-told =
       rw (
         le-leb (at + 7) (length s) h,
@@ -148,32 +144,17 @@ module _ (s : List ℕ) (at : ℕ) (h : at + 7 ≤ length s) (byte : (i : ℕ) �
         six-test 49 54 48 48 48 48 (omega arith),
       )
 
-  -- ---- what the table says: each of the five, or none of them
+  -- ---- what the table says: a tree, none that begins as one, or what six digits say
 
   pub quick-tree : quadAt s at ≡ 0x30303034 → quadAt s (at + 2) ≡ 0x20303030 → quickAt s at ≡ coded 0o40000 6
   quick-tree e f = quick-told ∙ rw (e, f)
 
-  pub quick-file : quadAt s at ≡ 0x36303031 → quadAt s (at + 3) ≡ 0x20343436 → quickAt s at ≡ coded 0o100644 7
-  quick-file e f = quick-told ∙ rw (e, f)
+  pub quick-none : quadAt s at ≡ 0x30303034 → (quadAt s (at + 2) ≡ 0x20303030 → ⊥) → quickAt s at ≡ 0
+  unfolding sixOf
+  quick-none e f = quick-told ∙ rw (apart _ _ _ _ (λ p q. f q), e)
 
-  pub quick-executable : quadAt s at ≡ 0x37303031 → quadAt s (at + 3) ≡ 0x20353537 → quickAt s at ≡ coded 0o100755 7
-  quick-executable e f = quick-told ∙ rw (e, f)
-
-  pub quick-link : quadAt s at ≡ 0x30303231 → quadAt s (at + 3) ≡ 0x20303030 → quickAt s at ≡ coded 0o120000 7
-  quick-link e f = quick-told ∙ rw (e, f)
-
-  pub quick-commit : quadAt s at ≡ 0x30303631 → quadAt s (at + 3) ≡ 0x20303030 → quickAt s at ≡ coded 0o160000 7
-  quick-commit e f = quick-told ∙ rw (e, f)
-
-  pub quick-none :
-      (quadAt s at ≡ 0x30303034 → quadAt s (at + 2) ≡ 0x20303030 → ⊥)
-      → (quadAt s at ≡ 0x36303031 → quadAt s (at + 3) ≡ 0x20343436 → ⊥)
-      → (quadAt s at ≡ 0x37303031 → quadAt s (at + 3) ≡ 0x20353537 → ⊥)
-      → (quadAt s at ≡ 0x30303231 → quadAt s (at + 3) ≡ 0x20303030 → ⊥)
-      → (quadAt s at ≡ 0x30303631 → quadAt s (at + 3) ≡ 0x20303030 → ⊥)
-      → quickAt s at ≡ 0
-  quick-none p q r t u =
-      quick-told ∙ rw (apart _ _ _ _ p, apart _ _ _ _ q, apart _ _ _ _ r, apart _ _ _ _ t, apart _ _ _ _ u)
+  pub quick-six : (a b : ℕ) → a ≡ quadAt s at → b ≡ quadAt s (at + 3) → (a ≡ 0x30303034 → ⊥) → sixOf a b ≡ quickAt s at
+  quick-six a b p q n = rw (p, q) (sym (quick-told ∙ rw (apart _ _ _ _ (λ e f. n (p ∙ e)))))
 
 -- fewer than seven bytes are left
 pub quick-short : (s : List ℕ) (at : ℕ) → length s < at + 7 → quickAt s at ≡ 0

@@ -4,7 +4,7 @@ ghost use mathlib.Core.Path.{_≡_};
 ghost use Prim.Native.Nat.{_+_, _<_, _≤_};
 ghost use lib.ListN.{length};
 ghost use Rattle.mode_code.specs.Code.{codeAt, quickAt};
-ghost use Rattle.mode_code.specs.Quad.{quadAt};
+ghost use Rattle.mode_code.specs.Quad.{quadAt, sixOf};
 use mode::EntryMode;
 use mode::ModeRead;
 
@@ -44,7 +44,6 @@ pub fn quick_code(s: &[u8], at: usize) -> usize
         return 0;
     }
     let a = quad(s, at);
-    let b = quad(s, at + 3);
     // "4000" and "000 "
     if a == 0x30303034 {
         let d = quad(s, at + 2);
@@ -53,28 +52,28 @@ pub fn quick_code(s: &[u8], at: usize) -> usize
         }
         return 0;
     }
+    let b = quad(s, at + 3);
+    six_code(a, b)
+}
+
+// The code of a text of six digits and a space, by its first four bytes and its last four: 0 where it is none of the four written ones.
+fn six_code(a: u32, b: u32) -> usize
+    ensures { λ r. ⌜ r ≡ sixOf a b ⌝ }
+{
     // "1006" and "644 "
-    if a == 0x36303031 {
-        if b == 0x20343436 {
-            return FILE;
-        }
-        return 0;
+    if (a == 0x36303031) & (b == 0x20343436) {
+        return FILE;
     }
     // "1007" and "755 "
-    if a == 0x37303031 {
-        if b == 0x20353537 {
-            return EXECUTABLE;
-        }
-        return 0;
+    if (a == 0x37303031) & (b == 0x20353537) {
+        return EXECUTABLE;
     }
     // "1200" or "1600", and "000 "
-    if b == 0x20303030 {
-        if a == 0x30303231 {
-            return LINK;
-        }
-        if a == 0x30303631 {
-            return COMMIT;
-        }
+    if (a == 0x30303231) & (b == 0x20303030) {
+        return LINK;
+    }
+    if (a == 0x30303631) & (b == 0x20303030) {
+        return COMMIT;
     }
     0
 }

@@ -12,7 +12,7 @@ use Rattle.ground.specs.Scan.{countTo, freeOf}
 use Rattle.ground.proofs.Laws.{count-free}
 use Rattle.mode.specs.Read.{readMode}
 use Rattle.mode_text.specs.Write.{writeMode, again}
-use Rattle.mode.proofs.Again.{written-reads}
+use Rattle.mode_round.proofs.Again.{written-reads}
 use Rattle.entry.specs.Record.{nameOf, idOf}
 use Rattle.entry.specs.Entry.{Entry, entryBytes, asWritten, entryOf, entriesOf}
 use Rattle.entry.specs.Decode.{recordAt, decode, decodeMode, decodeName}

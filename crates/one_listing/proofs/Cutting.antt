@@ -19,8 +19,8 @@ use Rattle.mode_text.specs.Write.{writeMode, again}
 use Rattle.mode.specs.declared.EntryMode.{EntryMode}
 use Rattle.mode_table.specs.declared.Written.{Written}
 use Rattle.mode.specs.declared.ModeRead.the-variants.{Mode}
-use Rattle.mode.proofs.Again.{written-reads}
-use Rattle.mode.proofs.Space.{mode-space}
+use Rattle.mode_round.proofs.Again.{written-reads}
+use Rattle.mode_round.proofs.Space.{mode-space}
 use Rattle.entry.specs.Record.{nameOf, idOf}
 use Rattle.entry.specs.Entry.{Entry, entryBytes, asWritten, entryOf, entriesOf}
 use Rattle.entry.specs.Decode.{decode}

@@ -10,7 +10,6 @@ use lib.ListN.{length, drop}
 use Rattle.ground.specs.Basics.{pick, part}
 use Rattle.ground.specs.Verdict.{verdict, mostBytes, mostRecords}
 use Rattle.ground.specs.declared.Verdict.{Verdict}
-use Rattle.frame.specs.Place.{placeOf}
 use Rattle.frame.specs.declared.Header.{Header}
 use Rattle.frame.specs.declared.Frame.{Frame}
 use Rattle.frame.specs.declared.Placed.{Placed}
@@ -25,14 +24,14 @@ use Rattle.reading.proofs.Laws.{plain-none, tally-length}
 use Rattle.rules.specs.Rules.{gitRules}
 use Rattle.strict.specs.Strict.{strictly, strictCount}
 use Rattle.strict.proofs.Laws.{strict-plain}
-use Rattle.seeking.specs.Index.{IsIndex}
+use Rattle.seeking.specs.Index.{IsIndex, seekIn}
 use Rattle.merge.specs.declared.Rest.{Rest}
-use Rattle.opening.specs.Opening.{noRest, openCounted, openPlaced, openBy, openAt, openIn, pairOf, openBoth, OpenWithin}
+use Rattle.opening.specs.Opening.{noRest, openCounted, openPlaced, openBy, openAt, openIn, openLevel, pairOf, openBoth, OpenWithin}
 use Rattle.opening.specs.declared.Opened.{Opened}
 use Rattle.opening.specs.declared.Pair.the-variants.{Closed, Both}
 use Rattle.opening.specs.declared.Opened.the-variants.{Shut, Entries}
 use Rattle.seeking.proofs.Indexed.{sought}
-use Rattle.seeking.proofs.Laws.{place-inside}
+use Rattle.seeking.proofs.Laws.{seek-inside}
 
 -- ---- a listing of n entries is read with n as its bound
 
@@ -121,10 +120,10 @@ module _ (k : Header) (s id : List ℕ) where
 pub open-indexed : (k : Header) (s id index : List ℕ) → IsIndex s k index → openIn k s id index ≡ openAt k s id
 open-indexed k s id index x = ap (openBy k s id) (sought s id k index x)
 
--- and it lies inside
-pub open-within : (k : Header) (s id : List ℕ) → OpenWithin s (openAt k s id)
+-- it lies inside, whatever the index is
+pub open-within : (k : Header) (s id index : List ℕ) → OpenWithin s (openIn k s id index)
 unfolding openBy openPlaced openCounted
-open-within k s id = empty (eqb (length id) 0)
+open-within k s id index = empty (eqb (length id) 0)
   where
     counted : (f : Frame) → (f .start ≤ f .end) × (f .end ≤ length s) → (c : Counted) → strictCount (k .rules) (k .h) (part (f .start) (f .end) s) ≡ c
         → OpenWithin s (openCounted (f .start) (f .end) c)
@@ -136,56 +135,66 @@ open-within k s id = empty (eqb (length id) 0)
     kinds f w true = counted f w (strictCount (k .rules) (k .h) (part (f .start) (f .end) s)) refl
     kinds f w false = tt
 
-    placed : (p : Placed) → placeOf s id ≡ p → OpenWithin s (openPlaced k s p)
+    placed : (p : Placed) → p ≡ seekIn (k .h) s index id → OpenWithin s (openPlaced k s p)
     placed Absent e = tt
-    placed (At f) e = kinds f (place-inside s id f e) (eqb (f .kind) 2)
+    placed (At f) e = kinds f (seek-inside (k .h) s index id (At f) f e refl) (eqb (f .kind) 2)
 
-    empty : (t : Bool) → OpenWithin s (pick t (Entries noRest) (openPlaced k s (placeOf s id)))
+    empty : (t : Bool) → OpenWithin s (pick t (Entries noRest) (openPlaced k s (seekIn (k .h) s index id)))
     empty true = ((omega arith, omega arith), omega arith)
-    empty false = placed (placeOf s id) refl
+    empty false = placed (seekIn (k .h) s index id) refl
 
 -- ---- two trees
 
+-- the depth is tested before either is opened
+pub level-none : (k : Header) (s id : List ℕ) (depth : ℕ) (index : List ℕ) → depth ≡ 0 → Shut (verdict 27 0) ≡ openLevel k s id depth index
+level-none k s id depth index e = rw (eq-eqb _ _ e)
+
+pub level-some : (k : Header) (s id : List ℕ) (depth : ℕ) (index : List ℕ) (x : Opened) → (depth ≡ 0 → ⊥) → x ≡ openIn k s id index → x ≡ openLevel k s id depth index
+level-some k s id depth index x e q = q ∙ rw (ne-eqb _ _ e)
+
 module _ (k : Header) (s left right : List ℕ) (depth : ℕ) (index : List ℕ) where
-  pub both-deep : depth ≡ 0 → Closed (verdict 27 0) ≡ openBoth k s left right depth index
-  unfolding openBoth
-  both-deep e = rw (eq-eqb _ _ e)
+  both-is : pairOf (openLevel k s left depth index) (openLevel k s right depth index) ≡ openBoth k s left right depth index
+  unfolding openBoth pairOf
+  both-is = go (eqb depth 0)
+    where
+      go : (t : Bool) → pairOf (pick t (Shut (verdict 27 0)) (openIn k s left index)) (pick t (Shut (verdict 27 0)) (openIn k s right index))
+          ≡ pick t (Closed (verdict 27 0)) (pairOf (openIn k s left index) (openIn k s right index))
+      go true = refl
+      go false = refl
 
-  module _ (e : depth ≡ 0 → ⊥) (x : Opened) (ex : x ≡ openIn k s left index) where
+  module _ (x : Opened) (ex : x ≡ openLevel k s left depth index) where
+    left-is : {c : Opened} → x ≡ c → pairOf c (openLevel k s right depth index) ≡ openBoth k s left right depth index
+    left-is {c} q = ap (λ (u : Opened). pairOf u (openLevel k s right depth index)) (sym q ∙ ex) ∙ both-is
+
     pub both-left : (v : Verdict) → x ≡ Shut v → Closed v ≡ openBoth k s left right depth index
-    unfolding openBoth pairOf
-    both-left v q = rw (ne-eqb _ _ e, ← ex, q)
+    unfolding pairOf
+    both-left v q = left-is q
 
-    module _ (l : Rest) (q : x ≡ Entries l) (y : Opened) (ey : y ≡ openIn k s right index) where
+    module _ (l : Rest) (q : x ≡ Entries l) (y : Opened) (ey : y ≡ openLevel k s right depth index) where
       pub both-right : (w : Verdict) → y ≡ Shut w → Closed w ≡ openBoth k s left right depth index
-      unfolding openBoth pairOf
-      both-right w p = rw (ne-eqb _ _ e, ← ex, q, ← ey, p)
+      unfolding pairOf
+      both-right w p = ap (λ (u : Opened). pairOf (Entries l) u) (sym p ∙ ey) ∙ left-is q
 
       pub both-open : (r : Rest) → y ≡ Entries r → Both l r ≡ openBoth k s left right depth index
-      unfolding openBoth pairOf
-      both-open r p = rw (ne-eqb _ _ e, ← ex, q, ← ey, p)
+      unfolding pairOf
+      both-open r p = ap (λ (u : Opened). pairOf (Entries l) u) (sym p ∙ ey) ∙ left-is q
 
-  -- with any index the same two trees are opened, and they lie inside
-  module _ (x : IsIndex s k index) where
-    pub both-indexed : openBoth k s left right depth index ≡ pick (eqb depth 0) (Closed (verdict 27 0)) (pairOf (openAt k s left) (openAt k s right))
-    unfolding openBoth
-    both-indexed = rw (open-indexed k s left index x, open-indexed k s right index x)
+  -- two trees that were opened lie inside
+  pub both-within : (l r : Rest) → openBoth k s left right depth index ≡ Both l r → (depth ≡ 0 → ⊥) × OpenWithin s (Entries l) × OpenWithin s (Entries r)
+  unfolding openBoth pairOf
+  both-within l r q = go (eqb depth 0) refl q
+    where
+      two : (a b : Opened) → OpenWithin s a → OpenWithin s b → pairOf a b ≡ Both l r → OpenWithin s (Entries l) × OpenWithin s (Entries r)
+      two (Shut v) b i j p = let z : _≡_ {A = ℕ} 0 1 = cc in absurd (omega arith)
+      two (Entries c) (Shut w) i j p = let z : _≡_ {A = ℕ} 0 1 = cc in absurd (omega arith)
+      two (Entries c) (Entries d) i j p =
+          let e : c ≡ l = cc in
+          let f : d ≡ r = cc in
+          (subst (λ (u : Rest). OpenWithin s (Entries u)) e i, subst (λ (u : Rest). OpenWithin s (Entries u)) f j)
 
-    pub both-within : (l r : Rest) → openBoth k s left right depth index ≡ Both l r → (depth ≡ 0 → ⊥) × OpenWithin s (Entries l) × OpenWithin s (Entries r)
-    unfolding pairOf
-    both-within l r q = go (eqb depth 0) refl (sym both-indexed ∙ q)
-      where
-        two : (a b : Opened) → OpenWithin s a → OpenWithin s b → pairOf a b ≡ Both l r → OpenWithin s (Entries l) × OpenWithin s (Entries r)
-        two (Shut v) b i j p = let z : _≡_ {A = ℕ} 0 1 = cc in absurd (omega arith)
-        two (Entries c) (Shut w) i j p = let z : _≡_ {A = ℕ} 0 1 = cc in absurd (omega arith)
-        two (Entries c) (Entries d) i j p =
-            let e : c ≡ l = cc in
-            let f : d ≡ r = cc in
-            (subst (λ (u : Rest). OpenWithin s (Entries u)) e i, subst (λ (u : Rest). OpenWithin s (Entries u)) f j)
-
-        go : (t : Bool) → eqb depth 0 ≡ t → pick t (Closed (verdict 27 0)) (pairOf (openAt k s left) (openAt k s right)) ≡ Both l r
-            → (depth ≡ 0 → ⊥) × OpenWithin s (Entries l) × OpenWithin s (Entries r)
-        go true n p = let z : _≡_ {A = ℕ} 0 1 = cc in absurd (omega arith)
-        go false n p =
-            let w = two (openAt k s left) (openAt k s right) (open-within k s left) (open-within k s right) p in
-            (λ z. false≢true (sym n ∙ eq-eqb depth 0 z), w .0, w .1)
+      go : (t : Bool) → eqb depth 0 ≡ t → pick t (Closed (verdict 27 0)) (pairOf (openIn k s left index) (openIn k s right index)) ≡ Both l r
+          → (depth ≡ 0 → ⊥) × OpenWithin s (Entries l) × OpenWithin s (Entries r)
+      go true n p = let z : _≡_ {A = ℕ} 0 1 = cc in absurd (omega arith)
+      go false n p =
+          let w = two (openIn k s left index) (openIn k s right index) (open-within k s left index) (open-within k s right index) p in
+          (λ z. false≢true (sym n ∙ eq-eqb depth 0 z), w .0, w .1)

@@ -46,6 +46,10 @@ openAt k s id = openBy k s id (placeOf s id)
 abbrev pub openIn : Header → List ℕ → List ℕ → List ℕ → Opened
 openIn k s id index = openBy k s id (seekIn (k .h) s index id)
 
+-- with so many levels to go: 27 with none, whatever the id is
+abbrev pub openLevel : Header → List ℕ → List ℕ → ℕ → List ℕ → Opened
+openLevel k s id depth index = pick (eqb depth 0) (Shut (verdict 27 0)) (openIn k s id index)
+
 -- two trees, the refusal of the left one first
 unfoldable pub pairOf : Opened → Opened → Pair
 pairOf (Shut v) r = Closed v

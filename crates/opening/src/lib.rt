@@ -1,6 +1,6 @@
 // A tree of a bundle by its id, and two of them, read strictly (docs/FORMAT.md, "Differences").
 ghost use mathlib.Core.Path.{_≡_};
-ghost use Rattle.opening.specs.Opening.{openIn, openBoth};
+ghost use Rattle.opening.specs.Opening.{openIn, openLevel, openBoth};
 use frame::Header;
 use frame::Placed;
 use frame::TREE;
@@ -64,7 +64,20 @@ pub fn open_tree(bundle: &[u8], k: Header, id: &[u8], index: &[u32]) -> Opened
     }
 }
 
-// The trees of two ids with so many levels to go: 27 with none, before an object is looked for; then the left is opened, then the right.
+// The tree of an id with so many levels to go: 27 with none, before an object is looked for.
+fn open_level(bundle: &[u8], k: Header, id: &[u8], depth: usize, index: &[u32]) -> Opened
+    ensures { λ r. ⌜ r ≡ openLevel k (now (bundle .entry)) (now (id .entry)) depth (now (index .entry)) ⌝ }
+{
+    if depth == 0 {
+        return Opened::Shut(Verdict {
+            number: TOO_DEEP,
+            ..FINE
+        });
+    }
+    open_tree(bundle, k, id, index)
+}
+
+// The trees of two ids with so many levels to go: the left is opened, then the right.
 pub fn open_both(
     bundle: &[u8],
     k: Header,
@@ -75,15 +88,9 @@ pub fn open_both(
 ) -> Pair
     ensures { λ r. ⌜ r ≡ openBoth k (now (bundle .entry)) (now (left .entry)) (now (right .entry)) depth (now (index .entry)) ⌝ }
 {
-    if depth == 0 {
-        return Pair::Closed(Verdict {
-            number: TOO_DEEP,
-            ..FINE
-        });
-    }
-    match open_tree(bundle, k, left, index) {
+    match open_level(bundle, k, left, depth, index) {
         Opened::Shut(v) => Pair::Closed(v),
-        Opened::Entries(l) => match open_tree(bundle, k, right, index) {
+        Opened::Entries(l) => match open_level(bundle, k, right, depth, index) {
             Opened::Shut(w) => Pair::Closed(w),
             Opened::Entries(r) => Pair::Both(l, r),
         },

@@ -9,7 +9,7 @@ use Rattle.arriving.specs.Claims.{inPieces, joined, PieceLaws, answer}
 use Rattle.arriving.specs.declared.Marks.{Marks}
 use Rattle.arriving.specs.declared.Check.{Check}
 use Rattle.arriving.proofs.Theorem.{piece-laws}
-use Rattle.paper.specs.Call.{none, _and_}
+use Rattle.call.specs.Call.{none, _and_}
 use Rattle.paper.specs.Arrives.{handed, left, piece, Feeds, no-piece, a-piece, Checked, Arrives}
 
 -- calls of `feed` are the fold

@@ -3,22 +3,22 @@ use mathlib.Core.Path.{refl}
 use denote.Ref.{now}
 use Rattle.ground.proofs.Laws.{stored-refused}
 use Rattle.border_tree.specs.Border.{stepNumbers}
-use Rattle.paper.specs.Call.{none, _and_}
+use Rattle.call.specs.Call.{none, _and_}
 use Rattle.paper.specs.Border.{saidIn, stepIn, commitIn}
 use Rattle.paper.specs.Demand1.{OfBorder}
-use Rattle.paper.proofs.Laws.{same, one-list, two-lists, Of, done, zero, wider, keeps-stores, keeps-hands}
+use Rattle.call.proofs.Laws.{same, one-list, two-lists, Of, done, zero, wider, keeps-stores, keeps-hands}
 use Rattle.paper.proofs.Modes.{alone-fits, number-fits}
-use Rattle.paper.proofs.Entries.{each-step}
-use Rattle.paper.proofs.Reading.{plain-fits, strict-fits}
-use Rattle.paper.proofs.Lookup.{looked-fits, any-fits, many-fits}
+use Rattle.tree_calls.proofs.Entries.{each-step}
+use Rattle.tree_calls.proofs.Reading.{plain-fits, strict-fits}
+use Rattle.tree_calls.proofs.Lookup.{looked-fits, any-fits, many-fits}
 use Rattle.paper.proofs.Hex.{id-fits, hex-fits}
 use Rattle.paper.proofs.Text.{export-fits, import-fits}
 use Rattle.paper.proofs.Edits.{put-fits, remove-fits}
 use Rattle.paper.proofs.Mending.{mend-fits}
 use Rattle.paper.proofs.Differences.{compare-fits}
-use Rattle.paper.proofs.Writing.{size-fits, tree-fits, header-fits}
-use Rattle.paper.proofs.Commits.{unfold-fits, plan-kept, commit-fits, outcome-kept}
-use Rattle.paper.proofs.CommitWriting as writing
+use Rattle.tree_calls.proofs.Writing.{size-fits, tree-fits, header-fits}
+use Rattle.commit_calls.proofs.Commits.{unfold-fits, plan-kept, commit-fits, outcome-kept}
+use Rattle.commit_calls.proofs.CommitWriting as writing
 use Rattle.paper.proofs.Bundles.{both-lists, checked-said, object-said, followed-said}
 
 pub of-border : OfBorder

@@ -27,11 +27,11 @@ use Rattle.path.specs.Path.{walkAlong, refusedWith, answered, followAlong, foll
 use Rattle.path.specs.declared.Followed.{Followed}
 use Rattle.border_bundle.specs.Border.{noObject, objectAt, objectFrom, objectAsked, checkedNumbers, objectNumbers, followedNumbers}
 use Rattle.border_bundle.specs.declared.Object as asked
-use Rattle.paper.specs.Call.{Fits, none, _and_}
+use Rattle.call.specs.Call.{Fits, none, _and_}
 use Rattle.paper.specs.Calls.{ofOpening, ofChecked, ofObject, ofFollowed}
 use Rattle.paper.specs.Border.{saidIn}
 use Rattle.paper.specs.Demand1.{OfBundles}
-use Rattle.paper.proofs.Laws.{same, Of, done, zero, keeps-reads, keeps-stores, each-pick, each-size}
+use Rattle.call.proofs.Laws.{same, Of, done, zero, keeps-reads, keeps-stores, each-pick, each-size}
 
 -- two lists one behind the other
 pub both-lists : {l m k n : List ℕ} → l ≡ m → k ≡ n → l ++ k ≡ m ++ n
@@ -131,5 +131,6 @@ of-bundles = record {
   follow-path = keeps-reads _ (λ i. tt) _ _ _ (λ i o m. m) (λ i. followed-fits _ _ _);
   bundle-questions =
       ((λ i. tt), (λ i o p. same)) and ((λ i. tt), (λ i o p. same)) and ((λ i. tt), (λ i o p. same)) and ((λ i. tt), (λ i o p. same))
+      and ((λ i. tt), (λ i o p. same)) and ((λ i. tt), (λ i o p. same)) and ((λ i. tt), (λ i o p. same)) and ((λ i. tt), (λ i o p. same))
       and ((λ i. tt), (λ i o p. same)) and ((λ i. tt), (λ i o p. same)) and ((λ i. tt), (λ i o p. same)) and none;
 }

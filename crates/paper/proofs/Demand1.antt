@@ -1,18 +1,18 @@
 -- The first demand is met. Assumes nothing.
 use Rattle.paper.specs.Demand1.{FirstDemand}
 use Rattle.paper.proofs.Modes as modes
-use Rattle.paper.proofs.Entries as entries
-use Rattle.paper.proofs.Reading as reading
+use Rattle.tree_calls.proofs.Entries as entries
+use Rattle.tree_calls.proofs.Reading as reading
 use Rattle.paper.proofs.Edits as edits
 use Rattle.paper.proofs.Mending as mending
-use Rattle.paper.proofs.Listing as listing
+use Rattle.tree_calls.proofs.Listing as listing
 use Rattle.paper.proofs.Pieces as pieces
-use Rattle.paper.proofs.Lookup as lookup
-use Rattle.paper.proofs.Writing as writing
+use Rattle.tree_calls.proofs.Lookup as lookup
+use Rattle.tree_calls.proofs.Writing as writing
 use Rattle.paper.proofs.Hex as hex
 use Rattle.paper.proofs.Text as text
-use Rattle.paper.proofs.Commits as commits
-use Rattle.paper.proofs.CommitWriting as commit-writing
+use Rattle.commit_calls.proofs.Commits as commits
+use Rattle.commit_calls.proofs.CommitWriting as commit-writing
 use Rattle.paper.proofs.Bundles as bundles
 use Rattle.paper.proofs.Differences as differences
 use Rattle.paper.proofs.Border as border

@@ -15,7 +15,7 @@ use Rattle.edit_walk.specs.Walk.{newEntry}
 use Rattle.editing.specs.Demand.{Written, Change, puts, removes, nameOf, tableChanged, numberOf, given}
 use Rattle.editing.proofs.Writing.{one-writing, from-accepted, accepted-again, missing}
 use Rattle.editing.proofs.Turns.{done-written, same-put, there-and-back}
-use Rattle.paper.specs.Call.{Run}
+use Rattle.call.specs.Call.{Run}
 use Rattle.paper.specs.Calls.{putInTree, removeFromTree}
 use Rattle.paper.specs.Editing.{Edit, put, remove, object, idLength, ruleSet, newOf, Follows, change, answer, output, isDone, left, tableLeft}
 use Rattle.paper.specs.Editing.{InTurn, lastLeft, lastTable, Edits}

@@ -10,10 +10,10 @@ use Rattle.output.specs.Output.{gated, fitted}
 use Rattle.hex.specs.Hex.{isHex}
 use Rattle.id_of_hex.specs.Id.{halved, digitsRead, idAnswer}
 use Rattle.hex_of_id.specs.Hex.{hexAnswer}
-use Rattle.paper.specs.Call.{none, _and_, Fits}
-use Rattle.paper.specs.Calls.{ofAnswer}
+use Rattle.call.specs.Call.{none, _and_, Fits}
+use Rattle.call.specs.Deeds.{ofAnswer}
 use Rattle.paper.specs.Demand1.{OfHex}
-use Rattle.paper.proofs.Laws.{same, Of, done, zero, wider, keeps-writes, each-pick, each-gate, each-fitted}
+use Rattle.call.proofs.Laws.{same, Of, done, zero, wider, keeps-writes, each-pick, each-gate, each-fitted}
 
 -- every way to take digits, a count, 1, 2, 10, 8, and to give them, the same without 10
 module _ (Q : Answer → Type 0) (count : (n : ℕ) → Q (counted n)) (one : Q (refused (verdict 1 0))) (two : Q (refused (verdict 2 0)))

@@ -29,12 +29,12 @@ use Rattle.mend.specs.Mend.{fatesOf, mended, notMended, inRoom, countedAnswer, 
 use Rattle.mend.specs.declared.Mended.{Mended}
 use Rattle.mending.specs.Mending.{mendedListing, Done, AllKept}
 use Rattle.mending.proofs.Theorem.{mending}
-use Rattle.paper.specs.Demand3 as strict
-use Rattle.paper.specs.Places.{Below, Over, atEntry}
+use Rattle.demands.specs.Demand3 as strict
+use Rattle.call.specs.Places.{Below, Over, atEntry}
 use Rattle.paper.specs.Mended.{Mend, object, idLength, entries, IsDone, list, new, newListing, Reads, Mends}
-use Rattle.paper.proofs.Laws.{each-gate}
-use Rattle.paper.proofs.Placed.{placed-stops, plain-placed}
-use Rattle.paper.proofs.Demand3.{third-demand}
+use Rattle.call.proofs.Laws.{each-gate}
+use Rattle.tree_calls.proofs.Placed.{placed-stops, plain-placed}
+use Rattle.demands.proofs.Demand3.{third-demand}
 
 -- what was stored, taken back
 taken : (v : Verdict) (l lent after : List ℕ) (n : ℕ) → v .number ≡ 0 → n ≡ length l → after ≡ stored v l lent → take n after ≡ l

@@ -15,10 +15,10 @@ use Rattle.reading.proofs.Laws.{tally-stops, plain-stops}
 use Rattle.mend.specs.Mend.{mended, notMended, inRoom, countedAnswer, answerBy, mendAnswer}
 use Rattle.mend.specs.declared.Mended.{Mended}
 use Rattle.arriving.specs.declared.Check.{Check}
-use Rattle.paper.specs.Call.{Fits, _and_, none}
+use Rattle.call.specs.Call.{Fits, _and_, none}
 use Rattle.paper.specs.Calls.{ofMended}
 use Rattle.paper.specs.Demand1.{OfMending, OfLeaves}
-use Rattle.paper.proofs.Laws.{same, two-lists, done, zero, wider, keeps, each-pick, each-gate}
+use Rattle.call.proofs.Laws.{same, two-lists, done, zero, wider, keeps, each-pick, each-gate}
 
 abbrev numbers : List ℕ
 numbers = 0 ∷ 1 ∷ 2 ∷ 3 ∷ 4 ∷ 8 ∷ []
@@ -51,12 +51,19 @@ of-mending = record {
   }) (λ i. wider (mend-fits _ _ _ _) refl) (λ i z. two-lists (stored-refused _ _ _ z) (stored-refused _ _ _ z));
 }
 
+-- where a contract promises more than the answer, its first promise says that
+firsts : {A : Type 0} {x y z : A} {P Q : Type 0} → (x ≡ z) × P → (y ≡ z) × Q → x ≡ y
+firsts m n = same (m .0) (n .0)
+
 pub of-leaves : OfLeaves
 of-leaves = record {
   piece-questions =
       ((λ i. tt), (λ i o p. same)) and ((λ i. tt), (λ i o p. same)) and ((λ i. tt), (λ i o p. same)) and ((λ i. tt), (λ i o p. same)) and
       ((λ i. tt), (λ i o p. same)) and ((λ i. tt), (λ i o p. same)) and ((λ i. tt), (λ i o p. same)) and
-      (λ i. tt, λ i o p m n. ap (λ (c : Check). c .marks) (m ∙ sym n)) and (λ i. tt, λ i o p m n. ap (λ (c : Check). c .marks) (m ∙ sym n)) and none;
+      (λ i. tt, λ i o p m n. ap (λ (c : Check). c .marks) (m ∙ sym n)) and (λ i. tt, λ i o p m n. ap (λ (c : Check). c .marks) (m ∙ sym n)) and
+      ((λ i. tt), (λ i o p. same)) and ((λ i. tt), (λ i o p. same)) and ((λ i. tt), (λ i o p. same)) and
+      ((λ i. tt), (λ i o p. firsts)) and ((λ i. tt), (λ i o p. firsts)) and ((λ i. tt), (λ i o p. firsts)) and none;
   word-questions =
-      ((λ i. tt), (λ i o p. same)) and ((λ i. tt), (λ i o p. same)) and ((λ i. tt), (λ i o p. same)) and ((λ i. tt), (λ i o p. same)) and none;
+      ((λ i. tt), (λ i o p. same)) and ((λ i. tt), (λ i o p. same)) and ((λ i. tt), (λ i o p. same)) and ((λ i. tt), (λ i o p. same)) and
+      ((λ i. tt), (λ i o p. same)) and none;
 }

@@ -12,10 +12,11 @@ use Rattle.mode.specs.declared.EntryMode.{EntryMode}
 use Rattle.mode.specs.declared.ModeAnswer.{ModeAnswer}
 use Rattle.mode.specs.declared.ModeRead.{ModeRead}
 use Rattle.mode.specs.declared.ModeRead.the-variants.{Mode, Bad}
-use Rattle.paper.specs.Call.{none, _and_, Fits}
-use Rattle.paper.specs.Calls.{ofMode, ofGate}
+use Rattle.call.specs.Call.{none, _and_, Fits}
+use Rattle.call.specs.Deeds.{ofGate}
+use Rattle.paper.specs.Calls.{ofMode}
 use Rattle.paper.specs.Demand1.{OfGround, OfModes}
-use Rattle.paper.proofs.Laws.{same, Of, done, zero, wider, keeps-reads, keeps-stores, each-pick, each-size, each-gate}
+use Rattle.call.proofs.Laws.{same, Of, done, zero, wider, keeps-reads, keeps-stores, each-pick, each-size, each-gate}
 
 -- every way to read a mode text alone: a mode, 2, 3
 pub each-alone : (Q : ModeAnswer → Type 0) → ((m : EntryMode) → Q (accepted m)) → Q (rejected (verdict 2 0)) → Q (rejected (broken 0 1)) → (i : List ℕ) → Q (modeAlone i)

@@ -32,14 +32,14 @@ use Rattle.piece_state.specs.State.{marksNumbers, marksSaid}
 use Rattle.piece_state.proofs.Each.{Settles, two, three, five, six, seven, sixteen, seventeen, eighteen, each-fed}
 use Rattle.border_pieces.specs.Border.{stateOf, fedOf, fedNumbers, endSaid}
 use Rattle.border_pieces.proofs.Flat.{begun-is, fed-is}
-use Rattle.paper.specs.Call.{Input, TakesAll, Run, Said, Deed, Refusal, Fits, _and_, none}
-use Rattle.paper.specs.Calls.{ofAnswer}
+use Rattle.call.specs.Call.{Input, TakesAll, Run, Said, Deed, Refusal, Fits, _and_, none}
+use Rattle.call.specs.Deeds.{ofAnswer}
 use Rattle.paper.specs.Border.{saidIn}
 use Rattle.paper.specs.Arrives.{feedCall}
 use Rattle.paper.specs.Pieces.{GoesOn, pieceC, endC, ofMarks, marksIn, OfPieces}
 use Rattle.paper.specs.Pieces.{Lent, lentTo, lentFrom, pieceOf, Lends, no-piece, a-piece, CheckedC, Lending}
-use Rattle.paper.proofs.Laws.{same, two-lists, done, added, Tells, keeps-reads, keeps-hands, each-pick, keeps-stores}
-use Rattle.paper.proofs.Laws as laws
+use Rattle.call.proofs.Laws.{same, two-lists, done, added, Tells, keeps-reads, keeps-hands, each-pick, keeps-stores}
+use Rattle.call.proofs.Laws as laws
 use Rattle.paper.proofs.Bundles.{both-lists}
 
 -- from what a contract makes of the arguments to the demand of a call that goes on with a state

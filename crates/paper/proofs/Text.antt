@@ -28,13 +28,14 @@ use Rattle.strict.specs.Strict.{strictly, strictAnswer}
 use Rattle.tree_export.specs.Export.{textIn, countedIn, exportAnswer}
 use Rattle.tree_export.proofs.Laws.{stops-not-four, began}
 use Rattle.text_record.specs.Record.{pared, frontMode, nameIn, formed, saidNumber, textNumber, entryIn, sizeIn}
-use Rattle.tree_import.specs.Import.{Texts, done, stop, one, readFrom, texts, ending, compareSame, nameSame, anyBefore, repeated, importVerdict, imported, countedOf, importAnswer}
-use Rattle.paper.specs.Call.{none, _and_, Fits}
-use Rattle.paper.specs.Calls.{ofAnswer}
+use Rattle.text_import.specs.Lent.{tooMany, lentBy, lentAnswer}
+use Rattle.text_import.specs.Import.{Texts, done, stop, one, readFrom, texts, entriesIn, ending, compareSame, nameSame, anyBefore, repeated, importVerdict, imported, countedOf, importAnswer}
+use Rattle.call.specs.Call.{none, _and_, Fits}
+use Rattle.call.specs.Deeds.{ofAnswer}
 use Rattle.paper.specs.Demand1.{OfText}
-use Rattle.paper.proofs.Laws as fits
-use Rattle.paper.proofs.Laws.{same, Of, wider, keeps-writes, keeps-stores, each-fitted}
-use Rattle.paper.proofs.Reading.{each-strict}
+use Rattle.call.proofs.Laws as fits
+use Rattle.call.proofs.Laws.{same, one-list, Of, wider, keeps, keeps-writes, keeps-stores, each-gate, each-fitted}
+use Rattle.tree_calls.proofs.Reading.{each-strict}
 
 abbrev Exported : Answer → Type 0
 Exported a = Fits (0 ∷ 1 ∷ 2 ∷ 3 ∷ 5 ∷ 6 ∷ 7 ∷ 8 ∷ 17 ∷ 18 ∷ 19 ∷ []) (ofAnswer a)
@@ -66,8 +67,9 @@ export-fits k h s room = go (ruleGate k h (max (length s) room) 0) refl
 
 -- ---- from text
 
-abbrev Imported : Answer → Type 0
-Imported a = Fits (0 ∷ 1 ∷ 2 ∷ 5 ∷ 6 ∷ 7 ∷ 8 ∷ 17 ∷ 18 ∷ 19 ∷ 20 ∷ []) (ofAnswer a)
+-- once the bounds are seen
+abbrev Counts : Answer → Type 0
+Counts a = Fits (0 ∷ 1 ∷ 2 ∷ 5 ∷ 6 ∷ 7 ∷ 8 ∷ 17 ∷ 18 ∷ 20 ∷ []) (ofAnswer a)
 
 each-bare : (P : ℕ → Type 0) → P 0 → P 6 → P 18 → (n : List ℕ) → P (bareNumber n)
 unfolding bareNumber
@@ -115,9 +117,9 @@ each-repeated P n a b same before (one at e l) = go (anyBefore same before e) (e
     go false p = p
 
 abbrev Refuses : Verdict → Type 0
-Refuses v = Imported (refused v)
+Refuses v = Counts (refused v)
 
-verdict-fits : (k h : ℕ) (s : List ℕ) → Imported (refused (importVerdict (texts k h s)))
+verdict-fits : (k h : ℕ) (s : List ℕ) → Counts (refused (importVerdict (texts k h s)))
 unfolding importVerdict
 verdict-fits k h s =
     go (eqb (ending (texts k h s) .number) 0) (eqb (repeated 7 compareSame [] (texts k h s) .number) 0)
@@ -133,21 +135,38 @@ verdict-fits k h s =
     go true false a b c = b
     go false v a b c = a
 
-counted-imports : (k h : ℕ) (s : List ℕ) → Imported (countedOf (texts k h s))
+counted-imports : (k h : ℕ) (s : List ℕ) → Counts (countedOf (texts k h s))
 unfolding countedOf
 counted-imports k h s = go (eqb (importVerdict (texts k h s) .number) 0)
   where
-    go : (u : Bool) → Imported (pick u (counted (length (imported (texts k h s)))) (refused (importVerdict (texts k h s))))
+    go : (u : Bool) → Counts (pick u (counted (length (imported (texts k h s)))) (refused (importVerdict (texts k h s))))
     go true = fits.done refl refl
     go false = verdict-fits k h s
+
+abbrev Imported : Answer → Type 0
+Imported a = Fits (0 ∷ 1 ∷ 2 ∷ 5 ∷ 6 ∷ 7 ∷ 8 ∷ 17 ∷ 18 ∷ 19 ∷ 20 ∷ []) (ofAnswer a)
 
 pub import-fits : (k h : ℕ) (s : List ℕ) (room : ℕ) → Imported (importAnswer k h s room)
 unfolding importAnswer gated
 import-fits k h s room = go (ruleGate k h (max (length s) room) 0) refl
   where
     go : (g : Gate) → ruleGate k h (max (length s) room) 0 ≡ g → Imported (gated g (fitted room (countedOf (texts k h s))))
-    go Open q = each-fitted Imported room _ (counted-imports k h s) (λ n l. fits.zero refl refl)
+    go Open q = each-fitted Imported room _ (wider (counted-imports k h s) refl) (λ n l. fits.zero refl refl)
     go (Shut v) q = rule-shut (λ v. Imported (refused v)) (fits.zero refl refl) (fits.zero refl refl) (fits.zero refl refl) k h (max (length s) room) 0 v q
+
+-- with lent memory
+abbrev Lends : Answer → Type 0
+Lends a = Fits (0 ∷ 1 ∷ 2 ∷ 4 ∷ 5 ∷ 6 ∷ 7 ∷ 8 ∷ 17 ∷ 18 ∷ 20 ∷ []) (ofAnswer a)
+
+pub lent-fits : (k h : ℕ) (s : List ℕ) (room size : ℕ) → Lends (lentAnswer k h s room size)
+unfolding lentAnswer lentBy gated
+lent-fits k h s room size =
+    each-gate (λ (g : Gate). Lends (gated g (lentBy (texts k h s) room size))) (go (tooMany (texts k h s) size)) (fits.zero refl refl) (fits.zero refl refl)
+    h (length s) 0
+  where
+    go : (b : Bool) → Lends (pick b (refused (verdict 4 (length (entriesIn (texts k h s))))) (fitted room (countedOf (texts k h s))))
+    go true = fits.zero refl refl
+    go false = each-fitted Lends room _ (wider (counted-imports k h s) refl) (λ n l. fits.zero refl refl)
 
 pub of-text : OfText
 of-text = record {
@@ -159,8 +178,16 @@ of-text = record {
       and ((λ i. tt), (λ i o p. same))
       and ((λ i. tt), (λ i o p. same))
       and ((λ i. tt), (λ i o p. same))
+      and ((λ i. tt), (λ i o p. same))
       and none;
-  order-list = keeps-stores _ (λ i. tt) _ _ _ _ (λ i o m. (refl, m));
+  judge-list = keeps-stores _ (λ i. tt) _ _ _ _ (λ i o m. m);
+  import-lent = keeps _ _ (λ i. tt) (record {
+    answers = λ i. _;
+    hands = λ i. _;
+    leaves = λ i. _;
+    says = λ i. _;
+    told = λ i o m. (m .0, m .1 .1, one-list (m .1 .0), ap ofAnswer (m .0));
+  }) (λ i. wider (lent-fits _ _ (now (i .args .0)) _ _) refl) (λ i z. one-list (stored-refused _ _ _ z));
   import-tree = keeps-writes _ (λ i. tt) _ _ _ _ _ _ (λ i o m. m) (λ i. wider (import-fits _ _ (now (i .args .0)) _) refl) (λ i z. stored-refused _ _ _ z);
   export-tree = keeps-writes _ (λ i. tt) _ _ _ _ _ _ (λ i o m. m) (λ i. wider (export-fits _ _ (now (i .args .0)) _) refl) (λ i z. stored-refused _ _ _ z);
 }

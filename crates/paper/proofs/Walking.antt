@@ -24,10 +24,11 @@ use Rattle.bundle.specs.Bundle.{openOf}
 use Rattle.bundle.specs.declared.Opening.{Opening}
 use Rattle.bundle.specs.declared.Opening.the-variants as opening
 use Rattle.merge.specs.Merge.{byOrder}
-use Rattle.difference.specs.Items.{Side, absent, Named, isFolder, Stored, missing, object, Folder, shut, holds, readStrictly, treeOf, folderOf, join, sameId, sameSide}
-use Rattle.difference.specs.Walk.{Lower, Out, refusedBy, nothing, put, andThen, change, leftOnly, rightOnly, both, rights, against, compareEntries, opened, compareFolders}
-use Rattle.difference.specs.Whole.{storeOf, foldersOf, differences, pathsOf, fitted, rootsOf, walked, gated, found, answer}
-use Rattle.paper.proofs.Laws.{each-pick}
+use Rattle.item.specs.Items.{Side, absent, Named, isFolder, Stored, missing, object, Folder, shut, holds, readStrictly, treeOf, folderOf, join, sameId, sameSide}
+use Rattle.walk.specs.Walk.{Lower, Out, refusedBy, nothing, put, andThen, change, leftOnly, rightOnly, both, rights, against, compareEntries, opened, compareFolders}
+use Rattle.walk.specs.Lent.{pathsOf, fitted}
+use Rattle.difference.specs.Whole.{storeOf, foldersOf, differences, rootsOf, walked, gated, found, answer}
+use Rattle.call.proofs.Laws.{each-pick}
 
 -- a folder that opens, or is shut with such a verdict
 abbrev pub Opens : (Verdict → Type 0) → Folder → Type 0

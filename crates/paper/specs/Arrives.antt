@@ -20,7 +20,7 @@ use Rattle.arriving.specs.declared.Marks.{Marks}
 use Rattle.arriving.specs.declared.Check.{Check}
 use Rattle.piece_ends.proofs as pieceEnds
 use Rattle.pieces.proofs as pieces
-use Rattle.paper.specs.Call.{Call, call, Run, EachOnce}
+use Rattle.call.specs.Call.{Call, call, Run, EachOnce}
 
 -- the three calls by their own contracts
 abbrev pub startCall : Call

@@ -22,8 +22,8 @@ use Rattle.border_commit_write.proofs as bcw
 use Rattle.border_bundle.proofs as bb
 use Rattle.border_pieces.proofs as bp
 use Rattle.sarpukten.proofs as c
-use Rattle.paper.specs.Call.{Call, call, Input, Outcome, Said, Deed}
-use Rattle.paper.specs.Calls.{stores}
+use Rattle.call.specs.Call.{Call, call, Input, Outcome, Said, Deed}
+use Rattle.call.specs.Deeds.{stores, hands}
 
 -- number, place and part come first
 abbrev pub verdictIn : List ℕ → Verdict
@@ -40,10 +40,6 @@ stepIn l = record { verdict = verdictIn l; counts = getD l 3 0 ∷ drop 5 l }
 -- of a commit, both counts and the parts; the field that failed is no count
 abbrev pub commitIn : List ℕ → Said
 commitIn l = record { verdict = verdictIn l; counts = drop 4 l }
-
--- a call that hands its answer over
-abbrev pub hands : (d : Call) → ((i : Input d) → Outcome d i → List ℕ) → (List ℕ → Said) → (Input d → List (List ℕ)) → ((i : Input d) → Outcome d i → List (List ℕ)) → Deed
-hands d handed says before after = record { call = d; before = before; after = after; handed = handed; said = λ i o. says (handed i o) }
 
 -- ---- an answer handed over
 

@@ -2,22 +2,10 @@
 use Prim.Native.Nat.{ℕ}
 use mathlib.Core.List.{List, [], _∷_}
 use denote.Ref.{now}
-use Rattle.ground.specs.Basics.{pick}
-use Rattle.ground.specs.Verdict.{fine, gateVerdict}
-use Rattle.ground.specs.declared.Verdict.{Verdict}
-use Rattle.ground.specs.declared.Answer.{Answer}
-use Rattle.ground.specs.declared.Gate.{Gate}
+use Rattle.ground.specs.Verdict.{fine}
 use Rattle.mode.specs.declared.ModeAnswer.{ModeAnswer}
-use Rattle.entry.specs.Record.{flat}
-use Rattle.entry.specs.Decode.{decodedVerdict}
-use Rattle.entry.specs.declared.Decoded.{Decoded}
-use Rattle.entry.specs.declared.Decoded.the-variants.{Whole, Broken}
-use Rattle.entry.specs.declared.Step.{Step}
 use Rattle.reading.specs.declared.Counted.{Counted}
 use Rattle.reading.specs.declared.Counted.the-variants.{Total, Stopped}
-use Rattle.lookup.specs.declared.Looked.{Looked}
-use Rattle.header.specs.declared.CommitParts.{CommitParts}
-use Rattle.commit_read.specs.declared.CommitRead.{CommitRead}
 use Rattle.ground.proofs as ground
 use Rattle.scan.proofs as scan
 use Rattle.output.proofs as output
@@ -28,14 +16,7 @@ use Rattle.mode.proofs.EntryMode as mode
 use Rattle.mode_code.proofs as mode-code
 use Rattle.order.proofs as order
 use Rattle.compare.proofs as compare
-use Rattle.entry.proofs as entry
-use Rattle.entry_record.proofs as entryRecord
-use Rattle.doubles.proofs as doubles
-use Rattle.rules.proofs as rules
-use Rattle.names.proofs as names
-use Rattle.reading.proofs as reading
 use Rattle.strict.proofs as strict
-use Rattle.lookup.proofs as lookup
 use Rattle.edit_turn.proofs as editTurn
 use Rattle.edit_walk.proofs as editWalk
 use Rattle.edit.proofs as edit
@@ -46,19 +27,20 @@ use Rattle.merge.proofs as merge
 use Rattle.seeking.proofs as seeks
 use Rattle.opening.proofs as opens
 use Rattle.indexing.proofs as indexing
+use Rattle.item.proofs as item
+use Rattle.walk.proofs as walking
 use Rattle.difference.proofs as difference
 use Rattle.words.proofs as words
-use Rattle.listing_text.proofs as listing
-use Rattle.part_words.proofs as partWords
 use Rattle.piece_judge.proofs as pieceJudge
 use Rattle.piece_marks.proofs as pieceMarks
+use Rattle.piece_seen.proofs as pieceSeen
+use Rattle.piece_between.proofs as pieceBetween
+use Rattle.piece_name.proofs as pieceName
+use Rattle.piece_some.proofs as pieceSome
+use Rattle.piece_run.proofs as pieceRun
+use Rattle.asking.proofs as asking
 use Rattle.piece_body.proofs as pieceBody
 use Rattle.piece_step.proofs as pieceStep
-use Rattle.record_slice.proofs as slice
-use Rattle.lookups.proofs as lookups
-use Rattle.tree_write.proofs as tree
-use Rattle.loose_header.proofs as loose
-use Rattle.actor.proofs as actor
 use Rattle.hex.proofs as hex
 use Rattle.hex_letter.proofs as hexLetter
 use Rattle.id_of_hex.proofs as idOf
@@ -68,16 +50,9 @@ use Rattle.text_form.proofs as textForm
 use Rattle.tree_export.proofs as export
 use Rattle.text_record.proofs as textRecord
 use Rattle.text_repeats.proofs as textRepeats
+use Rattle.text_pairs.proofs as textPairs
+use Rattle.text_import.proofs as textImport
 use Rattle.tree_import.proofs as import
-use Rattle.header.proofs as header
-use Rattle.commit_line.proofs as commitLine
-use Rattle.extra_header.proofs as extraHeader
-use Rattle.commit_value.proofs as commitValue
-use Rattle.unfold.proofs as folded
-use Rattle.commit_fields.proofs as commitFields
-use Rattle.commit_read.proofs as commit
-use Rattle.commit_check.proofs as check
-use Rattle.commit_write.proofs as written
 use Rattle.bundle.specs.declared.Opening.{Opening}
 use Rattle.bundle.specs.declared.Opening.the-variants as opening
 use Rattle.bundle.specs.declared.Checked.{Checked}
@@ -85,74 +60,31 @@ use Rattle.path.specs.declared.Followed.{Followed}
 use Rattle.keys.proofs as keys
 use Rattle.sorting.proofs as sorting
 use Rattle.frame.proofs as frame
+use Rattle.finding.proofs as finding
+use Rattle.neighbours.proofs as neighbours
 use Rattle.twice.proofs as twice
+use Rattle.framed.proofs as framed
 use Rattle.bundle.proofs as bundle
+use Rattle.path_step.proofs as pathStep
 use Rattle.component.proofs as component
 use Rattle.path.proofs as path
 use Rattle.border_bundle.specs.declared.Object.{Object}
 use Rattle.border_bundle.proofs as bb
 use Rattle.mend.specs.declared.Mended.{Mended}
-use Rattle.paper.specs.Call.{Call, call, Input, Outcome, Answered, Said, Deed}
-use Rattle.paper.specs.Walked.{Walked}
+use Rattle.call.specs.Call.{Call, call, Said, Deed}
+pub use Rattle.call.specs.Deeds.{ofVerdict, ofAnswer, ofGate, reads, stores, writes}
+pub use Rattle.tree_calls.specs.Calls.{ofDecoded, ofStep, ofLooked, cursorStep, cursorDecode, putEntry, entryQuestions, ruleBounds}
+pub use Rattle.tree_calls.specs.Calls.{ruleQuestions, placeEntry, openEntry, finishReading, readTree, readTreeStrict, bisectEntry, bisectAny}
+pub use Rattle.tree_calls.specs.Calls.{bisectArray, bisectRecords, bisectEntries, lookupStart, lookupStep, lookupAnswer, stepGiven}
+pub use Rattle.tree_calls.specs.Calls.{answerGiven, lookupQuestions, treeSize, writeTree, looseHeader, fit, fitGiven, putPart, putListing}
+pub use Rattle.commit_calls.specs.Calls.{ofCommit, unfoldValue, putByte, putValue, putHeader, readCommit, checkCommit, commitSize, writeCommit}
+pub use Rattle.commit_calls.specs.Calls.{commitQuestions}
 
 -- ---- what an answer says
-
-abbrev pub ofVerdict : Verdict → Said
-ofVerdict v = record { verdict = v; counts = [] }
-
-abbrev pub ofAnswer : Answer → Said
-ofAnswer a = record { verdict = a .verdict; counts = a .count ∷ [] }
 
 -- the mode that is given stands for a count
 abbrev pub ofMode : ModeAnswer → Said
 ofMode a = record { verdict = a .verdict; counts = a .mode .internal ∷ [] }
-
-abbrev pub ofGate : Gate → Said
-ofGate g = ofVerdict (gateVerdict g)
-
--- the record of an entry that was read
-abbrev pub ofDecoded : Decoded → Said
-ofDecoded (Whole e next) = record { verdict = decodedVerdict (Whole e next); counts = flat e }
-ofDecoded (Broken v) = ofVerdict (decodedVerdict (Broken v))
-
--- whether an entry was found, and its record
-abbrev pub ofStep : Step → Said
-ofStep x = record { verdict = x .verdict; counts = pick (x .found) 1 0 ∷ flat (x .entry) }
-
-abbrev pub ofLooked : Looked → Said
-ofLooked x = record { verdict = x .verdict; counts = x .index ∷ x .compared ∷ [] }
-
--- both counts, and the places of all parts
-abbrev pub ofCommit : CommitRead → Said
-ofCommit x = record { verdict = x .verdict; counts = x .parents ∷ x .headers ∷ places (x .parts) }
-  where
-    places : CommitParts → List ℕ
-    places p =
-        p .tree
-        ∷ p .«author_start»
-        ∷ p .«author_end»
-        ∷ p .«committer_start»
-        ∷ p .«committer_end»
-        ∷ p .encoding
-        ∷ p .«encoding_start»
-        ∷ p .«encoding_end»
-        ∷ p .«message_start»
-        ∷ p .«message_end»
-        ∷ []
-
--- a call that is lent nothing to write
-abbrev pub reads : (c : Call) → ((i : Input c) → Answered c i → Said) → Deed
-reads c said = record { call = c; before = λ i. []; after = λ i o. []; handed = λ i o. []; said = λ i o. said i (o .answer) }
-
--- a call that only stores, and refuses nothing
-abbrev pub stores : (c : Call) → (Input c → List ℕ) → ((i : Input c) → Outcome c i → List ℕ) → Deed
-stores c before after =
-    record { call = c; before = λ i. before i ∷ []; after = λ i o. after i o ∷ []; handed = λ i o. []; said = λ i o. ofVerdict fine }
-
--- a call that counts and writes to one thing lent
-abbrev pub writes : (c : Call) → ((i : Input c) → Answered c i → Answer) → (Input c → List ℕ) → ((i : Input c) → Outcome c i → List ℕ) → Deed
-writes c is before after =
-    record { call = c; before = λ i. before i ∷ []; after = λ i o. after i o ∷ []; handed = λ i o. []; said = λ i o. ofAnswer (is i (o .answer)) }
 
 -- ---- ground and the scans
 
@@ -224,50 +156,6 @@ orders =
     ∷ call order.Order.number.Kinds.ps order.Order.number.Kinds.r order.Order.number.Reads.Asked order.Order.number.Reads.Post
     ∷ []
 
--- ---- entries
-
-abbrev pub cursorStep : Deed
-cursorStep = reads (call entry.Cursor.step.Kinds.ps entry.Cursor.step.Kinds.r entry.Cursor.step.Reads.Asked entry.Cursor.step.Reads.Post) (λ i x. ofStep x)
-
-abbrev pub cursorDecode : Deed
-cursorDecode = reads (call entry.Cursor.decode.Kinds.ps entry.Cursor.decode.Kinds.r entry.Cursor.decode.Reads.Asked entry.Cursor.decode.Reads.Post) (λ i x. ofDecoded x)
-
-abbrev pub putEntry : Deed
-putEntry = stores (call entryRecord.put_entry.Kinds.ps entryRecord.put_entry.Kinds.r entryRecord.put_entry.Reads.Asked entryRecord.put_entry.Reads.Post) (λ i. now (i .args .0)) (λ i o. now (o .last .0))
-
-abbrev pub entryQuestions : List Call
-entryQuestions =
-    call entryRecord.entry_at.Kinds.ps entryRecord.entry_at.Kinds.r entryRecord.entry_at.Reads.Asked entryRecord.entry_at.Reads.Post
-    ∷ call entryRecord.well_formed.Kinds.ps entryRecord.well_formed.Kinds.r entryRecord.well_formed.Reads.Asked entryRecord.well_formed.Reads.Post
-    ∷ call entryRecord.is_folder.Kinds.ps entryRecord.is_folder.Kinds.r entryRecord.is_folder.Reads.Asked entryRecord.is_folder.Reads.Post
-    ∷ []
-
--- ---- reading
-
-abbrev pub ruleBounds : Deed
-ruleBounds = reads (call rules.rule_bounds.Kinds.ps rules.rule_bounds.Kinds.r rules.rule_bounds.Reads.Asked rules.rule_bounds.Reads.Post) (λ i x. ofGate x)
-
-abbrev pub ruleQuestions : List Call
-ruleQuestions =
-    call rules.mode_permitted.Kinds.ps rules.mode_permitted.Kinds.r rules.mode_permitted.Reads.Asked rules.mode_permitted.Reads.Post
-    ∷ call names.name_number.Kinds.ps names.name_number.Kinds.r names.name_number.Reads.Asked names.name_number.Reads.Post
-    ∷ []
-
-abbrev pub placeEntry : Deed
-placeEntry = stores (call doubles.place_entry.Kinds.ps doubles.place_entry.Kinds.r doubles.place_entry.Reads.Asked doubles.place_entry.Reads.Post) (λ i. now (i .args .0)) (λ i o. now (o .last .0))
-
-abbrev pub openEntry : Deed
-openEntry = stores (call doubles.open_entry.Kinds.ps doubles.open_entry.Kinds.r doubles.open_entry.Reads.Asked doubles.open_entry.Reads.Post) (λ i. now (i .args .0)) (λ i o. now (o .last .0))
-
-abbrev pub finishReading : Deed
-finishReading = stores (call reading.finish.Kinds.ps reading.finish.Kinds.r reading.finish.Reads.Asked reading.finish.Reads.Post) (λ i. now (i .args .1 .1 .1 .0)) (λ i o. now (o .last .1 .1 .1 .0))
-
-abbrev pub readTree : Deed
-readTree = writes (call reading.read_tree.Kinds.ps reading.read_tree.Kinds.r reading.read_tree.Reads.Asked reading.read_tree.Reads.Post) (λ i x. x) (λ i. now (i .args .1 .1 .0)) (λ i o. now (o .last .1 .1 .0))
-
-abbrev pub readTreeStrict : Deed
-readTreeStrict = writes (call strict.read_tree_strict.Kinds.ps strict.read_tree_strict.Kinds.r strict.read_tree_strict.Reads.Asked strict.read_tree_strict.Reads.Post) (λ i x. x) (λ i. now (i .args .1 .1 .1 .0)) (λ i o. now (o .last .1 .1 .1 .0))
-
 -- ---- edits
 
 -- a count of entries is 0
@@ -296,65 +184,6 @@ abbrev pub removeFromTree : Deed
 removeFromTree =
     writes (call editRemove.remove_from_tree.Kinds.ps editRemove.remove_from_tree.Kinds.r editRemove.remove_from_tree.Reads.Asked editRemove.remove_from_tree.Reads.Post) (λ i x. x)
     (λ i. now (i .args .1 .1 .1 .1 .0)) (λ i o. now (o .last .1 .1 .1 .1 .0))
-
--- ---- lookup
-
-abbrev pub bisectEntry : Deed
-bisectEntry = reads (call lookup.bisect_entry.Kinds.ps lookup.bisect_entry.Kinds.r lookup.bisect_entry.Reads.Asked lookup.bisect_entry.Reads.Post) (λ i x. ofLooked x)
-
-abbrev pub bisectAny : Deed
-bisectAny = reads (call lookup.bisect_any.Kinds.ps lookup.bisect_any.Kinds.r lookup.bisect_any.Reads.Asked lookup.bisect_any.Reads.Post) (λ i x. ofLooked x)
-
-abbrev pub bisectArray : Deed
-bisectArray = reads (call slice.bisect_array.Kinds.ps slice.bisect_array.Kinds.r slice.bisect_array.Reads.Asked slice.bisect_array.Reads.Post) (λ i x. ofLooked x)
-
-abbrev pub bisectRecords : Walked
-bisectRecords = record { ended = slice.bisect_records.ended; contract = λ M. slice.bisect_records.clauses; said = λ κs x. ofLooked x }
-
-abbrev pub bisectEntries : Deed
-bisectEntries =
-    writes (call lookups.bisect_entries.Kinds.ps lookups.bisect_entries.Kinds.r lookups.bisect_entries.Reads.Asked lookups.bisect_entries.Reads.Post) (λ i x. x)
-    (λ i. now (i .args .1 .1 .1 .1 .1 .0)) (λ i o. now (o .last .1 .1 .1 .1 .1 .0))
-
--- a search under way, by the answer that it holds
-abbrev pub lookupStart : Deed
-lookupStart = reads (call slice.start.Kinds.ps slice.start.Kinds.r slice.start.Reads.Asked slice.start.Reads.Post) (λ i x. ofLooked (x .looked))
-
-abbrev pub lookupStep : Deed
-lookupStep = reads (call slice.step.Kinds.ps slice.step.Kinds.r slice.step.Reads.Asked slice.step.Reads.Post) (λ i x. ofLooked (x .looked))
-
-abbrev pub lookupAnswer : Deed
-lookupAnswer = reads (call slice.answer.Kinds.ps slice.answer.Kinds.r slice.answer.Reads.Asked slice.answer.Reads.Post) (λ i x. ofLooked x)
-
--- what the step and the answer are handed
-abbrev pub stepGiven : Input (lookupStep .call) → Said
-stepGiven i = ofLooked (i .args .1 .1 .1 .0 .looked)
-
-abbrev pub answerGiven : Input (lookupAnswer .call) → Said
-answerGiven i = ofLooked (i .args .0 .looked)
-
-abbrev pub lookupQuestions : List Call
-lookupQuestions =
-    call lookup.most_comparisons.Kinds.ps lookup.most_comparisons.Kinds.r lookup.most_comparisons.Reads.Asked lookup.most_comparisons.Reads.Post
-    ∷ []
-
--- ---- writing trees
-
-abbrev pub treeSize : Deed
-treeSize = reads (call tree.tree_size.Kinds.ps tree.tree_size.Kinds.r tree.tree_size.Reads.Asked tree.tree_size.Reads.Post) (λ i x. ofAnswer x)
-
-abbrev pub writeTree : Deed
-writeTree = writes (call tree.write_tree.Kinds.ps tree.write_tree.Kinds.r tree.write_tree.Reads.Asked tree.write_tree.Reads.Post) (λ i x. x) (λ i. now (i .args .1 .1 .1 .0)) (λ i o. now (o .last .1 .1 .1 .0))
-
-abbrev pub looseHeader : Deed
-looseHeader = writes (call loose.loose_header.Kinds.ps loose.loose_header.Kinds.r loose.loose_header.Reads.Asked loose.loose_header.Reads.Post) (λ i x. x) (λ i. now (i .args .1 .1 .0)) (λ i o. now (o .last .1 .1 .0))
-
--- an answer held to the room that is lent, and the answer that it is handed
-abbrev pub fit : Deed
-fit = reads (call output.fit.Kinds.ps output.fit.Kinds.r output.fit.Reads.Asked output.fit.Reads.Post) (λ i x. ofAnswer x)
-
-abbrev pub fitGiven : Input (fit .call) → Said
-fitGiven i = ofAnswer (i .args .1 .0)
 
 -- ---- hex digits and ids
 
@@ -387,7 +216,23 @@ makeIndex =
     stores (call indexing.make_index.Kinds.ps indexing.make_index.Kinds.r indexing.make_index.Reads.Asked indexing.make_index.Reads.Post)
     (λ i. now (i .args .1 .1 .0)) (λ i o. now (o .last .1 .1 .0))
 
--- it is lent a list and bytes
+abbrev pub putItem : Deed
+putItem = stores (call item.put_item.Kinds.ps item.put_item.Kinds.r item.put_item.Reads.Asked item.put_item.Reads.Post) (λ i. now (i .args .0)) (λ i o. now (o .last .0))
+
+abbrev pub putPath : Deed
+putPath = stores (call item.put_path.Kinds.ps item.put_path.Kinds.r item.put_path.Reads.Asked item.put_path.Reads.Post) (λ i. now (i .args .0)) (λ i o. now (o .last .0))
+
+-- these two are lent a list and bytes
+abbrev pub walkTrees : Deed
+walkTrees =
+    record {
+      call = call walking.walk_trees.Kinds.ps walking.walk_trees.Kinds.r walking.walk_trees.Reads.Asked walking.walk_trees.Reads.Post;
+      before = λ i. now (i .args .1 .1 .1 .1 .0) ∷ now (i .args .1 .1 .1 .1 .1 .0) ∷ [];
+      after = λ i o. now (o .last .1 .1 .1 .1 .0) ∷ now (o .last .1 .1 .1 .1 .1 .0) ∷ [];
+      handed = λ i o. [];
+      said = λ i o. ofAnswer (o .answer);
+    }
+
 abbrev pub compareTrees : Deed
 compareTrees =
     record {
@@ -407,6 +252,7 @@ textQuestions =
     ∷ call textRecord.front_mode.Kinds.ps textRecord.front_mode.Kinds.r textRecord.front_mode.Reads.Asked textRecord.front_mode.Reads.Post
     ∷ call textRecord.name_end.Kinds.ps textRecord.name_end.Kinds.r textRecord.name_end.Reads.Asked textRecord.name_end.Reads.Post
     ∷ call textRecord.record_number.Kinds.ps textRecord.record_number.Kinds.r textRecord.record_number.Reads.Asked textRecord.record_number.Reads.Post
+    ∷ call textRepeats.same_record.Kinds.ps textRepeats.same_record.Kinds.r textRepeats.same_record.Reads.Asked textRepeats.same_record.Reads.Post
     ∷ call textRepeats.least_repeat.Kinds.ps textRepeats.least_repeat.Kinds.r textRepeats.least_repeat.Reads.Asked textRepeats.least_repeat.Reads.Post
     ∷ call textRepeats.repeat_verdict.Kinds.ps textRepeats.repeat_verdict.Kinds.r textRepeats.repeat_verdict.Reads.Asked textRepeats.repeat_verdict.Reads.Post
     ∷ []
@@ -417,55 +263,19 @@ exportTree = writes (call export.export_tree.Kinds.ps export.export_tree.Kinds.r
 abbrev pub importTree : Deed
 importTree = writes (call import.import_tree.Kinds.ps import.import_tree.Kinds.r import.import_tree.Reads.Asked import.import_tree.Reads.Post) (λ i x. x) (λ i. now (i .args .1 .1 .1 .0)) (λ i o. now (o .last .1 .1 .1 .0))
 
-abbrev pub orderList : Deed
-orderList = stores (call textRepeats.order_list.Kinds.ps textRepeats.order_list.Kinds.r textRepeats.order_list.Reads.Asked textRepeats.order_list.Reads.Post) (λ i. now (i .args .1 .0)) (λ i o. now (o .last .1 .0))
-
--- ---- commits
-
-abbrev pub unfoldValue : Deed
-unfoldValue = writes (call folded.«unfold».Kinds.ps folded.«unfold».Kinds.r folded.«unfold».Reads.Asked folded.«unfold».Reads.Post) (λ i x. x) (λ i. now (i .args .1 .1 .0)) (λ i o. now (o .last .1 .1 .0))
-
-abbrev pub putByte : Deed
-putByte = stores (call commitValue.put_byte.Kinds.ps commitValue.put_byte.Kinds.r commitValue.put_byte.Reads.Asked commitValue.put_byte.Reads.Post) (λ i. now (i .args .0)) (λ i o. now (o .last .0))
-
-abbrev pub putValue : Deed
-putValue = stores (call commitValue.put_value.Kinds.ps commitValue.put_value.Kinds.r commitValue.put_value.Reads.Asked commitValue.put_value.Reads.Post) (λ i. now (i .args .0)) (λ i o. now (o .last .0))
-
-abbrev pub putHeader : Deed
-putHeader = stores (call header.put_header.Kinds.ps header.put_header.Kinds.r header.put_header.Reads.Asked header.put_header.Reads.Post) (λ i. now (i .args .0)) (λ i o. now (o .last .0))
-
--- it is lent two lists
-abbrev pub readCommit : Deed
-readCommit =
+-- it is lent bytes, and a list as its memory
+abbrev pub importLent : Deed
+importLent =
     record {
-      call = call commit.read_commit.Kinds.ps commit.read_commit.Kinds.r commit.read_commit.Reads.Asked commit.read_commit.Reads.Post;
-      before = λ i. now (i .args .1 .1 .0) ∷ now (i .args .1 .1 .1 .0) ∷ [];
-      after = λ i o. now (o .last .1 .1 .0) ∷ now (o .last .1 .1 .1 .0) ∷ [];
-      handed = λ i o. [];
-      said = λ i o. ofCommit (o .answer);
+      call = call textImport.import_lent.Kinds.ps textImport.import_lent.Kinds.r textImport.import_lent.Reads.Asked textImport.import_lent.Reads.Post;
+      before = λ i. now (i .args .1 .1 .1 .0) ∷ [];
+      after = λ i o. now (o .last .1 .1 .1 .0) ∷ [];
+      handed = λ i o. now (o .last .1 .1 .1 .1 .0);
+      said = λ i o. ofAnswer (o .answer);
     }
 
-abbrev pub checkCommit : Deed
-checkCommit = reads (call check.check_commit.Kinds.ps check.check_commit.Kinds.r check.check_commit.Reads.Asked check.check_commit.Reads.Post) (λ i x. ofVerdict x)
-
-abbrev pub commitSize : Deed
-commitSize = reads (call written.commit_size.Kinds.ps written.commit_size.Kinds.r written.commit_size.Reads.Asked written.commit_size.Reads.Post) (λ i x. ofAnswer x)
-
-abbrev pub writeCommit : Deed
-writeCommit = writes (call written.write_commit.Kinds.ps written.write_commit.Kinds.r written.write_commit.Reads.Asked written.write_commit.Reads.Post) (λ i x. x) (λ i. now (i .args .1 .1 .1 .1 .1 .0)) (λ i o. now (o .last .1 .1 .1 .1 .1 .0))
-
-abbrev pub commitQuestions : List Call
-commitQuestions =
-    call actor.is_actor.Kinds.ps actor.is_actor.Kinds.r actor.is_actor.Reads.Asked actor.is_actor.Reads.Post
-    ∷ call commitLine.id_line.Kinds.ps commitLine.id_line.Kinds.r commitLine.id_line.Reads.Asked commitLine.id_line.Reads.Post
-    ∷ call commitLine.value_line.Kinds.ps commitLine.value_line.Kinds.r commitLine.value_line.Reads.Asked commitLine.value_line.Reads.Post
-    ∷ call extraHeader.extra_at.Kinds.ps extraHeader.extra_at.Kinds.r extraHeader.extra_at.Reads.Asked extraHeader.extra_at.Reads.Post
-    ∷ call extraHeader.is_folded.Kinds.ps extraHeader.is_folded.Kinds.r extraHeader.is_folded.Reads.Asked extraHeader.is_folded.Reads.Post
-    ∷ call commitValue.encoding_fault.Kinds.ps commitValue.encoding_fault.Kinds.r commitValue.encoding_fault.Reads.Asked commitValue.encoding_fault.Reads.Post
-    ∷ call commitFields.decide.Kinds.ps commitFields.decide.Kinds.r commitFields.decide.Reads.Asked commitFields.decide.Reads.Post
-    ∷ call header.header_at.Kinds.ps header.header_at.Kinds.r header.header_at.Reads.Asked header.header_at.Reads.Post
-    ∷ call header.well_formed.Kinds.ps header.well_formed.Kinds.r header.well_formed.Reads.Asked header.well_formed.Reads.Post
-    ∷ []
+abbrev pub judgeList : Deed
+judgeList = stores (call textPairs.judge_list.Kinds.ps textPairs.judge_list.Kinds.r textPairs.judge_list.Reads.Asked textPairs.judge_list.Reads.Post) (λ i. now (i .args .1 .0)) (λ i o. now (o .last .1 .0))
 
 -- ---- mending
 
@@ -504,6 +314,12 @@ pieceQuestions =
     ∷ call pieceMarks.over.Kinds.ps pieceMarks.over.Kinds.r pieceMarks.over.Reads.Asked pieceMarks.over.Reads.Post
     ∷ call pieceBody.body_within.Kinds.ps pieceBody.body_within.Kinds.r pieceBody.body_within.Reads.Asked pieceBody.body_within.Reads.Post
     ∷ call pieceStep.step.Kinds.ps pieceStep.step.Kinds.r pieceStep.step.Reads.Asked pieceStep.step.Reads.Post
+    ∷ call pieceSeen.seen_at.Kinds.ps pieceSeen.seen_at.Kinds.r pieceSeen.seen_at.Reads.Asked pieceSeen.seen_at.Reads.Post
+    ∷ call pieceBetween.is_between.Kinds.ps pieceBetween.is_between.Kinds.r pieceBetween.is_between.Reads.Asked pieceBetween.is_between.Reads.Post
+    ∷ call pieceBetween.ran.Kinds.ps pieceBetween.ran.Kinds.r pieceBetween.ran.Reads.Asked pieceBetween.ran.Reads.Post
+    ∷ call pieceName.name_some.Kinds.ps pieceName.name_some.Kinds.r pieceName.name_some.Reads.Asked pieceName.name_some.Reads.Post
+    ∷ call pieceSome.some.Kinds.ps pieceSome.some.Kinds.r pieceSome.some.Reads.Asked pieceSome.some.Reads.Post
+    ∷ call pieceRun.all_entries.Kinds.ps pieceRun.all_entries.Kinds.r pieceRun.all_entries.Reads.Asked pieceRun.all_entries.Reads.Post
     ∷ []
 
 abbrev pub wordQuestions : List Call
@@ -512,21 +328,8 @@ wordQuestions =
     ∷ call words.is_word.Kinds.ps words.is_word.Kinds.r words.is_word.Reads.Asked words.is_word.Reads.Post
     ∷ call words.id_length.Kinds.ps words.id_length.Kinds.r words.id_length.Reads.Asked words.id_length.Reads.Post
     ∷ call words.rule_set.Kinds.ps words.rule_set.Kinds.r words.rule_set.Reads.Asked words.rule_set.Reads.Post
+    ∷ call asking.ask.Kinds.ps asking.ask.Kinds.r asking.ask.Reads.Asked asking.ask.Reads.Post
     ∷ []
-
--- ---- the text of a listing
-
-abbrev pub putPart : Deed
-putPart = stores (call partWords.put_part.Kinds.ps partWords.put_part.Kinds.r partWords.put_part.Reads.Asked partWords.put_part.Reads.Post) (λ i. now (i .args .0)) (λ i o. now (o .last .0))
-
-abbrev pub putListing : Deed
-putListing = record {
-  call = call listing.put_listing.Kinds.ps listing.put_listing.Kinds.r listing.put_listing.Reads.Asked listing.put_listing.Reads.Post;
-  before = λ i. now (i .args .1 .1 .0) ∷ [];
-  after = λ i o. now (o .last .1 .1 .0) ∷ [];
-  handed = λ i o. [];
-  said = λ i o. ofVerdict (o .answer .verdict);
-}
 
 -- ---- bundles and paths
 
@@ -568,8 +371,12 @@ bundleQuestions =
     call keys.below.Kinds.ps keys.below.Kinds.r keys.below.Reads.Asked keys.below.Reads.Post
     ∷ call frame.read_header.Kinds.ps frame.read_header.Kinds.r frame.read_header.Reads.Asked frame.read_header.Reads.Post
     ∷ call frame.frame_at.Kinds.ps frame.frame_at.Kinds.r frame.frame_at.Reads.Asked frame.frame_at.Reads.Post
-    ∷ call frame.find_object.Kinds.ps frame.find_object.Kinds.r frame.find_object.Reads.Asked frame.find_object.Reads.Post
+    ∷ call finding.find_object.Kinds.ps finding.find_object.Kinds.r finding.find_object.Reads.Asked finding.find_object.Reads.Post
+    ∷ call neighbours.neighbours.Kinds.ps neighbours.neighbours.Kinds.r neighbours.neighbours.Reads.Asked neighbours.neighbours.Reads.Post
     ∷ call twice.id_twice.Kinds.ps twice.id_twice.Kinds.r twice.id_twice.Reads.Asked twice.id_twice.Reads.Post
+    ∷ call framed.well_framed.Kinds.ps framed.well_framed.Kinds.r framed.well_framed.Reads.Asked framed.well_framed.Reads.Post
+    ∷ call framed.ascending.Kinds.ps framed.ascending.Kinds.r framed.ascending.Reads.Asked framed.ascending.Reads.Post
     ∷ call component.is_path.Kinds.ps component.is_path.Kinds.r component.is_path.Reads.Asked component.is_path.Reads.Post
     ∷ call component.find_entry.Kinds.ps component.find_entry.Kinds.r component.find_entry.Reads.Asked component.find_entry.Reads.Post
+    ∷ call pathStep.step_to.Kinds.ps pathStep.step_to.Kinds.r pathStep.step_to.Reads.Asked pathStep.step_to.Reads.Post
     ∷ []

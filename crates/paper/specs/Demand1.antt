@@ -3,8 +3,9 @@
 -- proves it. Assumes nothing.
 use mathlib.Core.Path.{_≡_}
 use mathlib.Core.List.{[], _∷_}
-use Rattle.paper.specs.Call.{EachOnce, Keeps, HandsOn, Prints}
-use Rattle.paper.specs.Walked.{KeepsWalked}
+use Rattle.call.specs.Call.{EachOnce, Keeps}
+use Rattle.tree_calls.specs.First.{OfEntries, OfReading, OfLookup, OfWriting, OfListing}
+use Rattle.commit_calls.specs.First.{OfCommits, OfCommitWriting}
 use Rattle.paper.specs.Calls as a
 use Rattle.paper.specs.Border as c
 use Rattle.paper.specs.Pieces.{OfPieces}
@@ -25,43 +26,24 @@ pub record OfModes : Type 3 where
   pub mode-questions : EachOnce a.modeQuestions
   pub orders : EachOnce a.orders
 
--- entries: the cursor and the records
-pub record OfEntries : Type 3 where
-  pub cursor-step : Keeps a.cursorStep (0 ∷ 1 ∷ 2 ∷ 3 ∷ [])
-  pub cursor-decode : Keeps a.cursorDecode (0 ∷ 3 ∷ [])
-  pub put-entry : Keeps a.putEntry (0 ∷ [])
-  pub entry-questions : EachOnce a.entryQuestions
-
--- the strict rules, and a whole tree, plainly and strictly
-pub record OfReading : Type 3 where
-  pub rule-bounds : Keeps a.ruleBounds (0 ∷ 1 ∷ 2 ∷ 19 ∷ [])
-  pub rule-questions : EachOnce a.ruleQuestions
-  pub place-entry : Keeps a.placeEntry (0 ∷ [])
-  pub open-entry : Keeps a.openEntry (0 ∷ [])
-  pub finish-reading : Keeps a.finishReading (0 ∷ [])
-  pub read-tree : Keeps a.readTree (0 ∷ 1 ∷ 2 ∷ 3 ∷ 4 ∷ [])
-  pub read-tree-strict : Keeps a.readTreeStrict (0 ∷ 1 ∷ 2 ∷ 3 ∷ 4 ∷ 5 ∷ 6 ∷ 7 ∷ 17 ∷ 18 ∷ 19 ∷ [])
-
 -- a tree mended, and what is asked of each entry
 pub record OfMending : Type 3 where
   pub mend-questions : EachOnce a.mendQuestions
   pub mend-tree : Keeps a.mendTree (0 ∷ 1 ∷ 2 ∷ 3 ∷ 4 ∷ 8 ∷ [])
 
--- two trees compared: the step of their merge, an object sought and a tree opened, an index, and the call
+-- two trees compared: the step of their merge, an object sought and a tree opened, an index, an item stored, the walk, and the call
 pub record OfDifferences : Type 3 where
   pub difference-questions : EachOnce a.differenceQuestions
   pub make-index : Keeps a.makeIndex (0 ∷ [])
+  pub put-item : Keeps a.putItem (0 ∷ [])
+  pub put-path : Keeps a.putPath (0 ∷ [])
+  pub walk-trees : Keeps a.walkTrees (0 ∷ 2 ∷ 3 ∷ 4 ∷ 5 ∷ 6 ∷ 7 ∷ 8 ∷ 17 ∷ 18 ∷ 27 ∷ 28 ∷ [])
   pub compare-trees : Keeps a.compareTrees (0 ∷ 2 ∷ 3 ∷ 4 ∷ 5 ∷ 6 ∷ 7 ∷ 8 ∷ 17 ∷ 18 ∷ 24 ∷ 25 ∷ 27 ∷ 28 ∷ [])
 
 -- the leaves of the check in pieces, and the words of a command line
 pub record OfLeaves : Type 3 where
   pub piece-questions : EachOnce a.pieceQuestions
   pub word-questions : EachOnce a.wordQuestions
-
--- the text of a listing
-pub record OfListing : Type 3 where
-  pub put-part : Keeps a.putPart (0 ∷ [])
-  pub put-listing : Prints a.putListing (0 ∷ 1 ∷ 2 ∷ 3 ∷ [])
 
 -- the strict reader's count by itself, what is done with an entry, the walk of an edit, and the two edits
 pub record OfEdits : Type 3 where
@@ -70,34 +52,6 @@ pub record OfEdits : Type 3 where
   pub walk-tree : Keeps a.walkTree (0 ∷ [])
   pub put-in-tree : Keeps a.putInTree (0 ∷ 1 ∷ 2 ∷ 3 ∷ 5 ∷ 6 ∷ 7 ∷ 8 ∷ 10 ∷ 17 ∷ 18 ∷ 19 ∷ [])
   pub remove-from-tree : Keeps a.removeFromTree (0 ∷ 1 ∷ 2 ∷ 3 ∷ 5 ∷ 6 ∷ 7 ∷ 8 ∷ 15 ∷ 17 ∷ 18 ∷ 19 ∷ [])
-
--- lookup, over flat numbers, of one sort or of any, over an array of records, and over a lent slice of them; many in one call; and its steps
-pub record OfLookup : Type 3 where
-  pub bisect-entry : Keeps a.bisectEntry (0 ∷ 1 ∷ 2 ∷ 10 ∷ 15 ∷ [])
-  pub bisect-any : Keeps a.bisectAny (0 ∷ 1 ∷ 2 ∷ 10 ∷ 15 ∷ [])
-  pub bisect-array : Keeps a.bisectArray (0 ∷ 1 ∷ 2 ∷ 10 ∷ 15 ∷ [])
-  pub bisect-records : KeepsWalked a.bisectRecords (0 ∷ 1 ∷ 2 ∷ 10 ∷ 15 ∷ [])
-  pub bisect-entries : Keeps a.bisectEntries (0 ∷ 1 ∷ 2 ∷ 4 ∷ 10 ∷ [])
-  pub lookup-start : Keeps a.lookupStart (1 ∷ 2 ∷ 15 ∷ [])
-  pub lookup-step : HandsOn a.lookupStep a.stepGiven (0 ∷ 10 ∷ 15 ∷ [])
-  pub lookup-answer : HandsOn a.lookupAnswer a.answerGiven []
-  pub lookup-questions : EachOnce a.lookupQuestions
-
--- a tree written, its size, and the header of a loose object
-pub record OfWriting : Type 3 where
-  pub tree-size : Keeps a.treeSize (0 ∷ 1 ∷ 2 ∷ 10 ∷ [])
-  pub write-tree : Keeps a.writeTree (0 ∷ 1 ∷ 2 ∷ 8 ∷ 9 ∷ 10 ∷ [])
-  pub loose-header : Keeps a.looseHeader (0 ∷ 8 ∷ 23 ∷ [])
-  pub fit : HandsOn a.fit a.fitGiven (8 ∷ [])
-
--- commits: a header's value, a commit read, and the leaves of both
-pub record OfCommits : Type 3 where
-  pub unfold-value : Keeps a.unfoldValue (0 ∷ 2 ∷ 8 ∷ 10 ∷ [])
-  pub read-commit : Keeps a.readCommit (0 ∷ 1 ∷ 2 ∷ 4 ∷ 11 ∷ 12 ∷ [])
-  pub put-header : Keeps a.putHeader (0 ∷ [])
-  pub put-byte : Keeps a.putByte (0 ∷ [])
-  pub put-value : Keeps a.putValue (0 ∷ [])
-  pub commit-questions : EachOnce a.commitQuestions
 
 -- hex digits, and an id from its digits and back
 pub record OfHex : Type 3 where
@@ -109,14 +63,9 @@ pub record OfHex : Type 3 where
 pub record OfText : Type 3 where
   pub text-questions : EachOnce a.textQuestions
   pub export-tree : Keeps a.exportTree (0 ∷ 1 ∷ 2 ∷ 3 ∷ 5 ∷ 6 ∷ 7 ∷ 8 ∷ 17 ∷ 18 ∷ 19 ∷ [])
-  pub order-list : Keeps a.orderList (0 ∷ [])
+  pub judge-list : Keeps a.judgeList (0 ∷ [])
+  pub import-lent : Keeps a.importLent (0 ∷ 1 ∷ 2 ∷ 4 ∷ 5 ∷ 6 ∷ 7 ∷ 8 ∷ 17 ∷ 18 ∷ 20 ∷ [])
   pub import-tree : Keeps a.importTree (0 ∷ 1 ∷ 2 ∷ 5 ∷ 6 ∷ 7 ∷ 8 ∷ 17 ∷ 18 ∷ 19 ∷ 20 ∷ [])
-
--- a commit written, its size, and the check before both
-pub record OfCommitWriting : Type 3 where
-  pub check-commit : Keeps a.checkCommit (0 ∷ 1 ∷ 2 ∷ 10 ∷ [])
-  pub commit-size : Keeps a.commitSize (0 ∷ 1 ∷ 2 ∷ 10 ∷ [])
-  pub write-commit : Keeps a.writeCommit (0 ∷ 1 ∷ 2 ∷ 8 ∷ 10 ∷ 13 ∷ 14 ∷ [])
 
 -- bundles and paths, with the sort and the leaves of both
 pub record OfBundles : Type 3 where

@@ -15,7 +15,7 @@ use Rattle.entry.specs.Entry.{Entry}
 use Rattle.edit.specs.Table.{removeFrom, none, held, Table}
 use Rattle.edit_walk.specs.Walk.{newEntry}
 use Rattle.editing.specs.Demand.{Written, OneWriting, FromAccepted, AcceptedAgain, Change, puts, removes, nameOf, tableChanged}
-use Rattle.paper.specs.Call.{Run}
+use Rattle.call.specs.Call.{Run}
 use Rattle.paper.specs.Calls.{putInTree, removeFromTree}
 
 -- a run of one of the two calls

@@ -1,14 +1,9 @@
-pub mod Call
-pub mod Walked
 pub mod Calls
 pub mod Border
 pub mod Arrives
 pub mod Pieces
 pub mod Places
 pub mod Demand1
-pub mod Sentences
-pub mod Demand2
-pub mod Demand3
 pub mod Rewriting
 pub mod Many
 pub mod Editing

@@ -12,8 +12,8 @@ use Rattle.ground.specs.Verdict.{verdict, counted, refused}
 use Rattle.lookups.specs.Many.{width, many, oneAnswer, kept}
 use Rattle.lookups.specs.Demand.{nameAt}
 use Rattle.lookups.specs.declared.Sought.{Sought}
-use Rattle.paper.specs.Call.{Input, Outcome, Meets}
-use Rattle.paper.specs.Calls.{bisectEntry, bisectEntries}
+use Rattle.call.specs.Call.{Input, Outcome, Meets}
+use Rattle.tree_calls.specs.Calls.{bisectEntry, bisectEntries}
 
 -- how many names a call is lent, and name j of them
 abbrev pub names : Input (bisectEntries .call) → ℕ

@@ -12,10 +12,10 @@ use Rattle.entry.specs.declared.EntryRecord.{EntryRecord}
 use Rattle.reading.specs.Listing.{listing, recordsIn}
 use Rattle.mend.specs.Mend.{fatesOf}
 use Rattle.mending.specs.Mending.{mendedListing, AllKept}
-use Rattle.paper.specs.Call.{Run}
+use Rattle.call.specs.Call.{Run}
 use Rattle.paper.specs.Calls.{mendTree}
-use Rattle.paper.specs.Places.{Below, Over, atEntry}
-use Rattle.paper.specs.Demand3 as strict
+use Rattle.call.specs.Places.{Below, Over, atEntry}
+use Rattle.demands.specs.Demand3 as strict
 
 -- a run of the call, and what it is handed: the object, and the length of ids
 abbrev pub Mend : Type 0

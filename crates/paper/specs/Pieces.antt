@@ -10,9 +10,10 @@ use Rattle.arriving.specs.declared.Marks.{Marks}
 use Rattle.border.specs.Border.{answerNumbers}
 use Rattle.piece_state.proofs as state
 use Rattle.sarpukten.proofs as c
-use Rattle.paper.specs.Call.{Call, call, Input, Outcome, Meets, TakesAll, Run, Said, Deed, Refusal, Fits, EachOnce, Keeps}
-use Rattle.paper.specs.Calls.{ofAnswer, reads, stores}
-use Rattle.paper.specs.Border.{verdictIn, saidIn, hands}
+use Rattle.call.specs.Call.{Call, call, Input, Outcome, Meets, TakesAll, Run, Said, Deed, Refusal, Fits, EachOnce, Keeps}
+use Rattle.call.specs.Deeds.{ofAnswer, reads, stores}
+use Rattle.call.specs.Deeds.{hands}
+use Rattle.paper.specs.Border.{verdictIn, saidIn}
 use Rattle.paper.specs.Arrives.{startCall, feedCall, finishCall}
 
 -- The first demand of a call that goes on with a state: it takes every state; no second answer meets the contract, and nothing else can stand in what was

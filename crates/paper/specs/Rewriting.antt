@@ -11,8 +11,8 @@ use Rattle.entry.specs.Record.{width, many, recordsOf}
 use Rattle.entry.specs.declared.EntryRecord.{EntryRecord}
 use Rattle.tree_round.specs.Demand.{SomeModes}
 use Rattle.rewriting.specs.Demand.{rewrite, NoneBetween, TextsAsWritten}
-use Rattle.paper.specs.Call.{Input, Outcome, Meets}
-use Rattle.paper.specs.Calls.{readTree, writeTree}
+use Rattle.call.specs.Call.{Input, Outcome, Meets}
+use Rattle.tree_calls.specs.Calls.{readTree, writeTree}
 
 -- ---- one call of each
 

@@ -1,1 +1,1 @@
-// The demands, each read in one place: theorems over the layers below, and no code.
+// The first demand, read in one place: theorems over the layers below, and no code.

@@ -2,12 +2,12 @@
 use Prim.Native.Nat.{ℕ, zero, suc, _+_, _-_, _<_, _≤_, max}
 use native.Mathlib.Omega.{arith}
 use mathlib.Core.Path.{_≡_, refl, ap, sym, _∙_}
-use mathlib.Core.Bool.{Bool, true, false}
+use mathlib.Core.Bool.{Bool, true, false, false≢true}
 use mathlib.Core.List.{List, [], _∷_, _++_}
 use lib.Dec.{eqb}
 use lib.ListN.{length, take, drop, replicate, length-drop}
 use lib.Seq.{take-all, take-take, drop-drop, length-take-le, sets}
-use borrow.Author.Tests.{eq-eqb, ne-eqb}
+use borrow.Author.Tests.{eq-eqb, ne-eqb, eqb-true}
 use Rattle.ground.specs.Basics.{pick, part}
 use Rattle.ground.specs.Scan.{countTo}
 use Rattle.ground.specs.Verdict.{verdict, fine, mostBytes, sizeGate}
@@ -38,11 +38,12 @@ use Rattle.component.specs.Named.{Found, there, nowhere, entriesRead, firstName
 use Rattle.component.specs.declared.Named.{Named}
 use Rattle.component.specs.declared.Named.the-variants.{Entry, NoEntry}
 use Rattle.component.proofs.Laws.{pieces-last, pieces-more, pieces-some, seen, first-named, first-within}
+use Rattle.path_step.specs.Spot.{entryAt, entryIn, spotOf, spotIn}
 use Rattle.path.specs.Path.{inObject, stepTo, onto, walkAlong, padded, refusedWith, answered, followAlong, followIn, followFrom, follow}
 use Rattle.path.specs.Code.{objectsBy, spotted, SpotInside, Spotted}
 use Rattle.path.specs.declared.Followed.{Followed}
-use Rattle.path.specs.declared.Spot.{Spot}
-use Rattle.path.specs.declared.Spot.the-variants.{At, Nowhere}
+use Rattle.path_step.specs.declared.Spot.{Spot}
+use Rattle.path_step.specs.declared.Spot.the-variants.{At, Nowhere}
 
 -- ---- one component
 
@@ -61,15 +62,15 @@ module _ (s : List ℕ) (k : Header) (id name : List ℕ) (g : headOf s ≡ Good
   unfolding stepTo
   step-is = ap (inObject (k .h) name) (sym (first-object (k .h) s id (framesBy s k)) ∙ ap (standing (k .h) s) (sym at-first))
 
-  pub step-absent : r ≡ placed.Absent → Spotted (k .h) s (stepTo (k .h) (objectsBy s k) id name) Nowhere
+  step-absent : r ≡ placed.Absent → Spotted (k .h) s (stepTo (k .h) (objectsBy s k) id name) Nowhere
   unfolding inObject standing spotted
   step-absent z = record { says = sym (step-is ∙ rw z); inside = tt }
 
   module _ (f : Frame) (z : r ≡ placed.At f) where
-    pub step-inside : (f .start ≤ f .end) × (f .end ≤ length s)
+    step-inside : (f .start ≤ f .end) × (f .end ≤ length s)
     step-inside = first-inside (k .h) s id (k .count) (k .from) f (sym at-first ∙ z)
 
-    pub step-other : (f .kind ≡ 2 → ⊥) → Spotted (k .h) s (stepTo (k .h) (objectsBy s k) id name) Nowhere
+    step-other : (f .kind ≡ 2 → ⊥) → Spotted (k .h) s (stepTo (k .h) (objectsBy s k) id name) Nowhere
     unfolding inObject standing spotted objectOf
     step-other n = record { says = sym (step-is ∙ rw z (rw (ne-eqb (f .kind) 2 n))); inside = tt }
 
@@ -80,19 +81,19 @@ module _ (s : List ℕ) (k : Header) (id name : List ℕ) (g : headOf s ≡ Good
           let w : firstNamed name (entriesRead (k .h) b) ≡ seen (k .h) b found = sym (first-named (k .h) b name (plain (k .h) (length b) 0 b)) ∙ ap (seen (k .h) b) (sym q) in
           step-is ∙ rw z (rw (eq-eqb (f .kind) 2 t, ← y) w)
 
-      pub step-none : found ≡ NoEntry → Spotted (k .h) s (stepTo (k .h) (objectsBy s k) id name) Nowhere
+      step-none : found ≡ NoEntry → Spotted (k .h) s (stepTo (k .h) (objectsBy s k) id name) Nowhere
       unfolding spotted seen
       step-none n = record { says = sym (step-seen ∙ rw n); inside = tt }
 
       module _ (x : EntryRecord) (n : found ≡ Entry x) where
-        pub step-within : f .start + x .«id_start» + k .h ≤ length s
+        step-within : f .start + x .«id_start» + k .h ≤ length s
         step-within =
             let i = step-inside in
             let w = first-within (k .h) b name (length b) 0 x (sym q ∙ n) in
             let l : length b ≡ f .end - f .start = ap length y ∙ length-take-le (f .end - f .start) (drop (f .start) s) (omega (arith, length-drop (f .start) s)) in
             omega arith
 
-        pub step-entry : Spotted (k .h) s (stepTo (k .h) (objectsBy s k) id name) (At (x .mode) (f .start + x .«id_start»))
+        step-entry : Spotted (k .h) s (stepTo (k .h) (objectsBy s k) id name) (At (x .mode) (f .start + x .«id_start»))
         unfolding spotted seen idOf
         step-entry =
             let w = first-within (k .h) b name (length b) 0 x (sym q ∙ n) in
@@ -103,6 +104,24 @@ module _ (s : List ℕ) (k : Header) (id name : List ℕ) (g : headOf s ≡ Good
             ∙ part-part (k .h) (x .«id_start») (f .end - f .start) (drop (f .start) s) (omega arith)
             ∙ ap (λ (c : List ℕ). take (k .h) c) (drop-drop (x .«id_start») (f .start) s) in
             record { says = sym (step-seen ∙ rw n (ap (λ (c : List ℕ). there (x .mode) c) v)); inside = step-within }
+
+-- a spot of the bundle says what one component leads to
+pub step-says : (s : List ℕ) (k : Header) (id name : List ℕ) → headOf s ≡ Good k → (r : Spot) → r ≡ spotIn (k .h) s id name
+    → Spotted (k .h) s (stepTo (k .h) (objectsBy s k) id name) r
+unfolding spotOf entryAt
+step-says s k id name g r e = rw e (go (placeOf s id) refl)
+  where
+    go : (p : Placed) → p ≡ placeOf s id → Spotted (k .h) s (stepTo (k .h) (objectsBy s k) id name) (spotOf (k .h) s name p)
+    go placed.Absent q = step-absent s k id name g placed.Absent q refl
+    go (placed.At f) q = kinds (eqb (f .kind) 2) refl
+      where
+        named : f .kind ≡ 2 → (x : Named) → x ≡ entryIn (k .h) name (part (f .start) (f .end) s) → Spotted (k .h) s (stepTo (k .h) (objectsBy s k) id name) (entryAt (f .start) x)
+        named t NoEntry w = step-none s k id name g (placed.At f) q f refl t (part (f .start) (f .end) s) refl NoEntry w refl
+        named t (Entry x) w = step-entry s k id name g (placed.At f) q f refl t (part (f .start) (f .end) s) refl (Entry x) w x refl
+
+        kinds : (v : Bool) → eqb (f .kind) 2 ≡ v → Spotted (k .h) s (stepTo (k .h) (objectsBy s k) id name) (pick v (entryAt (f .start) (entryIn (k .h) name (part (f .start) (f .end) s))) Nowhere)
+        kinds true n = named (eqb-true (f .kind) 2 n) (entryIn (k .h) name (part (f .start) (f .end) s)) refl
+        kinds false n = step-other s k id name g (placed.At f) q f refl (λ z. false≢true (sym n ∙ eq-eqb (f .kind) 2 z))
 
 -- ---- the walk
 

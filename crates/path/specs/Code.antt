@@ -7,8 +7,8 @@ use Rattle.frame.specs.Frame.{framesBy, framesIn}
 use Rattle.bundle.specs.Bundle.{Object, objectOf}
 use Rattle.frame.specs.declared.Header.{Header}
 use Rattle.component.specs.Named.{Found, there, nowhere}
-use Rattle.path.specs.declared.Spot.{Spot}
-use Rattle.path.specs.declared.Spot.the-variants.{At, Nowhere}
+use Rattle.path_step.specs.declared.Spot.{Spot}
+use Rattle.path_step.specs.declared.Spot.the-variants.{At, Nowhere}
 
 -- the objects that a header speaks of
 abbrev pub objectsBy : List ℕ → Header → List Object

@@ -8,17 +8,12 @@ ghost use Rattle.frame.specs.Frame.{headOf};
 ghost use Rattle.frame.specs.declared.Head.the-variants.{Good};
 ghost use Rattle.bundle.specs.Bundle.{bundleOf};
 ghost use Rattle.component.specs.Component.{pieces, components};
-ghost use Rattle.path.specs.Path.{stepTo, walkAlong, refusedWith, answered, followAlong, followIn, follow};
+ghost use Rattle.path.specs.Path.{walkAlong, refusedWith, answered, followAlong, followIn, follow};
 ghost use Rattle.path.specs.Code.{Spotted, SpotInside, objectsBy, spotted};
 use bundle::Opening;
 use bundle::open_bundle;
-use component::Named;
-use component::find_entry;
 use component::is_path;
 use frame::Header;
-use frame::Placed;
-use frame::TREE;
-use frame::find_object;
 use ground::FINE;
 use ground::Gate;
 use ground::NO_PATH;
@@ -27,6 +22,8 @@ use ground::Verdict;
 use ground::longer;
 use ground::sizes;
 use output::put;
+use path_step::Spot;
+use path_step::step_to;
 use scan::count_to;
 
 // The answer: the mode and the id of the entry that the path leads to, by value; on a refusal mode and size are 0.
@@ -37,44 +34,13 @@ pub struct Followed {
     pub size: usize,
 }
 
-// An entry's mode, and where its id stands in the bundle.
-enum Spot {
-    At(usize, usize),
-    Nowhere,
-}
-
-// One component: the object of an id must be a tree, and have an entry of the name.
-fn step_to(s: &[u8], k: Header, id: &[u8], name: &[u8]) -> Spot
-    requires { ⌜ headOf (now s) ≡ Good k ⌝ }
-    ensures { λ r. ⌜ Spotted (k .h) (now (s .entry)) (stepTo (k .h) (objectsBy (now (s .entry)) k) (now (id .entry)) (now (name .entry))) r ⌝ }
-{
-    match find_object(s, id) {
-        Placed::Absent => Spot::Nowhere,
-        Placed::At(f) => {
-            if f.kind != TREE {
-                return Spot::Nowhere;
-            }
-            let start = f.start;
-            let end = f.end;
-            match find_entry(&s[start..end], k.h, name) {
-                Named::NoEntry => Spot::Nowhere,
-                Named::Entry(e) => {
-                    let mode = e.mode;
-                    let at = start + e.id_start;
-                    Spot::At(mode, at)
-                }
-            }
-        }
-    }
-}
-
 // What a path leads to from an id: one component is looked up, and the rest of the path is followed from what was found.
 fn walk(s: &[u8], k: Header, id: &[u8], path: &[u8]) -> Spot
     requires { ⌜ headOf (now s) ≡ Good k ⌝ }
     ensures { λ r. ⌜ Spotted (k .h) (now (s .entry)) (walkAlong (k .h) (objectsBy (now (s .entry)) k) (now (id .entry)) (pieces (now (path .entry)))) r ⌝ }
 {
     let n = count_to(path, b'/');
-    let spot = step_to(s, k, id, &path[..n]);
+    let spot = step_to(s, k.h, id, &path[..n]);
     if n == path.len() {
         return spot;
     }

@@ -1,15 +1,13 @@
 // Puts an entry into a strict tree object: `./run put [sha256] [1|2] MODE ID NAME <object >new`, the mode as it is written in an object, the id
 // in hex (docs/FORMAT.md, "Edits"). Without a rule set it is 2. A refusal is one line with its number, place and part.
 use edit::put_in_tree;
-use ground::Answer;
-use ground::BOUND;
 use ground::DONE;
-use ground::FINE;
-use ground::Verdict;
 use id_of_hex::id_of_hex;
 use libc::STDIN_FILENO;
-use libc::STDOUT_FILENO;
 use mode::EntryMode;
+use saying::say_answer;
+use saying::say_refused;
+use saying::say_too_long;
 use scan::same_bytes;
 use words::id_length;
 use words::rule_set;
@@ -17,24 +15,6 @@ use words::word_at;
 
 // Words and object together have at most so many bytes, and the new object no more.
 const LONGEST: usize = 135168;
-
-fn say(s: &[u8]) {
-    io::write_all(STDOUT_FILENO, s);
-}
-
-fn number(n: usize) {
-    io::print_decimal(STDOUT_FILENO, n as u64);
-}
-
-fn refused(v: Verdict) {
-    say(b"refused ");
-    number(v.number);
-    say(b" at ");
-    number(v.place);
-    say(b" part ");
-    number(v.part);
-    say(b"\n");
-}
 
 // The bytes from one place to another, or none where they do not lie inside.
 fn part(s: &[u8], from: usize, to: usize) -> &[u8] {
@@ -63,15 +43,6 @@ fn set_at(s: &[u8], at: usize) -> Set {
     Set { rules, next }
 }
 
-fn tell(a: Answer, out: &[u8]) {
-    let v = a.verdict;
-    if v.number != DONE {
-        refused(v);
-        return;
-    }
-    say(part(out, 0, a.count));
-}
-
 // The mode whose text is a word; for any other word a number that no rule set has.
 fn mode_of(text: &[u8]) -> usize {
     let a = EntryMode::from_bytes(text);
@@ -90,12 +61,12 @@ fn put(object: &[u8], h: usize, rules: u16, mode: usize, name: &[u8], digits: &[
     let a = id_of_hex(digits, &mut id);
     let v = a.verdict;
     if v.number != DONE {
-        refused(v);
+        say_refused(v);
         return;
     }
     let n = a.count;
     let b = put_in_tree(object, h, rules, mode, name, part(&id, 0, n), &mut out);
-    tell(b, &out);
+    say_answer(b, &out);
 }
 
 // The words, the empty line behind them, and the object.
@@ -122,10 +93,7 @@ fn main() {
     let mut more = [0u8; 1];
     let n = io::read_full(STDIN_FILENO, &mut all);
     if libc::read(STDIN_FILENO, &mut more) != 0 {
-        refused(Verdict {
-            number: BOUND,
-            ..FINE
-        });
+        say_too_long();
         return;
     }
     work(part(&all, 0, n));

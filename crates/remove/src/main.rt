@@ -1,13 +1,9 @@
 // Removes an entry from a strict tree object: `./run remove [sha256] [1|2] NAME <object >new` (docs/FORMAT.md, "Edits"). Without a rule set it is 2.
 // A refusal is one line with its number, place and part.
 use edit_remove::remove_from_tree;
-use ground::Answer;
-use ground::BOUND;
-use ground::DONE;
-use ground::FINE;
-use ground::Verdict;
 use libc::STDIN_FILENO;
-use libc::STDOUT_FILENO;
+use saying::say_answer;
+use saying::say_too_long;
 use words::id_length;
 use words::is_word;
 use words::rule_set;
@@ -15,24 +11,6 @@ use words::word_at;
 
 // Words and object together have at most so many bytes, and the new object no more.
 const LONGEST: usize = 135168;
-
-fn say(s: &[u8]) {
-    io::write_all(STDOUT_FILENO, s);
-}
-
-fn number(n: usize) {
-    io::print_decimal(STDOUT_FILENO, n as u64);
-}
-
-fn refused(v: Verdict) {
-    say(b"refused ");
-    number(v.number);
-    say(b" at ");
-    number(v.place);
-    say(b" part ");
-    number(v.part);
-    say(b"\n");
-}
 
 // The bytes from one place to another, or none where they do not lie inside.
 fn part(s: &[u8], from: usize, to: usize) -> &[u8] {
@@ -64,19 +42,10 @@ fn set_at(s: &[u8], at: usize) -> Set {
     Set { rules, next }
 }
 
-fn tell(a: Answer, out: &[u8]) {
-    let v = a.verdict;
-    if v.number != DONE {
-        refused(v);
-        return;
-    }
-    say(part(out, 0, a.count));
-}
-
 fn remove(object: &[u8], h: usize, rules: u16, name: &[u8]) {
     let mut out = [0u8; LONGEST];
     let a = remove_from_tree(object, h, rules, name, &mut out);
-    tell(a, &out);
+    say_answer(a, &out);
 }
 
 // The words, the empty line behind them, and the object.
@@ -99,10 +68,7 @@ fn main() {
     let mut more = [0u8; 1];
     let n = io::read_full(STDIN_FILENO, &mut all);
     if libc::read(STDIN_FILENO, &mut more) != 0 {
-        refused(Verdict {
-            number: BOUND,
-            ..FINE
-        });
+        say_too_long();
         return;
     }
     work(part(&all, 0, n));

@@ -4,7 +4,7 @@ use native.Mathlib.Omega.{arith}
 use mathlib.Core.Path.{_≡_, refl, ap, sym, _∙_}
 use mathlib.Core.List.{List, [], _∷_, map}
 use lib.ListN.{length}
-use Rattle.mode.proofs.Again.{again-same}
+use Rattle.mode_round.proofs.Again.{again-same}
 use Rattle.entry.specs.Entry.{Entry, asWritten, entryOf, entriesOf}
 use Rattle.entry.specs.declared.EntryRecord.{EntryRecord}
 use Rattle.reading.specs.Listing.{listing, recordsIn}

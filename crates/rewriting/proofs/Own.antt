@@ -11,8 +11,8 @@ use Rattle.ground.proofs.Laws.{id-small}
 use Rattle.mode.specs.Read.{readMode}
 use Rattle.mode_text.specs.Write.{writeMode, again}
 use Rattle.mode.specs.declared.ModeRead.the-variants.{Mode}
-use Rattle.mode.proofs.Again.{written-reads}
-use Rattle.mode.proofs.Space.{read-count, read-small, mode-space}
+use Rattle.mode_round.proofs.Again.{written-reads}
+use Rattle.mode_round.proofs.Space.{read-count, read-small, mode-space}
 use Rattle.entry.specs.Record.{nameOf, idOf}
 use Rattle.entry.specs.Entry.{entryBytes, asWritten, entryOf, entriesOf}
 use Rattle.entry.specs.Decode.{decode}

@@ -11,7 +11,7 @@ use borrow.Author.Tests.{eq-eqb, ne-eqb, ltb-true, ltb-false}
 use Rattle.ground.specs.Verdict.{mostBytes, mostRecords}
 use Rattle.ground.proofs.Laws.{gate-fine}
 use Rattle.mode_text.specs.Write.{writeMode, trimmed, again}
-use Rattle.mode.proofs.Again.{again-same, again-less}
+use Rattle.mode_round.proofs.Again.{again-same, again-less}
 use Rattle.entry.specs.Record.{many}
 use Rattle.entry.specs.Entry.{Entry, entryBytes, asWritten, entryOf, entriesOf}
 use Rattle.reading.specs.Listing.{Listing, listing, recordsIn, tally}

@@ -21,7 +21,7 @@ use Rattle.frame.specs.declared.Framed.the-variants.{Whole, Broken}
 use Rattle.frame.specs.declared.Placed.{Placed}
 use Rattle.frame.specs.declared.Placed.the-variants.{At}
 use Rattle.frame.proofs.Laws.{frame-inside, id-part}
-use Rattle.bundle.proofs.Objects.{first-inside}
+use Rattle.bundle.proofs.Objects.{place-inside}
 use Rattle.seeking.specs.Index.{looked, seekAt, seekIn, placeIn}
 use Rattle.seeking.proofs.Indexed.{sought}
 
@@ -60,16 +60,7 @@ short-at a n x all e q = e ∙ rw q
 pub seek-framed : (h : ℕ) (s : List ℕ) (d : Framed) (at x : ℕ) → d ≡ frameAt h at (drop at s) → at ≡ x / 2 → d ≡ frameAt h (x / 2) (drop (x / 2) s)
 seek-framed h s d at x e q = e ∙ rw q
 
--- an object that was found lies inside the bundle
-pub place-inside : (s id : List ℕ) (f : Frame) → placeOf s id ≡ At f → (f .start ≤ f .end) × (f .end ≤ length s)
-unfolding placeBy
-place-inside s id f e = placed (headOf s) e
-  where
-    placed : (d : Head) → placeBy s id d ≡ At f → (f .start ≤ f .end) × (f .end ≤ length s)
-    placed (head.Good k) q = first-inside (k .h) s id (k .count) (k .from) f q
-    placed head.Bad q = let z : _≡_ {A = ℕ} 0 1 = cc in absurd (omega arith)
-
--- also where an index proposed it
+-- an object that was found lies inside the bundle, also where an index proposed it
 pub seek-inside : (h : ℕ) (s index id : List ℕ) (p : Placed) (f : Frame) → p ≡ seekIn h s index id → p ≡ At f → (f .start ≤ f .end) × (f .end ≤ length s)
 unfolding seekIn seekAt looked
 seek-inside h s index id p f e k = go (ltb i (length index)) (sym e ∙ k)

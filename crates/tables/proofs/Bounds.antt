@@ -35,6 +35,7 @@ use Rattle.commit_fields.proofs.Laws.{outcome-shut}
 use Rattle.commit_read.proofs.Laws.{answer-fails}
 use Rattle.commit_check.specs.Check.{after, checked}
 use Rattle.commit_write.specs.Write as write
+use Rattle.walk.specs.Lent as lent
 use Rattle.difference.specs.Whole as difference
 use Rattle.tables.specs.Bounds.{Over, OneLength, two, OverLaws}
 
@@ -102,7 +103,7 @@ unfold-over s x out o = rw (size-over (max (length s) (length out)) 0 o)
 
 compare-over : (s left right : List ℕ) (bytes room : ℕ) → Over (max (max (length s) bytes) (max (length left) (length right))) room
     → difference.answer s left right bytes room ≡ refused two
-unfolding difference.answer difference.found difference.gated difference.fitted
+unfolding difference.answer difference.found difference.gated lent.fitted
 compare-over s left right bytes room o = rw (size-over (max (max (length s) bytes) (max (length left) (length right))) room o)
 
 pub over-laws : OverLaws

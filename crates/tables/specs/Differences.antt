@@ -25,9 +25,10 @@ use Rattle.frame.specs.Frame.{fieldsAt, byRules, byVersion, headOf, isFrame, fr
 use Rattle.frame.specs.Place.{idIn, firstOf, placeBy}
 use Rattle.twice.specs.Ids.{idsIn, among, repeats}
 use Rattle.bundle.specs.Bundle.{openBy, openFrom}
-use Rattle.difference.specs.Items.{Item, namedOf, readStrictly, treeOf, folderOf, join}
-use Rattle.difference.specs.Walk.{refusedBy, put, andThen, change, both, rights, against, compareEntries, opened, compareFolders}
-use Rattle.difference.specs.Whole.{storedAt, storeOf, differences, pathsOf, numbersOf, fitted, rootsOf, walked, gated, found, answer}
+use Rattle.item.specs.Items.{Item, namedOf, readStrictly, treeOf, folderOf, join}
+use Rattle.walk.specs.Walk.{refusedBy, put, andThen, change, both, rights, against, compareEntries, opened, compareFolders}
+use Rattle.walk.specs.Lent.{pathsOf, numbersOf, fitted}
+use Rattle.difference.specs.Whole.{storedAt, storeOf, differences, rootsOf, walked, gated, found, answer}
 use Rattle.difference.specs.Whole.{itemsAfter, pathsAfter}
 use Rattle.tables.specs.Bundles.{first, second, id, object}
 

@@ -26,7 +26,7 @@ use Rattle.one_listing.specs.Sound.{isMode}
 use Rattle.edit_walk.specs.Walk.{newEntry}
 use Rattle.edit.specs.Table.{removeFrom, insert, putIn, isHeld, tableOf}
 use Rattle.edit.specs.Edit.{entriesIn, newNo, sizeOf, putting, removing, onCounted, putAnswer, removeAnswer}
-use Rattle.tables.specs.Examples.{O}
+use Rattle.examples.specs.Examples.{O}
 
 -- a call, and its answer
 pub record Row : Type 0 where

@@ -25,7 +25,7 @@ use Rattle.hex.specs.Hex.{digitOf}
 use Rattle.hex_of_id.specs.Hex.{hexOf}
 use Rattle.tree_text.specs.Text.{sortWord, frontText, recordText, asText}
 use Rattle.tree_export.specs.Export.{textIn, countedIn, exportAnswer}
-use Rattle.tables.specs.Examples.{O}
+use Rattle.examples.specs.Examples.{O}
 
 -- an entry of an object, and its record of text; the id is twenty times a byte
 abbrev entry : String → String → ℕ → List ℕ

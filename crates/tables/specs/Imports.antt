@@ -22,7 +22,7 @@ use Rattle.id_of_hex.specs.Id.{bytesOf}
 use Rattle.tree_text.specs.Text.{sortWord, frontText}
 use Rattle.text_form.specs.Form.{between, within, allWithin, wordLen, frontLen, nameFrom}
 use Rattle.text_record.specs.Record.{frontMode, pared, nameEnd, nameIn, idIn, formed, saidNumber, textNumber, entryIn, sizeIn}
-use Rattle.tree_import.specs.Import.{texts, readFrom, entriesIn, ending, compareSame, nameSame, anyBefore, repeated, importVerdict, imported, countedOf, importAnswer}
+use Rattle.text_import.specs.Import.{texts, readFrom, entriesIn, ending, compareSame, nameSame, anyBefore, repeated, importVerdict, imported, countedOf, importAnswer}
 
 -- digits and word, so many times a digit, and a name
 abbrev rec : List ℕ → ℕ → ℕ → List ℕ → List ℕ

@@ -1,7 +1,4 @@
-pub mod Examples
-pub mod Numbers
 pub mod Bounds
-pub mod Texts
 pub mod Bundles
 pub mod Exports
 pub mod Imports

@@ -24,7 +24,7 @@ use Rattle.fate.specs.Fate.{staysMode, ownMode, ownText, fateOf}
 use Rattle.mend.specs.Mend.{among, fateIn, namesAfter, fatesFrom, keptFrom, fatesOf, mendedEntry, mended}
 use Rattle.mend.specs.Mend.{notMended, inRoom, countedAnswer, answerBy, mendAnswer}
 use Rattle.mend.specs.declared.Mended.{Mended}
-use Rattle.tables.specs.Examples.{O}
+use Rattle.examples.specs.Examples.{O}
 
 -- ---- what is done to each entry, and what is written
 

@@ -29,7 +29,7 @@ use Rattle.arriving.specs.Feed.{together, startOf, meet, nameMarks, nameHeld, j
 use Rattle.arriving.specs.Feed.{over, stepOf, feedOf, finishOf}
 use Rattle.arriving.specs.Whole.{heldName, heldMode, arriving, checkOf}
 use Rattle.arriving.specs.Claims.{inPieces, answer}
-use Rattle.tables.specs.Examples.{O}
+use Rattle.examples.specs.Examples.{O}
 
 -- a check, and its answer
 pub record Row : Type 0 where

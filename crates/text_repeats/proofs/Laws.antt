@@ -2,7 +2,7 @@
 use Prim.Native.Nat.{ℕ, zero, suc, _+_, _-_, _/_, _%_, _<_, _≤_, min}
 use native.Mathlib.Omega.{arith}
 use mathlib.Core.Path.{_≡_, refl, ap, sym, _∙_}
-use mathlib.Core.Bool.{Bool, true, false, false≢true, _&&_}
+use mathlib.Core.Bool.{Bool, true, false, _&&_}
 use mathlib.Core.List.{List, [], _∷_}
 use lib.Dec.{eqb, ltb}
 use lib.ListN.{length, getD, take, drop, length-drop}
@@ -14,8 +14,7 @@ use Rattle.ground.specs.Verdict.{verdict, fine}
 use Rattle.ground.specs.declared.Verdict.{Verdict}
 use Rattle.keys.specs.Key.{pastMark, cutTo, nameAt}
 use Rattle.keys.proofs.Keys.{end-nul}
-use Rattle.sorting.specs.Sort.{UpTo, Ascends}
-use Rattle.text_repeats.specs.Least.{sameRecord, ascending, leastOf, leastNext, told}
+use Rattle.text_repeats.specs.Least.{sameRecord, leastOf, leastNext, told}
 
 -- ---- a name
 
@@ -81,51 +80,6 @@ module _ (same : ℕ → ℕ → Bool) where
 
     pub least-end : length l ≤ i → leastNext same (drop (i - 1) l) m ≡ m
     least-end q = least-few (drop (i - 1) l) m (last-on l i p q)
-
-module _ (below : ℕ → ℕ → Bool) where
-  up-few : (l : List ℕ) → length l ≤ 1 → ascending below l ≡ true
-  unfolding ascending
-  up-few [] p = refl
-  up-few (x ∷ []) p = refl
-  up-few (x ∷ y ∷ l) p = absurd (omega arith)
-
-  up-step : (l : List ℕ) (j : ℕ) → suc j < length l
-      → ascending below (drop j l) ≡ pick (below (getD l (suc j) 0) (getD l j 0)) false (ascending below (drop (suc j) l))
-  unfolding ascending
-  up-step l j p =
-      ap (ascending below) (two-on l j p)
-      ∙ ap (λ (r : List ℕ). pick (below (getD l (suc j) 0) (getD l j 0)) false (ascending below r)) (sym (drop-cons l (suc j) 0 p))
-
-  module _ (l : List ℕ) (i : ℕ) (p : 1 ≤ i) where
-    pub up-end : length l ≤ i → ascending below (drop (i - 1) l) ≡ true
-    up-end q = up-few (drop (i - 1) l) (last-on l i p q)
-
-    module _ (q : i < length l) where
-      here : ascending below (drop (i - 1) l) ≡ pick (below (getD l i 0) (getD l (i - 1) 0)) false (ascending below (drop i l))
-      here =
-          let a : suc (i - 1) ≡ i = omega arith in
-          up-step l (i - 1) (omega arith)
-          ∙ ap (λ (k : ℕ). pick (below (getD l k 0) (getD l (i - 1) 0)) false (ascending below (drop k l))) a
-
-      pub up-off : below (getD l i 0) (getD l (i - 1) 0) ≡ true → ascending below (drop (i - 1) l) ≡ false
-      up-off e = here ∙ ap (λ (b : Bool). pick b false (ascending below (drop i l))) e
-
-      pub up-on : below (getD l i 0) (getD l (i - 1) 0) ≡ false → ascending below (drop (i - 1) l) ≡ ascending below (drop (i + 1 - 1) l)
-      up-on e =
-          let b : i ≡ i + 1 - 1 = omega arith in
-          here ∙ ap (λ (b : Bool). pick b false (ascending below (drop i l))) e ∙ ap (λ (k : ℕ). ascending below (drop k l)) b
-
-  -- the test says that the list ascends
-  pub up-ascends : (l : List ℕ) → ascending below l ≡ true → Ascends below l
-  unfolding ascending Ascends
-  up-ascends [] e = tt
-  up-ascends (x ∷ []) e = tt
-  up-ascends (x ∷ y ∷ l) e = go (below y x) refl e (λ q. up-ascends (y ∷ l) q)
-    where
-      go : (b : Bool) → below y x ≡ b → pick b false (ascending below (y ∷ l)) ≡ true → (ascending below (y ∷ l) ≡ true → Ascends below (y ∷ l))
-          → UpTo below x y × Ascends below (y ∷ l)
-      go true p q ih = absurd (false≢true q)
-      go false p q ih = (p, ih q)
 
 -- ---- the verdict
 

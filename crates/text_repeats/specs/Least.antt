@@ -1,6 +1,6 @@
 -- The least element of a list that has the name and sort of the one before it, and the verdict by it. Assumes nothing.
 use Prim.Native.Nat.{ℕ, _/_, _%_, min}
-use mathlib.Core.Bool.{Bool, true, false, _&&_}
+use mathlib.Core.Bool.{Bool, _&&_}
 use mathlib.Core.List.{List, [], _∷_}
 use lib.Dec.{eqb, ltb}
 use Rattle.ground.specs.Basics.{pick}
@@ -8,12 +8,6 @@ use Rattle.ground.specs.Scan.{sameBytes}
 use Rattle.ground.specs.Verdict.{verdict, fine}
 use Rattle.ground.specs.declared.Verdict.{Verdict}
 use Rattle.keys.specs.Key.{nameAt}
-
--- no element is below the one before it
-unfoldable pub ascending : (ℕ → ℕ → Bool) → List ℕ → Bool
-ascending below [] = true
-ascending below (x ∷ []) = true
-ascending below (x ∷ y ∷ l) = pick (below y x) false (ascending below (y ∷ l))
 
 -- two elements of a text have one name and one sort
 unfoldable pub sameRecord : List ℕ → ℕ → ℕ → Bool

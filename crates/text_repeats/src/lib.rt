@@ -1,19 +1,16 @@
-// The records of a text in order, by the names past their tabs, and the first that repeats an earlier one (docs/FORMAT.md, "Text").
+// Records of a text by the names past their tabs, and of a list of them in order the first that repeats an earlier one (docs/FORMAT.md, "Text").
 ghost use mathlib.Core.Path.{_≡_};
 ghost use Prim.Native.Nat.{_/_, _≤_, min};
 ghost use lib.ListN.{length, drop};
-ghost use Rattle.keys.specs.Key.{pastMark, nameAt, keyAt, belowBy};
-ghost use Rattle.sorting.specs.Sort.{sortBy};
-ghost use Rattle.text_repeats.specs.Least.{sameRecord, ascending, leastOf, leastNext, told};
+ghost use Rattle.keys.specs.Key.{pastMark, nameAt};
+ghost use Rattle.text_repeats.specs.Least.{sameRecord, leastOf, leastNext, told};
 use ground::FINE;
 use ground::ORDER;
 use ground::SAME_NAME;
 use ground::Verdict;
-use keys::below;
 use scan::find_byte;
 use scan::find_nul;
 use scan::same_bytes;
-use sorting::sort;
 
 // No element: an element is below it.
 pub const NONE: usize = 4294967296;
@@ -43,7 +40,7 @@ fn name_at(text: &[u8], x: u32) -> &[u8]
 }
 
 // Whether two elements have one name and one sort.
-fn same_record(text: &[u8], x: u32, y: u32) -> bool
+pub fn same_record(text: &[u8], x: u32, y: u32) -> bool
     ensures { λ r. ⌜ r ≡ sameRecord (now (text .entry)) x y ⌝ }
 {
     if x % 2 != y % 2 {
@@ -82,32 +79,6 @@ pub fn least_repeat(text: &[u8], list: &[u32]) -> usize
         i += 1;
     }
     least
-}
-
-// Whether no element of a list is below the one before it.
-fn in_order(text: &[u8], list: &[u32]) -> bool
-    ensures { λ r. ⌜ r ≡ ascending (belowBy (keyAt (now (text .entry)) 9 0)) (now (list .entry)) ⌝ }
-{
-    let mut i: usize = 1;
-    while i < list.len() {
-        let x = list[i - 1];
-        let y = list[i];
-        if below(text, b'\t', 0, y, x) {
-            return false;
-        }
-        i += 1;
-    }
-    true
-}
-
-// Sorts a list of elements by their keys: one pass where it is in order.
-pub fn order_list(text: &[u8], list: &mut [u32])
-    ensures { λ _. ⌜ now (list .exit) ≡ sortBy (belowBy (keyAt (now (text .entry)) 9 0)) (now (list .entry)) ⌝ }
-{
-    if in_order(text, list) {
-        return;
-    }
-    sort(text, b'\t', 0, list);
 }
 
 // The verdict by the least element that repeats a name and a sort, and the least that repeats a name: 7, then 17.

@@ -11,7 +11,7 @@ use Rattle.ground.specs.Verdict.{gateOf, stored, mostRecords}
 use Rattle.ground.specs.declared.Gate.the-variants.{Open}
 use Rattle.ground.specs.declared.Answer.{Answer}
 use Rattle.ground.proofs.Laws.{stored-done}
-use Rattle.mode.proofs.Space.{read-small}
+use Rattle.mode_round.proofs.Space.{read-small}
 use Rattle.entry.specs.Record.{width, many, recordsOf, wellFormed, folderOf}
 use Rattle.entry.specs.Entry.{Entry, entryOf, entriesOf}
 use Rattle.entry.specs.Decode.{decode}

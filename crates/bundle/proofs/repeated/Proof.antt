@@ -5,7 +5,7 @@ use Rattle.bundle.proofs.repeated.Tie as tie
 use mathlib.Core.Path.{sym, _∙_}
 use mathlib.Core.List.{[]}
 use Rattle.twice.proofs.Laws.{twice-good}
-use Rattle.bundle.proofs.Laws.{rises-apart}
+use Rattle.framed.proofs.Laws.{rises-apart}
 
 ascending-requires : tie.Need-ascending-requires
 ascending-requires c κs = search needs

@@ -6,18 +6,20 @@ use mathlib.Core.Path.{sym}
 use lib.Seq.{length-take-le}
 use Rattle.indexing.proofs.Laws.{front-fits}
 use Rattle.seeking.proofs.Made.{front-index}
+use Rattle.walk.proofs.Ending.{ends-same}
+use Rattle.difference.proofs.Folders.{walk-is}
 
 make-index-requires : tie.Need-make-index-requires
 make-index-requires c κs = search needs
 
-slice-reshare-prefix-measured : tie.Need-slice-reshare-prefix-measured
-slice-reshare-prefix-measured c = front-fits (c .before .before .before .before .before .before .before .before .before .before .before .before .args .bundle .now) (c .before .before .before .before .before .before .before .before .before .before .before .before .args .k) (c .before .before .before .before .before .before .before .before .before .before .before .before .args .list .now) _ _ (c .before .before .before .before .make-index .ensures)
+slice-reshare-prefix-walk-trees : tie.Need-slice-reshare-prefix-walk-trees
+slice-reshare-prefix-walk-trees c = front-fits (c .before .before .before .before .before .before .before .before .before .before .before .before .args .bundle .now) (c .before .before .before .before .before .before .before .before .before .before .before .before .args .k) (c .before .before .before .before .before .before .before .before .before .before .before .before .args .list .now) _ _ (c .before .before .before .before .make-index .ensures)
 
-slice-aggregate-measured : tie.Need-slice-aggregate-measured
-slice-aggregate-measured c = sym (length-take-le _ _ (front-fits (c .before .before .before .before .before .before .before .before .before .before .before .before .before .args .bundle .now) (c .before .before .before .before .before .before .before .before .before .before .before .before .before .args .k) (c .before .before .before .before .before .before .before .before .before .before .before .before .before .args .list .now) _ _ (c .before .before .before .before .before .make-index .ensures)))
+slice-aggregate-walk-trees : tie.Need-slice-aggregate-walk-trees
+slice-aggregate-walk-trees c = sym (length-take-le _ _ (front-fits (c .before .before .before .before .before .before .before .before .before .before .before .before .before .args .bundle .now) (c .before .before .before .before .before .before .before .before .before .before .before .before .before .args .k) (c .before .before .before .before .before .before .before .before .before .before .before .before .before .args .list .now) _ _ (c .before .before .before .before .before .make-index .ensures)))
 
-measured-requires : tie.Need-measured-requires
-measured-requires c κs = (c .before .before .before .before .before .before .before .before .before .before .before .before .before .pre .0, front-index (c .before .before .before .before .before .before .before .before .before .before .before .before .before .args .bundle .now) (c .before .before .before .before .before .before .before .before .before .before .before .before .before .args .k) (c .before .before .before .before .before .before .before .before .before .before .before .before .before .args .list .now) _ _ (c .before .before .before .before .before .before .before .before .before .before .before .before .before .pre .1) (c .before .before .before .before .before .make-index .ensures))
+walk-trees-requires : tie.Need-walk-trees-requires
+walk-trees-requires c κs = search needs
 
 same-length : tie.Need-same-length
 same-length c = search needs
@@ -29,16 +31,16 @@ same-length-3 : tie.Need-same-length-3
 same-length-3 c = search needs
 
 returns : tie.Need-returns
-returns c = search needs
+returns c = ends-same _ _ _ _ _ _ _ (walk-is (c .before .before .before .before .before .before .before .before .before .before .before .before .before .before .before .before .before .before .args .k) (c .before .before .before .before .before .before .before .before .before .before .before .before .before .before .before .before .before .before .args .bundle .now) _ (c .before .before .before .before .before .before .before .before .before .before .before .before .before .before .before .before .before .before .args .left .now) (c .before .before .before .before .before .before .before .before .before .before .before .before .before .before .before .before .before .before .args .right .now) (front-index (c .before .before .before .before .before .before .before .before .before .before .before .before .before .before .before .before .before .before .args .bundle .now) (c .before .before .before .before .before .before .before .before .before .before .before .before .before .before .before .before .before .before .args .k) (c .before .before .before .before .before .before .before .before .before .before .before .before .before .before .before .before .before .before .args .list .now) _ _ (c .before .before .before .before .before .before .before .before .before .before .before .before .before .before .before .before .before .before .pre .1) (c .before .before .before .before .before .before .before .before .before .before .make-index .ensures)) (c .before .before .before .before .before .before .before .before .before .before .before .before .before .before .before .before .before .before .pre .0)) (c .before .before .before .before .walk-trees .ensures)
 
 pub compare-with-spec : {M : Type 1} → statement M
 compare-with-spec =
     tie.close
     (tie.spec
     make-index-requires
-    slice-reshare-prefix-measured
-    slice-aggregate-measured
-    measured-requires
+    slice-reshare-prefix-walk-trees
+    slice-aggregate-walk-trees
+    walk-trees-requires
     same-length
     same-length-2
     same-length-3

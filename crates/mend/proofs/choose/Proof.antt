@@ -6,7 +6,7 @@ use Rattle.mend.proofs.choose.Reads as reads
 use Rattle.mend.proofs.choose.Lts as lts
 use Rattle.fate.proofs.may_stay.Reads as may-stay-reads
 use mathlib.Core.Path.{refl, sym, _∙_}
-use Rattle.mend.proofs.Walk.{chosen-in, chosen-out, chosen-first}
+use Rattle.mend_kept.proofs.Walk.{chosen-in, chosen-out, chosen-first}
 
 mul-result : tie.Need-mul-result
 mul-result c = search needs

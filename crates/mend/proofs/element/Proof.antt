@@ -3,7 +3,7 @@ use borrow.Author.Needs.{needs}
 use Rattle.mend.proofs.element.Statement.{statement}
 use Rattle.mend.proofs.element.Tie as tie
 use mathlib.Core.Path.{sym, _∙_}
-use Rattle.mend.proofs.Walk.{element-folder, element-file, element-plain}
+use Rattle.mend_kept.proofs.Walk.{element-folder, element-file, element-plain}
 
 mul-twice : tie.Need-mul-twice
 mul-twice c = search needs

@@ -4,7 +4,7 @@ use Rattle.mend.proofs.entry_fate.Statement.{statement}
 use Rattle.mend.proofs.entry_fate.Tie as tie
 use native.Mathlib.Omega.{arith}
 use mathlib.Core.Path.{refl, sym, _∙_}
-use Rattle.mend.proofs.Walk.{fate-is, key-is-name}
+use Rattle.mend_kept.proofs.Walk.{fate-is, key-is-name}
 
 element-requires : tie.Need-element-requires
 element-requires c κs = search needs

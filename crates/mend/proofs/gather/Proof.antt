@@ -12,7 +12,7 @@ use Prim.Native.Nat.{_-_}
 use mathlib.Core.Path.{sym, _∙_}
 use Rattle.ground.specs.Verdict.{mostRecords}
 use Rattle.reading.proofs.Laws.{none-full, none-left}
-use Rattle.mend.proofs.Walk.{Gathering, gathering-start, gathering-end, gathering-turn, here-end, decoded-inside, decoded-place}
+use Rattle.mend_kept.proofs.Walk.{Gathering, gathering-start, gathering-end, gathering-turn, here-end, decoded-inside, decoded-place}
 use borrow.Author.Needs.{needs}
 
 abbrev Inv-loop : tie.InvT-loop

@@ -8,7 +8,7 @@ use Rattle.fate.proofs.own_text.Reads as own-text-reads
 use native.Mathlib.Omega.{arith}
 use mathlib.Core.Path.{sym, _∙_}
 use Rattle.fate.proofs.Laws.{own-fits, own-length}
-use Rattle.mend.proofs.Walk.{size-kept-is, size-none-is}
+use Rattle.mend_kept.proofs.Walk.{size-kept-is, size-none-is}
 
 own-text-requires : tie.Need-own-text-requires
 own-text-requires c κs = search needs

@@ -3,7 +3,7 @@ use borrow.Author.Needs.{needs}
 use Rattle.mend.proofs.push.Statement.{statement}
 use Rattle.mend.proofs.push.Tie as tie
 use mathlib.Core.Path.{refl, sym, _∙_}
-use Rattle.mend.proofs.Walk.{push-stored, push-over, push-none}
+use Rattle.mend_kept.proofs.Walk.{push-stored, push-over, push-none}
 
 mul-list : tie.Need-mul-list
 mul-list c = search needs

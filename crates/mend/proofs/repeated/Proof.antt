@@ -4,7 +4,7 @@ use Rattle.mend.proofs.repeated.Statement.{statement}
 use Rattle.mend.proofs.repeated.Tie as tie
 use native.Mathlib.Omega.{arith}
 use mathlib.Core.Path.{refl, sym, _∙_, subst}
-use Rattle.mend.proofs.Bisect.{repeated-none, repeated-some}
+use Rattle.mend_kept.proofs.Bisect.{repeated-none, repeated-some}
 
 search-requires : tie.Need-search-requires
 search-requires c κs = c .before .before .before .pre .0 .up

@@ -10,7 +10,7 @@ use native.Mathlib.Omega.{arith}
 use mathlib.Core.Path.{refl, sym, _∙_}
 use Rattle.entry.proofs.Laws.{decode-inside}
 use Rattle.strict.proofs.Strictly.{decoded-within}
-use Rattle.mend.proofs.Bisect.{has-broken, has-whole}
+use Rattle.mend_kept.proofs.Bisect.{has-broken, has-whole}
 
 decode-requires : tie.Need-decode-requires
 decode-requires c κs = search needs

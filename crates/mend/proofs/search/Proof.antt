@@ -9,7 +9,7 @@ use Prim.Native.Nat.{_-_}
 use mathlib.Core.Path.{sym, _∙_}
 use Rattle.keys.specs.Key.{keyAt, belowBy}
 use Rattle.keys.proofs.Keys.{key-strict}
-use Rattle.mend.proofs.Bisect.{Searching, search-start, search-end, search-up, search-down}
+use Rattle.mend_kept.proofs.Bisect.{Searching, search-start, search-end, search-up, search-down}
 use borrow.Author.Needs.{needs}
 
 abbrev Inv-loop : tie.InvT-loop

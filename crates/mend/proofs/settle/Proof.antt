@@ -7,9 +7,9 @@ use Prim.Native.Nat.{_-_}
 use mathlib.Core.Path.{sym, _∙_}
 use Rattle.ground.specs.Verdict.{mostRecords}
 use Rattle.reading.proofs.Laws.{none-full, none-left}
-use Rattle.mend.proofs.Bytes.{own-most}
-use Rattle.mend.proofs.Fates.{plain-key}
-use Rattle.mend.proofs.Walk.{Settling, settling-start, settling-end, settling-turn, settling-room, sum-is, here-end, decoded-inside, decoded-place, decoded-size}
+use Rattle.mend_kept.proofs.Bytes.{own-most}
+use Rattle.mend_kept.proofs.Fates.{plain-key}
+use Rattle.mend_kept.proofs.Walk.{Settling, settling-start, settling-end, settling-turn, settling-room, sum-is, here-end, decoded-inside, decoded-place, decoded-size}
 
 abbrev Inv-loop : tie.InvT-loop
 Inv-loop s h list fates₀ at₀ n₀ size₀ fates at n size = Settling h s list fates₀ fates at n size

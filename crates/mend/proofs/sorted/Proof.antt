@@ -8,7 +8,7 @@ use Rattle.mend.proofs.Whole.{sorted-front}
 use Rattle.mend.proofs.Whole.{sorted-front, sorted-length}
 use Rattle.keys.specs.Key.{keyAt, belowBy}
 use Rattle.reading.specs.Listing.{listing, recordsIn}
-use Rattle.mend.specs.Code.{elements}
+use Rattle.mend_kept.specs.Code.{elements}
 
 gather-requires : tie.Need-gather-requires
 gather-requires c κs = search needs

@@ -8,7 +8,7 @@ use native.Mathlib.Omega.{arith}
 use Prim.Native.Nat.{_-_}
 use mathlib.Core.Path.{refl, sym, _∙_}
 use lib.ListN.{length}
-use Rattle.mend.proofs.Bytes.{Writing, writing-start, writing-end, writing-turn}
+use Rattle.mend_kept.proofs.Bytes.{Writing, writing-start, writing-end, writing-turn}
 use borrow.Author.Needs.{needs}
 
 abbrev Inv-loop : tie.InvT-loop

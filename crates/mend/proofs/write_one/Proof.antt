@@ -6,7 +6,7 @@ use native.Mathlib.Omega.{arith}
 use mathlib.Core.Path.{refl, sym, _∙_}
 use Rattle.entry.proofs.Laws.{decode-inside}
 use Rattle.strict.proofs.Strictly.{decoded-within}
-use Rattle.mend.proofs.Bytes.{one-broken, one-whole}
+use Rattle.mend_kept.proofs.Bytes.{one-broken, one-whole}
 
 decode-requires : tie.Need-decode-requires
 decode-requires c κs = search needs

@@ -1,10 +1,10 @@
--- `mode_code::quick_code` meets its contract: each way out is one of the table's six answers, or too few bytes. Assumes nothing.
+-- `mode_code::quick_code` meets its contract: a tree's text, what six digits say, or too few bytes. Assumes nothing.
 use borrow.Author.Needs.{needs}
 use Rattle.mode_code.proofs.quick_code.Statement.{statement}
 use Rattle.mode_code.proofs.quick_code.Tie as tie
-use mathlib.Core.Path.{sym}
+use mathlib.Core.Path.{sym, _∙_}
 use native.Mathlib.Omega.{arith}
-use Rattle.mode_code.proofs.Texts.{quick-tree, quick-file, quick-executable, quick-link, quick-commit, quick-none, quick-short}
+use Rattle.mode_code.proofs.Texts.{quick-tree, quick-none, quick-six, quick-short}
 
 returns : tie.Need-returns
 returns c = sym (quick-short _ _ (omega arith))
@@ -24,61 +24,23 @@ add-quad c = search needs
 quad-requires-2 : tie.Need-quad-requires-2
 quad-requires-2 c κs = search needs
 
+returns-3 : tie.Need-returns-3
+returns-3 c = sym (quick-tree _ _ (omega arith) (c .before .before .before .before .before .before .shared-slice-known .given) (omega arith) (omega arith))
+
+returns-4 : tie.Need-returns-4
+returns-4 c = sym (quick-none _ _ (omega arith) (c .before .before .before .before .before .before .shared-slice-known .given) (omega arith) (λ e. omega arith))
+
 add-quad-2 : tie.Need-add-quad-2
 add-quad-2 c = search needs
 
 quad-requires-3 : tie.Need-quad-requires-3
 quad-requires-3 c κs = search needs
 
-returns-3 : tie.Need-returns-3
-returns-3 c =
-    let shared-slice-known = c .before .before .before .before .before .before .before .shared-slice-known in
-    sym (quick-tree _ _ (omega arith) (shared-slice-known .given) (omega arith) (omega arith))
-
-returns-4 : tie.Need-returns-4
-returns-4 c =
-    let shared-slice-known = c .before .before .before .before .before .before .before .shared-slice-known in
-    sym (quick-none _ _ (omega arith) (shared-slice-known .given) (λ e f. omega arith) (λ e f. omega arith) (λ e f. omega arith) (λ e f. omega arith) (λ e f. omega arith))
+six-code-requires : tie.Need-six-code-requires
+six-code-requires c κs = search needs
 
 returns-5 : tie.Need-returns-5
-returns-5 c =
-    let shared-slice-known = c .before .before .before .before .before .before .before .shared-slice-known in
-    sym (quick-file _ _ (omega arith) (shared-slice-known .given) (omega arith) (omega arith))
-
-returns-6 : tie.Need-returns-6
-returns-6 c =
-    let shared-slice-known = c .before .before .before .before .before .before .before .shared-slice-known in
-    sym (quick-none _ _ (omega arith) (shared-slice-known .given) (λ e f. omega arith) (λ e f. omega arith) (λ e f. omega arith) (λ e f. omega arith) (λ e f. omega arith))
-
-returns-7 : tie.Need-returns-7
-returns-7 c =
-    let shared-slice-known = c .before .before .before .before .before .before .before .before .shared-slice-known in
-    sym (quick-executable _ _ (omega arith) (shared-slice-known .given) (omega arith) (omega arith))
-
-returns-8 : tie.Need-returns-8
-returns-8 c =
-    let shared-slice-known = c .before .before .before .before .before .before .before .before .shared-slice-known in
-    sym (quick-none _ _ (omega arith) (shared-slice-known .given) (λ e f. omega arith) (λ e f. omega arith) (λ e f. omega arith) (λ e f. omega arith) (λ e f. omega arith))
-
-returns-9 : tie.Need-returns-9
-returns-9 c =
-    let shared-slice-known = c .before .before .before .before .before .before .before .before .before .shared-slice-known in
-    sym (quick-link _ _ (omega arith) (shared-slice-known .given) (omega arith) (omega arith))
-
-returns-10 : tie.Need-returns-10
-returns-10 c =
-    let shared-slice-known = c .before .before .before .before .before .before .before .before .before .before .shared-slice-known in
-    sym (quick-commit _ _ (omega arith) (shared-slice-known .given) (omega arith) (omega arith))
-
-returns-11 : tie.Need-returns-11
-returns-11 c =
-    let shared-slice-known = c .before .before .before .before .before .before .before .before .before .before .shared-slice-known in
-    sym (quick-none _ _ (omega arith) (shared-slice-known .given) (λ e f. omega arith) (λ e f. omega arith) (λ e f. omega arith) (λ e f. omega arith) (λ e f. omega arith))
-
-returns-12 : tie.Need-returns-12
-returns-12 c =
-    let shared-slice-known = c .before .before .before .before .before .before .before .before .shared-slice-known in
-    sym (quick-none _ _ (omega arith) (shared-slice-known .given) (λ e f. omega arith) (λ e f. omega arith) (λ e f. omega arith) (λ e f. omega arith) (λ e f. omega arith))
+returns-5 c = c .six-code .ensures ∙ quick-six _ _ (omega arith) (c .before .before .before .before .before .before .shared-slice-known .given) _ _ (omega arith) (omega arith) (λ e. omega arith)
 
 pub quick-code-spec : {M : Type 1} → statement M
 quick-code-spec =
@@ -90,15 +52,9 @@ quick-code-spec =
     quad-requires
     add-quad
     quad-requires-2
-    add-quad-2
-    quad-requires-3
     returns-3
     returns-4
-    returns-5
-    returns-6
-    returns-7
-    returns-8
-    returns-9
-    returns-10
-    returns-11
-    returns-12)
+    add-quad-2
+    quad-requires-3
+    six-code-requires
+    returns-5)

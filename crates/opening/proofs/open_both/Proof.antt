@@ -2,13 +2,10 @@
 use borrow.Author.Needs.{needs}
 use Rattle.opening.proofs.open_both.Statement.{statement}
 use Rattle.opening.proofs.open_both.Tie as tie
-use Rattle.opening.proofs.Laws.{both-deep, both-left, both-right, both-open}
+use Rattle.opening.proofs.Laws.{both-left, both-right, both-open}
 
-returns : tie.Need-returns
-returns c = both-deep _ _ _ _ _ _ (c .if1 .taken)
-
-open-tree-requires : tie.Need-open-tree-requires
-open-tree-requires c κs = search needs
+open-level-requires : tie.Need-open-level-requires
+open-level-requires c κs = search needs
 
 enum-known-v : tie.Need-enum-known-v
 enum-known-v c = search needs
@@ -16,8 +13,8 @@ enum-known-v c = search needs
 enum-known-l : tie.Need-enum-known-l
 enum-known-l c = search needs
 
-open-tree-requires-2 : tie.Need-open-tree-requires-2
-open-tree-requires-2 c κs = search needs
+open-level-requires-2 : tie.Need-open-level-requires-2
+open-level-requires-2 c κs = search needs
 
 enum-known-w : tie.Need-enum-known-w
 enum-known-w c = search needs
@@ -25,26 +22,25 @@ enum-known-w c = search needs
 enum-known-r : tie.Need-enum-known-r
 enum-known-r c = search needs
 
+returns : tie.Need-returns
+returns c = both-left _ _ _ _ _ _ _ (c .before .before .before .open-level .ensures) _ (c .before .v .given .1)
+
 returns-2 : tie.Need-returns-2
-returns-2 c = both-left _ _ _ _ _ _ (c .before .before .before .before .if1 .left) _ (c .before .before .before .open-tree .ensures) _ (c .before .v .given .1)
+returns-2 c = both-right _ _ _ _ _ _ _ (c .before .before .before .before .before .before .before .open-level .ensures) _ (c .before .before .before .before .before .l .given .1) _ (c .before .before .before .open-level2 .ensures) _ (c .before .w .given .1)
 
 returns-3 : tie.Need-returns-3
-returns-3 c = both-right _ _ _ _ _ _ (c .before .before .before .before .before .before .before .before .if1 .left) _ (c .before .before .before .before .before .before .before .open-tree .ensures) _ (c .before .before .before .before .before .l .given .1) _ (c .before .before .before .open-tree2 .ensures) _ (c .before .w .given .1)
-
-returns-4 : tie.Need-returns-4
-returns-4 c = both-open _ _ _ _ _ _ (c .before .before .before .before .before .before .before .before .if1 .left) _ (c .before .before .before .before .before .before .before .open-tree .ensures) _ (c .before .before .before .before .before .l .given .1) _ (c .before .before .before .open-tree2 .ensures) _ (c .before .r .given .1)
+returns-3 c = both-open _ _ _ _ _ _ _ (c .before .before .before .before .before .before .before .open-level .ensures) _ (c .before .before .before .before .before .l .given .1) _ (c .before .before .before .open-level2 .ensures) _ (c .before .r .given .1)
 
 pub open-both-spec : {M : Type 1} → statement M
 open-both-spec =
     tie.close
     (tie.spec
-    returns
-    open-tree-requires
+    open-level-requires
     enum-known-v
     enum-known-l
-    open-tree-requires-2
+    open-level-requires-2
     enum-known-w
     enum-known-r
+    returns
     returns-2
-    returns-3
-    returns-4)
+    returns-3)

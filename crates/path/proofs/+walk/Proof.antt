@@ -10,10 +10,10 @@ use borrow.Fn.PlainCycle.{Measures, is, falls, and}
 use Rattle.ground.proofs.Laws.{count-le}
 use Rattle.scan.proofs.count_to.Reads as count-to-reads
 use Rattle.component.specs.Component.{pieces}
-use Rattle.path.proofs.Laws.{walk-ends, walk-none, walk-on, walk-falls, slash-inside, id-inside}
+use Rattle.path.proofs.Laws.{step-says, walk-ends, walk-none, walk-on, walk-falls, slash-inside, id-inside}
 use Rattle.path.proofs.walk.Reads as walk
 use Rattle.path.proofs.walk.Kinds as walk-kinds
-use Rattle.path.proofs.step_to.Reads as step-to-reads
+use Rattle.path_step.proofs.step_to.Reads as step-to-reads
 use Rattle.path.proofs.+walk.Lts-walk as walk-lts
 use Rattle.path.proofs.+walk.{statement}
 use Rattle.path.proofs.+walk.Tie.{close}
@@ -40,15 +40,14 @@ walk-slice-aggregate-step-to t c =
     sym (length-take-le _ _ (omega (arith, count-to .ensures, count-le 47 (args .path .now))))
 
 walk-step-to-requires : (t : ℕ) → walk-lts.Need-step-to-requires (walk-claims t) (walk-at t) walk.Post
-walk-step-to-requires t c κs =
-    let pre = c .before .before .before .before .before .pre in
-    pre .1
+walk-step-to-requires t c κs = search needs
 
 walk-returns : (t : ℕ) → walk-lts.Need-returns (walk-claims t) (walk-at t) walk.Post
 walk-returns t c =
     let count-to = c .before .before .before .count-to in
+    let pre = c .before .before .before .before .before .before .before .pre in
     let step-to = c .before .step-to in
-    walk-ends _ _ _ _ _ _ _ (count-to .ensures) (step-to .ensures) (c .if1 .taken)
+    walk-ends _ _ _ _ _ _ _ (count-to .ensures) (step-says _ _ _ _ (pre .1) _ (step-to .ensures)) (c .if1 .taken)
 
 walk-enum-told : (t : ℕ) → walk-lts.Need-enum-told (walk-claims t) (walk-at t) walk.Post
 walk-enum-told t c = search needs
@@ -59,85 +58,95 @@ walk-enum-known-spot t c = search needs
 walk-add-end : (t : ℕ) → walk-lts.Need-add-end (walk-claims t) (walk-at t) walk.Post
 walk-add-end t c =
     let count-to = c .before .before .before .before .before .before .before .count-to in
+    let pre = c .before .before .before .before .before .before .before .before .before .before .before .pre in
     let step-to = c .before .before .before .before .before .step-to in
     let if1 = c .before .before .before .before .if1 in
     let spot = c .before .before .spot in
-    omega (arith, id-inside _ _ _ _ _ _ _ (count-to .ensures) (step-to .ensures) (if1 .left) _ _ (spot .given .1))
+    omega (arith, id-inside _ _ _ _ _ _ _ (count-to .ensures) (step-says _ _ _ _ (pre .1) _ (step-to .ensures)) (if1 .left) _ _ (spot .given .1))
 
 walk-add-rest : (t : ℕ) → walk-lts.Need-add-rest (walk-claims t) (walk-at t) walk.Post
 walk-add-rest t c =
     let count-to = c .before .before .before .before .before .before .before .count-to in
+    let pre = c .before .before .before .before .before .before .before .before .before .before .before .pre in
     let step-to = c .before .before .before .before .before .step-to in
     let if1 = c .before .before .before .before .if1 in
-    omega (arith, slash-inside _ _ _ _ _ _ _ (count-to .ensures) (step-to .ensures) (if1 .left))
+    omega (arith, slash-inside _ _ _ _ _ _ _ (count-to .ensures) (step-says _ _ _ _ (pre .1) _ (step-to .ensures)) (if1 .left))
 
 walk-sub-walk : (t : ℕ) → walk-lts.Need-sub-walk (walk-claims t) (walk-at t) walk.Post
 walk-sub-walk t c =
     let count-to = c .before .before .before .before .before .before .before .count-to in
+    let pre = c .before .before .before .before .before .before .before .before .before .before .before .pre in
     let step-to = c .before .before .before .before .before .step-to in
     let if1 = c .before .before .before .before .if1 in
     let spot = c .before .before .spot in
-    omega (arith, id-inside _ _ _ _ _ _ _ (count-to .ensures) (step-to .ensures) (if1 .left) _ _ (spot .given .1))
+    omega (arith, id-inside _ _ _ _ _ _ _ (count-to .ensures) (step-says _ _ _ _ (pre .1) _ (step-to .ensures)) (if1 .left) _ _ (spot .given .1))
 
 walk-part-walk-start : (t : ℕ) → walk-lts.Need-part-walk-start (walk-claims t) (walk-at t) walk.Post
 walk-part-walk-start t c =
     let count-to = c .before .before .before .before .before .before .before .count-to in
+    let pre = c .before .before .before .before .before .before .before .before .before .before .before .pre in
     let step-to = c .before .before .before .before .before .step-to in
     let if1 = c .before .before .before .before .if1 in
     let spot = c .before .before .spot in
-    omega (arith, id-inside _ _ _ _ _ _ _ (count-to .ensures) (step-to .ensures) (if1 .left) _ _ (spot .given .1))
+    omega (arith, id-inside _ _ _ _ _ _ _ (count-to .ensures) (step-says _ _ _ _ (pre .1) _ (step-to .ensures)) (if1 .left) _ _ (spot .given .1))
 
 walk-part-walk-end : (t : ℕ) → walk-lts.Need-part-walk-end (walk-claims t) (walk-at t) walk.Post
 walk-part-walk-end t c =
     let count-to = c .before .before .before .before .before .before .before .count-to in
+    let pre = c .before .before .before .before .before .before .before .before .before .before .before .pre in
     let step-to = c .before .before .before .before .before .step-to in
     let if1 = c .before .before .before .before .if1 in
     let spot = c .before .before .spot in
-    omega (arith, id-inside _ _ _ _ _ _ _ (count-to .ensures) (step-to .ensures) (if1 .left) _ _ (spot .given .1))
+    omega (arith, id-inside _ _ _ _ _ _ _ (count-to .ensures) (step-says _ _ _ _ (pre .1) _ (step-to .ensures)) (if1 .left) _ _ (spot .given .1))
 
 walk-sub-walk-2 : (t : ℕ) → walk-lts.Need-sub-walk-2 (walk-claims t) (walk-at t) walk.Post
 walk-sub-walk-2 t c =
     let count-to = c .before .before .before .before .before .before .before .before .count-to in
+    let pre = c .before .before .before .before .before .before .before .before .before .before .before .before .pre in
     let step-to = c .before .before .before .before .before .before .step-to in
     let if1 = c .before .before .before .before .before .if1 in
-    omega (arith, slash-inside _ _ _ _ _ _ _ (count-to .ensures) (step-to .ensures) (if1 .left))
+    omega (arith, slash-inside _ _ _ _ _ _ _ (count-to .ensures) (step-says _ _ _ _ (pre .1) _ (step-to .ensures)) (if1 .left))
 
 walk-part-walk-start-2 : (t : ℕ) → walk-lts.Need-part-walk-start-2 (walk-claims t) (walk-at t) walk.Post
 walk-part-walk-start-2 t c =
     let count-to = c .before .before .before .before .before .before .before .before .count-to in
+    let pre = c .before .before .before .before .before .before .before .before .before .before .before .before .pre in
     let step-to = c .before .before .before .before .before .before .step-to in
     let if1 = c .before .before .before .before .before .if1 in
-    omega (arith, slash-inside _ _ _ _ _ _ _ (count-to .ensures) (step-to .ensures) (if1 .left))
+    omega (arith, slash-inside _ _ _ _ _ _ _ (count-to .ensures) (step-says _ _ _ _ (pre .1) _ (step-to .ensures)) (if1 .left))
 
 walk-part-walk-end-2 : (t : ℕ) → walk-lts.Need-part-walk-end-2 (walk-claims t) (walk-at t) walk.Post
 walk-part-walk-end-2 t c =
     let count-to = c .before .before .before .before .before .before .before .before .count-to in
+    let pre = c .before .before .before .before .before .before .before .before .before .before .before .before .pre in
     let step-to = c .before .before .before .before .before .before .step-to in
     let if1 = c .before .before .before .before .before .if1 in
-    omega (arith, slash-inside _ _ _ _ _ _ _ (count-to .ensures) (step-to .ensures) (if1 .left))
+    omega (arith, slash-inside _ _ _ _ _ _ _ (count-to .ensures) (step-says _ _ _ _ (pre .1) _ (step-to .ensures)) (if1 .left))
 
 walk-walk-requires : (t : ℕ) → walk-lts.Need-walk-requires (walk-claims t) (walk-at t) walk.Post
 walk-walk-requires t c κs =
     let count-to = c .before .before .before .before .before .before .before .before .before .count-to in
+    let pre = c .before .before .before .before .before .before .before .before .before .before .before .before .before .pre in
     let step-to = c .before .before .before .before .before .before .before .step-to in
     let if1 = c .before .before .before .before .before .before .if1 in
-    let pre = c .before .before .before .before .before .before .before .before .before .before .before .before .before .pre in
-    (walk-falls _ _ _ _ _ _ _ (count-to .ensures) (step-to .ensures) (if1 .left) (pre .0), pre .1)
+    (walk-falls _ _ _ _ _ _ _ (count-to .ensures) (step-says _ _ _ _ (pre .1) _ (step-to .ensures)) (if1 .left) (pre .0), pre .1)
 
 walk-returns-2 : (t : ℕ) → walk-lts.Need-returns-2 (walk-claims t) (walk-at t) walk.Post
 walk-returns-2 t c =
     let count-to = c .before .before .before .before .before .count-to in
+    let pre = c .before .before .before .before .before .before .before .before .before .pre in
     let step-to = c .before .before .before .step-to in
     let if1 = c .before .before .if1 in
-    walk-none _ _ _ _ _ _ _ (count-to .ensures) (step-to .ensures) (if1 .left) (c .enum-told .given .1)
+    walk-none _ _ _ _ _ _ _ (count-to .ensures) (step-says _ _ _ _ (pre .1) _ (step-to .ensures)) (if1 .left) (c .enum-told .given .1)
 
 walk-returns-3 : (t : ℕ) → walk-lts.Need-returns-3 (walk-claims t) (walk-at t) walk.Post
 walk-returns-3 t c =
     let count-to = c .before .before .before .before .before .before .before .before .before .before .count-to in
+    let pre = c .before .before .before .before .before .before .before .before .before .before .before .before .before .before .pre in
     let step-to = c .before .before .before .before .before .before .before .before .step-to in
     let if1 = c .before .before .before .before .before .before .before .if1 in
     let spot = c .before .before .before .before .before .spot in
-    walk-on _ _ _ _ _ _ _ (count-to .ensures) (step-to .ensures) (if1 .left) _ _ (spot .given .1) _ (c .walk .ensures)
+    walk-on _ _ _ _ _ _ _ (count-to .ensures) (step-says _ _ _ _ (pre .1) _ (step-to .ensures)) (if1 .left) _ _ (spot .given .1) _ (c .walk .ensures)
 
 pub +walk-spec : {M : Type 1} → statement M
 +walk-spec = close μ-walk λ t. walk-lts.spec (walk-claims t) (walk-at t)

@@ -4,6 +4,8 @@ use Rattle.pieces.proofs.whole.Statement.{statement}
 use Rattle.pieces.proofs.whole.Tie as tie
 use Rattle.pieces.proofs.whole.Reads as reads
 use Rattle.pieces.proofs.whole.Lts as lts
+use mathlib.Core.Path.{sym, _∙_}
+use Rattle.arriving.proofs.Bulk.{took-none}
 
 sub-is-between : tie.Need-sub-is-between
 sub-is-between c = search needs
@@ -12,7 +14,7 @@ is-between-requires : tie.Need-is-between-requires
 is-between-requires c κs = search needs
 
 entries-requires : tie.Need-entries-requires
-entries-requires c κs = (c .before .before .before .before .before .pre, c .before .before .before .is-between .ensures (c .before .before .if1 .taken))
+entries-requires c κs = (c .before .before .before .before .before .pre, sym (c .before .before .before .is-between .ensures) ∙ c .before .before .if1 .taken)
 
 returns : tie.Need-returns
 returns c = search needs

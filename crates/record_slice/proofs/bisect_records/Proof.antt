@@ -49,29 +49,29 @@ use Rattle.entry.specs.declared.EntryRecord.{EntryRecord}
 use Rattle.entry.proofs.EntryRecord as T
 use Rattle.entry.proofs.EntryRecord.Laws as T-laws
 use Rattle.lookup.specs.Lookup.{lookupIn}
-use Rattle.record_slice.specs.Probe.{startOf, stepOf, answerOf}
-use Rattle.record_slice.specs.declared.Query.{Query}
-use Rattle.record_slice.specs.declared.Probe.{Probe}
+use Rattle.probe.specs.Probe.{startOf, stepOf, answerOf}
+use Rattle.probe.specs.declared.Query.{Query}
+use Rattle.probe.specs.declared.Probe.{Probe}
 use Rattle.lookup.specs.declared.Looked.{Looked}
-use Rattle.record_slice.proofs.Going.{Going, going-start, going-inside, going-on, going-less, going-ends}
-use Rattle.record_slice.proofs.Query as Q
-use Rattle.record_slice.proofs.Query.Laws as Q-laws
-use Rattle.record_slice.proofs.Probe as P
-use Rattle.record_slice.proofs.Probe.Laws as P-laws
+use Rattle.probe.proofs.Going.{Going, going-start, going-inside, going-on, going-less, going-ends}
+use Rattle.probe.proofs.Query as Q
+use Rattle.probe.proofs.Query.Laws as Q-laws
+use Rattle.probe.proofs.Probe as P
+use Rattle.probe.proofs.Probe.Laws as P-laws
 use Rattle.lookup.proofs.Looked as L
 use Rattle.lookup.proofs.Looked.Laws as L-laws
-use Rattle.record_slice.proofs.start as start
-use Rattle.record_slice.proofs.start.Symbol as start-def
-use Rattle.record_slice.proofs.start.Symbol.{name as #record-slice·start}
-use Rattle.record_slice.proofs.start.Met as start-thm
-use Rattle.record_slice.proofs.step as step
-use Rattle.record_slice.proofs.step.Symbol as step-def
-use Rattle.record_slice.proofs.step.Symbol.{name as #record-slice·step}
-use Rattle.record_slice.proofs.step.Met as step-thm
-use Rattle.record_slice.proofs.answer as answer
-use Rattle.record_slice.proofs.answer.Symbol as answer-def
-use Rattle.record_slice.proofs.answer.Symbol.{name as #record-slice·answer}
-use Rattle.record_slice.proofs.answer.Met as answer-thm
+use Rattle.probe.proofs.start as start
+use Rattle.probe.proofs.start.Symbol as start-def
+use Rattle.probe.proofs.start.Symbol.{name as #probe·start}
+use Rattle.probe.proofs.start.Met as start-thm
+use Rattle.probe.proofs.step as step
+use Rattle.probe.proofs.step.Symbol as step-def
+use Rattle.probe.proofs.step.Symbol.{name as #probe·step}
+use Rattle.probe.proofs.step.Met as step-thm
+use Rattle.probe.proofs.answer as answer
+use Rattle.probe.proofs.answer.Symbol as answer-def
+use Rattle.probe.proofs.answer.Symbol.{name as #probe·answer}
+use Rattle.probe.proofs.answer.Met as answer-thm
 use Rattle.record_slice.proofs.Steps.{R, vals, slice, Own, empty, full, local, field-of, fills, number, truth, plain-struct, twice, returned, value-stays, lent-stays, item, takes-out, puts-back}
 use Rattle.record_slice.proofs.bisect_records.Key.{name as #record-slice·bisect-records}
 use Rattle.record_slice.proofs.bisect_records as f
@@ -285,8 +285,8 @@ module _ {M : Type 1} (𝓤 : URA M) (H : Heap 𝓤) (A : Atoms 𝓤) (W : Given
   typedL : (a : Looked) (u : Val) → Is L.the-row a (u ∷ []) → lib.Dec.T (hasTy L-laws.mir u) × WT u
   typedL a u is = LL.lawful L.the-type L-laws.the-laws 𝓤 H A W .typed a (u ∷ []) is .0
 
-  module _ (𝓣 : Tables 𝓤 H) (fm : FmC 𝓤 H (W .laws) (𝓣 .C)) (known-start : Triple 𝓤 (𝓣 .C #record-slice·start) (Start 𝓤 H A mem run))
-      (known-step : Triple 𝓤 (𝓣 .C #record-slice·step) (Step 𝓤 H A mem run)) (known-answer : Triple 𝓤 (𝓣 .C #record-slice·answer) (Answer 𝓤 H A mem run)) where
+  module _ (𝓣 : Tables 𝓤 H) (fm : FmC 𝓤 H (W .laws) (𝓣 .C)) (known-start : Triple 𝓤 (𝓣 .C #probe·start) (Start 𝓤 H A mem run))
+      (known-step : Triple 𝓤 (𝓣 .C #probe·step) (Step 𝓤 H A mem run)) (known-answer : Triple 𝓤 (𝓣 .C #probe·answer) (Answer 𝓤 H A mem run)) where
     abbrev C : Calls 𝓤 H
     C = 𝓣 .C
 
@@ -446,8 +446,8 @@ module _ {M : Type 1} (𝓤 : URA M) (H : Heap 𝓤) (A : Atoms 𝓤) (W : Given
 -- ---- the walk is taken to the contract
 
 module _ {M : Type 1} (𝓤 : URA M) (H : Heap 𝓤) (A : Atoms 𝓤) (W : Given 𝓤 H A) (mem : Memory → SProp 𝓤) (run : Routine → Fun 𝓤) (𝓣 : Tables 𝓤 H)
-    (known-start : Triple 𝓤 (𝓣 .C #record-slice·start) (Start 𝓤 H A mem run)) (known-step : Triple 𝓤 (𝓣 .C #record-slice·step) (Step 𝓤 H A mem run))
-    (known-answer : Triple 𝓤 (𝓣 .C #record-slice·answer) (Answer 𝓤 H A mem run)) where
+    (known-start : Triple 𝓤 (𝓣 .C #probe·start) (Start 𝓤 H A mem run)) (known-step : Triple 𝓤 (𝓣 .C #probe·step) (Step 𝓤 H A mem run))
+    (known-answer : Triple 𝓤 (𝓣 .C #probe·answer) (Answer 𝓤 H A mem run)) where
   walks : Walks 𝓤 H A f.ended stayed (WpFn 𝓤 H (𝓣 .C) (𝓣 .Λ) code.function) (f.clauses 𝓤 H A mem run)
   walks =
       walked 𝓤 H A f.ended stayed (f.clauses 𝓤 H A mem run) (WpFn 𝓤 H (𝓣 .C) (𝓣 .Λ) code.function)
@@ -477,6 +477,6 @@ bisect-records-spec 𝓤 H 𝓜 𝓖 𝓡 =
     entered 𝓤 H (tripleOf 𝓤 H (𝓖 .A) f.signature (f.spec 𝓤 H (𝓖 .A) (𝓜 .mem) (𝓡 .run)))
     (tables 𝓤 H 𝓜 𝓡 code.env .C) (tables 𝓤 H 𝓜 𝓡 code.env .Λ) #record-slice·bisect-records code.function (code.unfolded 𝓤 H 𝓜 𝓡)
     (meets 𝓤 H (𝓖 .A) (givenOf 𝓤 H 𝓜 𝓖) (𝓜 .mem) (𝓡 .run) (tablesOf 𝓤 H 𝓜 (tables 𝓤 H 𝓜 𝓡 code.env))
-    (cited 𝓤 H (Start 𝓤 H (𝓖 .A) (𝓜 .mem) (𝓡 .run)) 𝓜 𝓡 code.env #record-slice·start start-def.routine code.calls-record-slice·start (start-thm.met 𝓤 H 𝓜 𝓖 𝓡))
-    (cited 𝓤 H (Step 𝓤 H (𝓖 .A) (𝓜 .mem) (𝓡 .run)) 𝓜 𝓡 code.env #record-slice·step step-def.routine code.calls-record-slice·step (step-thm.met 𝓤 H 𝓜 𝓖 𝓡))
-    (cited 𝓤 H (Answer 𝓤 H (𝓖 .A) (𝓜 .mem) (𝓡 .run)) 𝓜 𝓡 code.env #record-slice·answer answer-def.routine code.calls-record-slice·answer (answer-thm.met 𝓤 H 𝓜 𝓖 𝓡)))
+    (cited 𝓤 H (Start 𝓤 H (𝓖 .A) (𝓜 .mem) (𝓡 .run)) 𝓜 𝓡 code.env #probe·start start-def.routine code.calls-probe·start (start-thm.met 𝓤 H 𝓜 𝓖 𝓡))
+    (cited 𝓤 H (Step 𝓤 H (𝓖 .A) (𝓜 .mem) (𝓡 .run)) 𝓜 𝓡 code.env #probe·step step-def.routine code.calls-probe·step (step-thm.met 𝓤 H 𝓜 𝓖 𝓡))
+    (cited 𝓤 H (Answer 𝓤 H (𝓖 .A) (𝓜 .mem) (𝓡 .run)) 𝓜 𝓡 code.env #probe·answer answer-def.routine code.calls-probe·answer (answer-thm.met 𝓤 H 𝓜 𝓖 𝓡)))

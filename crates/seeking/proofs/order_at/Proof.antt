@@ -3,7 +3,7 @@ use borrow.Author.Needs.{needs}
 use Rattle.seeking.proofs.order_at.Statement.{statement}
 use Rattle.seeking.proofs.order_at.Tie as tie
 use mathlib.Core.Path.{refl}
-use Rattle.twice.proofs.Sorted.{short-part}
+use Rattle.neighbours.proofs.Laws.{short-part}
 use Rattle.seeking.proofs.Laws.{order-part, short-at}
 
 place-of-requires : tie.Need-place-of-requires

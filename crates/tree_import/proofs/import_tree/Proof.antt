@@ -6,7 +6,7 @@ use mathlib.Core.Path.{sym, _∙_}
 use lib.ListN.{length}
 use Rattle.output.proofs.Laws.{refused-both}
 use Rattle.strict.proofs.Laws.{strict-refuses}
-use Rattle.tree_import.proofs.Whole.{import-shut, import-open, import-began, both-whole}
+use Rattle.text_import.proofs.Whole.{import-shut, import-open, import-began, both-whole}
 
 longer-requires : tie.Need-longer-requires
 longer-requires c κs = search needs

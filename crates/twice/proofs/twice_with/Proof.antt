@@ -1,6 +1,5 @@
 -- `twice::twice_with` meets its contract. Assumes nothing.
 use borrow.Author.Needs.{needs}
-use Rattle.indexing.proofs.Laws.{front-fits}
 use Rattle.twice.proofs.twice_with.Statement.{statement}
 use Rattle.twice.proofs.twice_with.Tie as tie
 use Rattle.twice.proofs.Sorted.{twice-is}
@@ -9,7 +8,7 @@ make-index-requires : tie.Need-make-index-requires
 make-index-requires c κs = search needs
 
 neighbours-requires : tie.Need-neighbours-requires
-neighbours-requires c κs = front-fits (c .before .before .before .before .before .before .before .args .s .now) (c .before .before .before .before .before .before .before .args .k) (c .before .before .before .before .before .before .before .args .list .now) _ _ (c .before .before .before .make-index .ensures)
+neighbours-requires c κs = search needs
 
 same-length : tie.Need-same-length
 same-length c = search needs

@@ -1,0 +1,4 @@
+pub mod Call
+pub mod Walked
+pub mod Deeds
+pub mod Places

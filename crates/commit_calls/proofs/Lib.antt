@@ -1,0 +1,3 @@
+pub mod Commits
+pub mod CommitWriting
+pub mod Places

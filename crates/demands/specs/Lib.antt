@@ -1,0 +1,3 @@
+pub mod Sentences
+pub mod Demand2
+pub mod Demand3

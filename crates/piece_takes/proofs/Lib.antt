@@ -1,0 +1,4 @@
+pub mod Entry
+pub mod Wholes
+pub mod Stands
+pub mod Some

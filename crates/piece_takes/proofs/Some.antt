@@ -1,0 +1,106 @@
+-- Bytes of a piece that need no step of their own, taken at once. Assumes nothing.
+use Prim.Native.Nat.{ℕ, zero, suc, _+_, _-_, _≤_, _<_, min}
+use native.Mathlib.Nat.{add-zero}
+use native.Mathlib.Numerals.{add-one}
+use native.Mathlib.Omega.{arith}
+use mathlib.Core.Path.{_≡_, refl, ap, sym, _∙_}
+use mathlib.Core.Bool.{Bool, true, false, _&&_}
+use mathlib.Core.List.{List}
+use lib.Dec.{eqb, leb}
+use lib.ListN.{length, getD, set, take, drop}
+use lib.Seq.{sets, drop-cons}
+use borrow.Author.Tests.{eqb-true, eqb-false, leb-true, leb-false}
+use Rattle.ground.specs.Basics.{pick, part}
+use Rattle.ground.specs.Verdict.{mostBytes, mostRecords}
+use Rattle.arriving.specs.Feed.{mostHeld, together, placedAt, feedOf}
+use Rattle.arriving.specs.Bulk.{Took}
+use Rattle.arriving.specs.declared.Phase.{Phase}
+use Rattle.arriving.specs.declared.Phase.the-variants.{Head, Name, Id}
+use Rattle.arriving.specs.declared.Marks.{Marks}
+use Rattle.arriving.specs.declared.Check.{Check}
+use Rattle.arriving.specs.declared.Taken.{Taken}
+use Rattle.arriving.proofs.Bulk.{took-none, took-rest, took-ids, head-begin, head-turn, later-fine}
+use Rattle.piece_some.specs.Bytes.{upTo, headSome, someIn, heldIn, mostOf, someOf, someHeld}
+use Rattle.piece_takes.proofs.Stands.{names-took}
+
+-- ---- an entry's first bytes
+
+module _ (m : Marks) (z : m .verdict .number ≡ 0) (s : List ℕ) (i end : ℕ) (r : end ≤ length s) (w : m .at + (end - i) ≤ mostBytes) where
+  abbrev fed : List ℕ → List ℕ → List ℕ → ℕ → ℕ → Check
+  fed held ends head j k = feedOf (together held ends (placedAt m (m .at + (j - i)) head (Head k))) (drop j s)
+
+  fed-same : (held ends : List ℕ) {head head' : List ℕ} {j j' k k' : ℕ} → head ≡ head' → j ≡ j' → k ≡ k' → fed held ends head j k ≡ fed held ends head' j' k'
+  fed-same held ends p q f = rw (p, q, f)
+
+  stored : (n j k : ℕ) (head : List ℕ) → j < length s → sets (set head k (getD s j 0)) (k + 1) (take n (drop (j + 1) s)) ≡ sets head k (take (suc n) (drop j s))
+  stored n j k head h = rw (add-one k, add-one j, drop-cons s j 0 h)
+
+  heads-more : (all : List ℕ → List ℕ → Check) (n j k : ℕ) (head : List ℕ) → i ≤ j → j + n ≤ end → k + n ≤ 7
+      → (eqb k 0 && leb mostRecords (m .count)) ≡ false → ((held ends : List ℕ) → all held ends ≡ fed held ends head j k)
+      → (held ends : List ℕ) → all held ends ≡ fed held ends (sets head k (take n (drop j s))) (j + n) (k + n)
+  heads-more all zero j k head p q l f e held ends = rw (add-zero j, add-zero k) (e held ends)
+  heads-more all (suc n) j k head p q l f e held ends =
+      heads-more all n (j + 1) (k + 1) (set head k (getD s j 0)) (omega arith) (omega arith) (omega arith) (later-fine k (m .count) f)
+      (head-turn m z all head s i j end k p (omega arith) r w f (omega arith) e) held ends
+      ∙ fed-same held ends (stored n j k head (omega arith)) (omega arith) (omega arith)
+
+heads-took : (held ends : List ℕ) (m : Marks) (k : ℕ) (s : List ℕ) (i n : ℕ) → m .verdict .number ≡ 0 → m .phase ≡ Head k → i + n ≤ length s
+    → m .at + n ≤ mostBytes → k + n ≤ 7 → (eqb k 0 && leb mostRecords (m .count)) ≡ false → Took held ends m s i held ends (headSome m k s i n)
+heads-took held ends m k s i n z p w a l f =
+    let x : i + n - i ≡ n = omega arith in
+    record {
+      same =
+          heads-more m z s i (i + n) w (omega arith) (λ (held ends : List ℕ). feedOf (together held ends m) (drop i s)) n i k (m .head) (omega arith)
+          (omega arith) l f (λ held ends. head-begin held ends m k s i p) held ends
+          ∙ ap (λ (j : ℕ). feedOf (together held ends (placedAt m (m .at + j) (sets (m .head) k (take n (drop i s))) (Head (k + n)))) (drop (i + n) s)) x
+          ∙ ap (λ (j : ℕ). feedOf (together held ends (placedAt m (m .at + n) (sets (m .head) k (take j (drop i s))) (Head (k + n)))) (drop (i + n) s)) (sym x);
+      from = omega arith;
+      within = w;
+    }
+
+-- ---- in any phase
+
+module _ (held ends : List ℕ) (m : Marks) (s : List ℕ) (i : ℕ) (room : length held ≡ mostHeld) where
+  module _ (z : m .verdict .number ≡ 0) (a : m .at < mostBytes) (w : i < length s) where
+    in-took : (p : Phase) → m .phase ≡ p → Took held ends m s i (heldIn held s i (mostOf m s i) p) ends (someIn held m s i (mostOf m s i) p)
+    in-took (Head k) e = full (eqb k 0 && leb mostRecords (m .count)) refl
+      where
+        late : (eqb k 0 && leb mostRecords (m .count)) ≡ false → (v : Bool) → leb 7 k ≡ v
+            → Took held ends m s i held ends (pick v (upTo m i) (headSome m k s i (min (7 - k) (mostOf m s i))))
+        late f true y = took-none held ends m s i (omega arith)
+        late f false y =
+            heads-took held ends m k s i (min (7 - k) (mostOf m s i)) z e (omega arith) (omega arith) (omega (arith, leb-false 7 k y)) f
+
+        full : (v : Bool) → (eqb k 0 && leb mostRecords (m .count)) ≡ v
+            → Took held ends m s i held ends (pick v (upTo m i) (pick (leb 7 k) (upTo m i) (headSome m k s i (min (7 - k) (mostOf m s i)))))
+        full true y = took-none held ends m s i (omega arith)
+        full false y = late y (leb 7 k) refl
+    in-took (Name l) e = names-took held ends m l s i (mostOf m s i) z e (omega arith) (omega arith) room
+    in-took (Id l left) e =
+        took-ids m z ends held l left s (min (left - 1) (mostOf m s i)) i e (omega arith) (omega arith) (omega arith) (omega arith) _ refl
+
+  abbrev inside· : Taken
+  inside· = pick (leb (length s) i) (upTo m i) (someIn held m s i (mostOf m s i) (m .phase))
+
+  abbrev kept· : List ℕ
+  kept· = pick (leb (length s) i) held (heldIn held s i (mostOf m s i) (m .phase))
+
+  third : i ≤ length s → m .verdict .number ≡ 0 → m .at < mostBytes → (v : Bool) → leb (length s) i ≡ v
+      → Took held ends m s i (pick v held (heldIn held s i (mostOf m s i) (m .phase))) ends (pick v (upTo m i) (someIn held m s i (mostOf m s i) (m .phase)))
+  third w z a true y = took-none held ends m s i w
+  third w z a false y = in-took z a (leb-false (length s) i y) (m .phase) refl
+
+  second : i ≤ length s → m .verdict .number ≡ 0 → (v : Bool) → leb mostBytes (m .at) ≡ v
+      → Took held ends m s i (pick v held kept·) ends (pick v (upTo m i) inside·)
+  second w z true y = took-none held ends m s i w
+  second w z false y = third w z (leb-false mostBytes (m .at) y) (leb (length s) i) refl
+
+  first : i ≤ length s → (v : Bool) → eqb (m .verdict .number) 0 ≡ v
+      → Took held ends m s i (pick v (pick (leb mostBytes (m .at)) held kept·) held) ends
+      (pick v (pick (leb mostBytes (m .at)) (upTo m i) inside·) (upTo m (length s)))
+  first w true y = second w (eqb-true (m .verdict .number) 0 y) (leb mostBytes (m .at)) refl
+  first w false y = took-rest held ends m s i w (eqb-false (m .verdict .number) 0 y)
+
+  pub some-took : i ≤ length s → (after : List ℕ) (t : Taken) → (t ≡ someOf held m s i) × (after ≡ someHeld held m s i) → Took held ends m s i after ends t
+  unfolding someOf someHeld
+  some-took w after t d = rw (d .0, d .1) (first w (eqb (m .verdict .number) 0) refl)

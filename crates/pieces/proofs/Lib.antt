@@ -1,3 +1,0 @@
-pub mod Entry
-pub mod Wholes
-pub mod Stands

@@ -1,0 +1,24 @@
+-- `text_import::put_element` meets its contract. Assumes nothing.
+use borrow.Author.Needs.{needs}
+use Rattle.text_import.proofs.put_element.Statement.{statement}
+use Rattle.text_import.proofs.put_element.Tie as tie
+use mathlib.Core.Path.{sym}
+use lib.Seq.{set-out}
+
+mul-list : tie.Need-mul-list
+mul-list c = search needs
+
+slice-write-list : tie.Need-slice-write-list
+slice-write-list c = search needs
+
+same-length : tie.Need-same-length
+same-length c = search needs
+
+returns : tie.Need-returns
+returns c = search needs
+
+returns-2 : tie.Need-returns-2
+returns-2 c = sym (set-out _ _ _ (c .if1 .left))
+
+pub put-element-spec : {M : Type 1} → statement M
+put-element-spec = tie.close (tie.spec mul-list slice-write-list same-length returns returns-2)

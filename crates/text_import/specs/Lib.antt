@@ -1,0 +1,4 @@
+pub mod Import
+pub mod Code
+pub mod Examples
+pub mod Lent

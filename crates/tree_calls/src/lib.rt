@@ -1,0 +1,1 @@
+// The first demand of the calls on trees: theorems over the layers below, and no code.
