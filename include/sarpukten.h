@@ -610,13 +610,14 @@ typedef char sarpukten_found_is_three_numbers[sizeof(struct sarpukten_found) == 
 /* The entry of a step's answer. */
 SARPUKTEN_CHECKED static inline struct sarpukten_entry sarpukten_entry_of_step(const size_t answer[SARPUKTEN_LENT(SARPUKTEN_LENGTH_STEP)])
 {
+    const size_t *entry = answer + SARPUKTEN_ANSWER_ENTRY;
     struct sarpukten_entry e;
 
-    e.mode = answer[SARPUKTEN_ANSWER_ENTRY + SARPUKTEN_ENTRY_MODE];
-    e.name_start = answer[SARPUKTEN_ANSWER_ENTRY + SARPUKTEN_ENTRY_NAME_START];
-    e.name_end = answer[SARPUKTEN_ANSWER_ENTRY + SARPUKTEN_ENTRY_NAME_END];
-    e.id_start = answer[SARPUKTEN_ANSWER_ENTRY + SARPUKTEN_ENTRY_ID_START];
-    e.text_start = answer[SARPUKTEN_ANSWER_ENTRY + SARPUKTEN_ENTRY_TEXT_START];
+    e.mode = entry[SARPUKTEN_ENTRY_MODE];
+    e.name_start = entry[SARPUKTEN_ENTRY_NAME_START];
+    e.name_end = entry[SARPUKTEN_ENTRY_NAME_END];
+    e.id_start = entry[SARPUKTEN_ENTRY_ID_START];
+    e.text_start = entry[SARPUKTEN_ENTRY_TEXT_START];
     return e;
 }
 
@@ -701,18 +702,19 @@ typedef char sarpukten_parts_is_ten_numbers[sizeof(struct sarpukten_parts) == SA
 /* The parts of a commit's answer. */
 SARPUKTEN_CHECKED static inline struct sarpukten_parts sarpukten_parts_of_commit(const size_t answer[SARPUKTEN_LENT(SARPUKTEN_LENGTH_COMMIT)])
 {
+    const size_t *parts = answer + SARPUKTEN_ANSWER_PARTS;
     struct sarpukten_parts p;
 
-    p.tree = answer[SARPUKTEN_ANSWER_PARTS + SARPUKTEN_PART_TREE];
-    p.author = answer[SARPUKTEN_ANSWER_PARTS + SARPUKTEN_PART_AUTHOR];
-    p.author_end = answer[SARPUKTEN_ANSWER_PARTS + SARPUKTEN_PART_AUTHOR_END];
-    p.committer = answer[SARPUKTEN_ANSWER_PARTS + SARPUKTEN_PART_COMMITTER];
-    p.committer_end = answer[SARPUKTEN_ANSWER_PARTS + SARPUKTEN_PART_COMMITTER_END];
-    p.has_encoding = answer[SARPUKTEN_ANSWER_PARTS + SARPUKTEN_PART_HAS_ENCODING];
-    p.encoding = answer[SARPUKTEN_ANSWER_PARTS + SARPUKTEN_PART_ENCODING];
-    p.encoding_end = answer[SARPUKTEN_ANSWER_PARTS + SARPUKTEN_PART_ENCODING_END];
-    p.message = answer[SARPUKTEN_ANSWER_PARTS + SARPUKTEN_PART_MESSAGE];
-    p.message_end = answer[SARPUKTEN_ANSWER_PARTS + SARPUKTEN_PART_MESSAGE_END];
+    p.tree = parts[SARPUKTEN_PART_TREE];
+    p.author = parts[SARPUKTEN_PART_AUTHOR];
+    p.author_end = parts[SARPUKTEN_PART_AUTHOR_END];
+    p.committer = parts[SARPUKTEN_PART_COMMITTER];
+    p.committer_end = parts[SARPUKTEN_PART_COMMITTER_END];
+    p.has_encoding = parts[SARPUKTEN_PART_HAS_ENCODING];
+    p.encoding = parts[SARPUKTEN_PART_ENCODING];
+    p.encoding_end = parts[SARPUKTEN_PART_ENCODING_END];
+    p.message = parts[SARPUKTEN_PART_MESSAGE];
+    p.message_end = parts[SARPUKTEN_PART_MESSAGE_END];
     return p;
 }
 

@@ -297,6 +297,23 @@ def export(h, object, rules, room):
     return made("export", [h, rules], Left(answer, written), (room, 0, 0), a=object)
 
 
+def import_tree(h, text, rules, room):
+    """The paper speaks alone; tests/text_agrees has Git beside it."""
+    answer, written = paper.import_tree(h, text, rules, room)
+    return made("import", [h, rules], Left(answer, written), (room, 0, 0), a=text)
+
+
+def differences(bundle, left, right, list_room, room):
+    """The paper speaks alone; tests/differ has Git beside it."""
+    answer, items, paths = paper.compare_trees(bundle, left, right, list_room, room)
+    return made("differences", [], Left(answer, paths, items), (room, list_room, 0), a=bundle, b=left, c=right)
+
+
+def check(h, object, rules, size):
+    """An object in pieces of so many bytes, 0 for one piece; the paper says what it says of the whole. tests/pieces has strict reading beside it."""
+    return made("check in pieces", [h, rules, size], Left(paper.checked(h, object, rules)), a=object)
+
+
 # The case that a call is given: g its fields, n its numbers with zeros behind them, o, p, q its rooms.
 AGAIN = {
     "mode text": lambda g, n, o, p, q: mode_text(g.a),
@@ -327,6 +344,9 @@ AGAIN = {
     "remove": lambda g, n, o, p, q: tree_remove(n[0], g.a, n[1], g.b, o),
     "mend": lambda g, n, o, p, q: mend(n[0], g.a, p, o),
     "export": lambda g, n, o, p, q: export(n[0], g.a, n[1], o),
+    "import": lambda g, n, o, p, q: import_tree(n[0], g.a, n[1], o),
+    "differences": lambda g, n, o, p, q: differences(g.a, g.b, g.c, p, o),
+    "check in pieces": lambda g, n, o, p, q: check(n[0], g.a, n[1], n[2]),
 }
 
 

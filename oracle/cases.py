@@ -19,9 +19,9 @@ if sys.argv[1:2] in (["-h"], ["--help"]):
 
 import git_objects
 import paper
-from calls import (again, bundle_check, bundle_object, commit_reading, commit_rewritten, commit_writing, compare, export, follow, hex_of_id, id_of_hex, lookup,
-                   lookup_any, lookup_structs, lookups, loose_header, mend, mode_asked, mode_from_number, mode_text, name_order, steps, strict_reading,
-                   plain_reading, tree_put, tree_reading, tree_remove, tree_writing, unfold)
+from calls import (again, bundle_check, bundle_object, check, commit_reading, commit_rewritten, commit_writing, compare, differences, export, follow,
+                   hex_of_id, id_of_hex, import_tree, lookup, lookup_any, lookup_structs, lookups, loose_header, mend, mode_asked, mode_from_number,
+                   mode_text, name_order, plain_reading, steps, strict_reading, tree_put, tree_reading, tree_remove, tree_writing, unfold)
 from lists import CALLS, LIST, MOST_BYTES, REPORT, State, read_list, wrong_on_purpose
 
 HUGE = [2**64 - 1, 2**64 - 20, 2**63, 2**32, 65536]
@@ -797,6 +797,12 @@ def small_bundle(version=b"\1\0", h=20):
     return b"GOB" + version + bytes([h]) + len(objects).to_bytes(4, "little") + body, one
 
 
+def with_an_id_twice(bundle, h):
+    """A small bundle whose blob has the id of the inner tree."""
+    before, _id, behind = bundle.rpartition(b"\3" * h + b"\3\4")
+    return before + b"\2" * h + b"\3\4" + behind
+
+
 def bundles(long):
     """A bundle of each version and id length, cut at every length and with every byte of its first objects' framing changed; every path in it, and others."""
     for version, h in itertools.product((b"\1\0", b"\2\0\1\0", b"\2\0\2\0"), (20, 32)):
@@ -815,7 +821,7 @@ def bundles(long):
                 other = bundle[:at] + bytes([byte]) + bundle[at + 1:]
                 yield [bundle_check(other), follow(other, root, b"d/f")]
         yield [bundle_check(bundle + b"\0"), follow(bundle + b"\0", root, b"d")]
-        twice = bundle.replace(b"\3" * h + b"\3", b"\2" * h + b"\3")       # an id twice
+        twice = with_an_id_twice(bundle, h)
         yield [bundle_check(twice), follow(twice, root, b"d"), follow(twice, root[1:], b"d"), bundle_object(twice, b"\2" * h)]
 
 
@@ -878,6 +884,105 @@ def random_export():
     return export(h, object, rules, around(paper.export(h, object, rules, MOST_BYTES)[0][3]))
 
 
+def random_import():
+    h = some_h()
+    width = h if h in (20, 32) else 20
+    object = strict_tree(width)[0]
+    records = [r + b"\0" for r in paper.export(width, object, 1, MOST_BYTES)[1].split(b"\0")[:-1]]
+    if records and chance(15):
+        records.append(rnd.choice(records))                                 # compares 0 with an earlier one
+    if records and chance(15):
+        name = rnd.choice(records).split(b"\t")[1]
+        records.append(rnd.choice([b"040000 tree ", b"100755 blob ", b"160000 commit "]) + b"ab" * width + b"\t" + name)
+    rnd.shuffle(records)
+    text = b"".join(records)
+    if chance(25):
+        text = damaged(text)
+    if records and chance(10):
+        text = text.replace(*rnd.choice([(b"100644", b"300644"), (b"100644", b"100664"), (b"blob", b"tree"), (b"1", b"A"), (b"\t", b"\t.git\0"), (b"\t", b"\t.GIT\0"),
+                                         (b"\t", b"\t/"), (b"040000", b"240000"), (b" ", b"  ")]))
+    rules = rnd.choice([2] * 12 + [1] * 8 + RULE_SETS)
+    return import_tree(h, text, rules, around(paper.import_tree(h, text, rules, MOST_BYTES)[0][3]))
+
+
+def random_differences():
+    """Two trees of a bundle whose trees strict reading mostly accepts: folders lead to trees with higher ids, so that most walks end; some are damaged."""
+    h = rnd.choice([20, 32])
+    names = [bytes([i]) * h for i in range(1, rnd.randrange(3, 9))]
+
+    def entry(i, name):
+        mode = rnd.choice([b"40000", b"40000", b"100644", b"100755", b"120000", b"160000"])
+        if mode != b"40000":
+            return mode, name, bytes([rnd.randrange(1, 4)]) * h
+        return mode, name, rnd.choice(names[i + 1:] * 4 + names + [b"\x09" * h] if chance(15) else names[i + 1:] or names[-1:])
+    objects = []
+    for i, id in enumerate(names):
+        object = paper.in_order([entry(i, name) for name in rnd.sample([b"a", b"a.b", b"a0", b"b", b"c"], rnd.randrange(4))])
+        objects.append(id + bytes([2 if chance(95) else 3]) + len(object).to_bytes(4, "little") + object)
+    if chance(40):
+        rnd.shuffle(objects)
+    version = rnd.choice([b"\1\0", b"\2\0\1\0", b"\2\0\2\0"])
+    bundle = b"GOB" + version + bytes([h]) + len(objects).to_bytes(4, "little") + b"".join(objects)
+    if chance(15):
+        bundle = damaged(bundle)
+    left, right = (rnd.choice(names[:3] if chance(80) else [*names, b"\x09" * h, b"\1" * (52 - h)]) for _ in range(2))
+    answer, items, paths = paper.compare_trees(bundle, left, right, 6 * 170, 4096)
+    return differences(bundle, left, right, min(around(len(items)), 1024), around(len(paths)))
+
+
+def random_check():
+    h = some_h()
+    object = strict_tree(h if h in (20, 32) else 20, 9)[0]
+    if chance(5):
+        object += rnd.choice([b"100644 ", b"100600 ", b"40000 ", b"x "]) + rnd.choice([b"z", b"/"]) * rnd.choice([4094, 4095, 4096, 4097]) + rnd.choice([b"\0" + b"\1" * h, b"\0", b""])
+    if chance(40):
+        object = damaged(object)
+    rules = rnd.choice([2] * 12 + [1] * 8 + RULE_SETS)
+    return check(h, object, rules, rnd.choice([0, 1, 2, 7, 16, 512]))
+
+
+def texts_and_pieces(long):
+    """O as text in both orders with every room; every mode and word; Git's own trees as text, compared with one another, and in pieces cut at every length."""
+    text = paper.export(20, O, 2, 200)[1]
+    first = text.index(b"\0") + 1
+    for room in range(0, 60):
+        yield [import_tree(20, text, 2, room), import_tree(20, text[first:] + text[:first], 2, room)]
+    for n in range(len(text)):
+        yield [import_tree(20, text[:n], 2, 60), import_tree(20, text[:n] + text[n + 1:], 2, 60), import_tree(20, text[:n] + b"A" + text[n + 1:], 2, 60)]
+    for mode, word, rules in itertools.product((b"040000", b"100644", b"100664", b"100755", b"120000", b"160000", b"300644", b"240000", b"000000", b"0100644", b"40000"),
+                                               (b"blob", b"tree", b"commit", b"exe"), (1, 2)):
+        yield import_tree(20, mode + b" " + word + b" " + b"1a" * 20 + b"\ta\0", rules, 60)
+    for h, rules in itertools.product(BAD_H + [20, 32], (1, 2, 3)):
+        yield [import_tree(h, text, rules, 120), check(h, O, rules, 7)]
+    for size in range(0, 59):
+        yield [check(20, O, 2, size), check(20, O[:-1], 2, size), check(32, O, 2, size)]
+    for n in range(len(O)):
+        yield [check(20, O[:n], 2, 3), check(20, O[:n] + b"/" + O[n + 1:], 2, 5)]
+    for version, h in itertools.product((b"\1\0", b"\2\0\1\0", b"\2\0\2\0"), (20, 32)):
+        bundle, _root = small_bundle(version, h)
+        for left, right in itertools.product((b"\1", b"\2", b"\3", b"\4"), repeat=2):
+            for list_room, room in ((0, 0), (6, 0), (12, 1), (17, 4), (18, 4), (18, 5), (24, 9), (60, 60)):
+                yield differences(bundle, left * h, right * h, list_room, room)
+        twice = with_an_id_twice(bundle, h)
+        yield [differences(x, b"\1" * n, b"\2" * h, 60, 60) for x, n in ((bundle, 21), (bundle[:-1], h), (twice, h), (twice, 21))]
+    for tree in ((b"100644 b", b"100644 a"), (b"100644 a", b"100644 a.b", b"40000 a"), (b"100644 .GIT",), (b"100644 .git",), (b"100664 a",), (b"100600 a",), (b"40000 ",)):
+        object = b"".join(e + b"\0" + b"\2" * 20 for e in tree)
+        for rules, cut in itertools.product((1, 2), (0, 1)):
+            trees = b"\1" * 20 + b"\2" + (len(object) - cut).to_bytes(4, "little") + object[:len(object) - cut] + b"\2" * 20 + b"\2" + bytes(4)
+            bundle = b"GOB\2\0" + bytes([rules]) + b"\0\x14\2\0\0\0" + trees
+            yield [differences(bundle, b"\1" * 20, b"\2" * 20, 60, 60), differences(bundle, b"\2" * 20, b"\1" * 20, 60, 60)]
+            yield [check(20, object[:len(object) - cut], rules, size) for size in (0, 1, 9)]
+    for depth in (31, 32, 33):                                              # a chain of folders, the last of which is opened at that depth
+        trees = [b"40000 d\0" + bytes([i + 1]) * 20 for i in range(1, depth + 1)] + [b"100644 f\0" + b"\x7f" * 20, b""]
+        body = b"".join(bytes([i + 1]) * 20 + b"\2" + len(t).to_bytes(4, "little") + t for i, t in enumerate(trees))
+        bundle = b"GOB\1\0\x14" + len(trees).to_bytes(4, "little") + body
+        yield differences(bundle, b"\1" * 20, bytes([len(trees)]) * 20, 6 * 40, 4000)
+    for _name, h, object in git_objects.trees():
+        if len(object) < 4000:
+            text = paper.export(h, object, 1, MOST_BYTES)[1]
+            yield [import_tree(h, text, 1, len(object)), *(check(h, object, 2, size) for size in (0, 1, 7, 512))]
+
+
 def edited_and_mended(long):
     """O edited, mended and as text, with every room; every mode text that mending judges; the edits of one name as a file and as a folder."""
     for room in range(0, 120):
@@ -916,7 +1021,8 @@ RANDOM = [(random_mode_text, 2200), (random_mode_asked, 1400), (random_mode_from
           (random_tree_reading, 3000), (random_lookup, 2400), (random_tree_writing, 2600), (random_loose_header, 700),
           (random_commit_reading, 2700), (random_unfold, 2200), (random_commit_writing, 2200),
           (random_lookup_any, 700), (random_lookups, 600), (random_id_of_hex, 500), (random_hex_of_id, 400),
-          (random_bundle, 700), (random_put, 900), (random_remove, 500), (random_mend, 700), (random_export, 500)]
+          (random_bundle, 700), (random_put, 900), (random_remove, 500), (random_mend, 700), (random_export, 500),
+          (random_import, 700), (random_differences, 600), (random_check, 500)]
 
 
 def flat(cases):
@@ -927,7 +1033,7 @@ def flat(cases):
 
 def ordered(long):
     """All cases but the random ones."""
-    return flat(itertools.chain(exhaustive(long), from_git(), git_trees(), git_commits(), bundles(long), edited_and_mended(long)))
+    return flat(itertools.chain(exhaustive(long), from_git(), git_trees(), git_commits(), bundles(long), edited_and_mended(long), texts_and_pieces(long)))
 
 
 class Tally:

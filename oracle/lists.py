@@ -21,6 +21,7 @@ CALLS = dict(enumerate([
     Call("commit rewritten", "a", 4, "o"),
     Call("bundle checked", "a", 6, ""), Call("bundle's object", "ab", 6, ""), Call("path", "abc", 5, "o"),
     Call("put", "abc", 4, "o"), Call("remove", "ab", 4, "o"), Call("mend", "a", 5, "op"), Call("export", "a", 4, "o"),
+    Call("import", "a", 4, "o"), Call("differences", "abc", 4, "op"), Call("check in pieces", "a", 4, ""),
 ], 1))
 
 # A case. In: the call, its numbers, the rooms (bytes, first list, second list), bytes a, b, c, lists x, y. Out: the answer, the bytes and the two

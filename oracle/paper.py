@@ -4,6 +4,7 @@ Written from the document's text and not from the Rust, so that the two can be h
 Every public call gives a tuple of numbers, with lists or bytes where the call fills something.
 All memory lent is given by its size alone: what is filled on success is returned, and a refusal fills nothing.
 """
+import re
 
 MAX_BYTES = 1_073_741_824      # bytes of one buffer
 MAX_RECORDS = 1_048_576        # records of one list
@@ -11,9 +12,11 @@ MAX_RECORDS = 1_048_576        # records of one list
 # "The numbers"
 DONE, BAD_H, OVER, UNREADABLE, FEW_RECORDS, BAD_MODE_TEXT, BAD_NAME, NOT_AFTER = range(8)
 SHORT_OUTPUT, NUL_IN_NAME, BAD_RECORD, FIELD, ACTOR, EMPTY_ENCODING, LF_ENCODING, NOT_THERE = range(8, 16)
-SAME_NAME, DOT_GIT, NO_RULE_SET, NOT_ACCEPTABLE, NOT_FRAMED, ID_TWICE, NO_PATH = 17, 18, 19, 23, 24, 25, 26
+LONG_NAME, SAME_NAME, DOT_GIT, NO_RULE_SET, BAD_TEXT, NOT_ACCEPTABLE = 16, 17, 18, 19, 20, 23
+NOT_FRAMED, ID_TWICE, NO_PATH, TOO_DEEP, NO_TREE = 24, 25, 26, 27, 28
 WIDTH = 5                      # the numbers of an entry's record
 EACH = 3                       # those of a sought name, and of a stored answer
+ITEM = 6                       # those of an item
 NO_MODE, NO_NUL, CUT_ID = 1, 2, 3      # the parts of UNREADABLE
 
 SPACE, LF, NUL, SLASH = 32, 10, 0, 47
@@ -146,6 +149,11 @@ def entry_at(object, at, h):
     return (mode, name, name_end, name_end + 1, at), name_end + 1 + h
 
 
+def modes_of(rules):
+    """The mode texts of a rule set."""
+    return [text for text, _word in KINDS] + ([b"100664"] if rules == 1 else [])
+
+
 def permitted(name):
     """Strict reader: whether an entry may have this name."""
     return len(name) > 0 and NUL not in name and SLASH not in name and name not in (b".", b"..", b".git")
@@ -161,7 +169,7 @@ def tree_read(h, object, room, strict, rules=2):
     if over([len(object)], [lent]):
         return (OVER, 0, 0, 0), []
     at, records, before, names = 0, [], None, set()
-    texts = [text for text, _word in KINDS] + ([b"100664"] if rules == 1 else [])
+    texts = modes_of(rules)
     while at < len(object):
         if len(records) == MAX_RECORDS:
             return (OVER, 0, 0, 0), []
@@ -677,10 +685,9 @@ def tree_put(h, object, rules, mode, name, id, room):
     refused, entries = strict_table(h, object, rules, [len(name), len(id), room])
     if refused:
         return refused, b""
-    modes = [text for text, _word in KINDS] + ([b"100664"] if rules == 1 else [])
     if len(id) != h:
         return (BAD_RECORD, 0, 0, 0), b""
-    if mode > 65535 or mode_written(mode) not in modes:
+    if mode > 65535 or mode_written(mode) not in modes_of(rules):
         return (BAD_MODE_TEXT, 0, 0, 0), b""
     if not permitted(name):
         return (BAD_NAME, 0, 0, 0), b""
@@ -743,6 +750,120 @@ def export(h, object, rules, room):
     return (refused, b"") if refused else fitted(b"".join(text_record(*e) for e in entries), room)
 
 
+def text_entry(h, text, rules):
+    """Text, the record at the front: (number, the entry as (mode text, name, id), the record's length)."""
+    record = re.match(rb"([0-7]{6}) (blob|tree|commit) ([0-9a-f]{%d})\t([^\0]*)\0" % (2 * h), text)
+    if record is None:
+        return BAD_TEXT, None, 0
+    digits, word, id, name = record.groups()
+    mode = digits.removeprefix(b"0") if digits == b"040000" else digits
+    if mode not in modes_of(rules):
+        return BAD_MODE_TEXT, None, 0
+    entry = mode, name, bytes.fromhex(id.decode())
+    if word != text_record(*entry).split(b" ")[1]:
+        return BAD_TEXT, None, 0
+    number = DONE if permitted(name) and name.lower() != b".git" else DOT_GIT if permitted(name) else BAD_NAME
+    return number, entry, record.end()
+
+
+def import_tree(h, text, rules, room):
+    """Text, `import_tree`: (number, place, part, count), bytes written."""
+    if bad_h(h) or rules not in (1, 2) or over([len(text), room]):
+        return (BAD_H if bad_h(h) else NO_RULE_SET if rules not in (1, 2) else OVER, 0, 0, 0), b""
+    places, entries, at = [], [], 0
+    while at < len(text):
+        number, entry, size = text_entry(h, text[at:], rules) if len(entries) < MAX_RECORDS else (OVER, None, 0)
+        if number != DONE:
+            return (number, 0 if number == OVER else at, 0, 0), b""
+        places.append(at)
+        entries.append(entry)
+        at += size
+    named = [(name, mode == b"40000") for mode, name, _id in entries]
+    for i, one in enumerate(named):
+        if any(order(*one, *earlier) == 0 for earlier in named[:i]):
+            return (NOT_AFTER, places[i], 0, 0), b""
+    for i, one in enumerate(named):
+        if one[0] in [earlier[0] for earlier in named[:i]]:
+            return (SAME_NAME, places[i], 0, 0), b""
+    return fitted(in_order(entries), room)
+
+
+# ---------------------------------------------------------------- Differences
+
+class Stop(Exception):
+    """A walk that met a refusal: number, place, part."""
+
+
+def compare_trees(bundle, left, right, list_room, room):
+    """Differences: (number, place, part, count), the items' numbers, the paths."""
+    if over([len(bundle), len(left), len(right), room], [list_room // ITEM]):
+        return (OVER, 0, 0, 0), [], b""
+    number, _place, _part, h, rules, _count = bundle_check(bundle)
+    if number == ID_TWICE:
+        h = bundle_header(bundle)[0]
+    if number == NOT_FRAMED or len(left) != h or len(right) != h:
+        return (NOT_FRAMED, 0, 0, 0), [], b""
+    if number != DONE:
+        return (number, 0, 0, 0), [], b""
+    items, paths = [], []
+
+    def opened(id, depth):
+        """The entries of the tree of an id, by name and sort: mode, id, the id's place in the bundle. No id has none."""
+        if id is None:
+            return {}
+        if depth > 32:
+            raise Stop(TOO_DEEP, 0, 0)
+        found, _place, _part, kind, start, end = bundle_object(bundle, id)
+        if found != DONE or kind != 2:
+            raise Stop(NO_TREE, 0, 0)
+        object = bundle[start:end]
+        answer, numbers = tree_read(h, object, WIDTH * len(object), True, rules)
+        if answer[0] != DONE:
+            raise Stop(*answer[:3])
+        return {(object[e[1]:e[2]], is_tree(e[0])): (e[0], object[e[3]:e[3] + h], start + e[3]) for e in by(WIDTH, numbers)}
+
+    def walk(before, left, right, depth):
+        sides = [opened(left, depth), opened(right, depth)]
+        for name, folder in sorted({*sides[0], *sides[1]}, key=lambda e: e[0] + b"/" * e[1]):
+            a, b = (side.get((name, folder), (0, None, 0)) for side in sides)
+            if a[:2] == b[:2]:
+                continue
+            if len(items) == MAX_RECORDS:
+                raise Stop(OVER, 0, 0)
+            at = sum(map(len, paths))
+            paths.append(before + name)
+            items.append((at, at + len(paths[-1]), a[0], b[0], a[2], b[2]))
+            if folder and a[1] != b[1]:
+                walk(before + name + b"/", a[1], b[1], depth + 1)
+
+    try:
+        walk(b"", left, right, 0)
+    except Stop as stop:
+        return (*stop.args, 0), [], b""
+    path = b"".join(paths)
+    if len(items) > list_room // ITEM:
+        return (FEW_RECORDS, len(items), 0, 0), [], b""
+    if len(path) > room:
+        return (SHORT_OUTPUT, len(path), 0, 0), [], b""
+    return (DONE, 0, 0, len(items)), [n for item in items for n in item], path
+
+
+# ---------------------------------------------------------------- "A check in pieces"
+
+def checked(h, object, rules):
+    """The answer of a check in pieces, however the object is cut: number, place, part, count."""
+    answer, _numbers = tree_read(h, object, WIDTH * len(object), True, rules)
+    at = 0
+    while not bad_h(h) and rules in (1, 2) and at < len(object) and (answer[0] == DONE or at <= answer[1]):
+        number, _mode, rest = mode_text(object[at:])
+        if number == DONE and len(object[at + rest:].split(b"\0")[0]) > 4096:
+            return LONG_NAME, at, 0, 0
+        entry, at = entry_at(object, at, h)
+        if entry is None:
+            break
+    return answer
+
+
 # ---------------------------------------------------------------- "Examples"
 
 def examples():
@@ -774,6 +895,14 @@ def examples():
     assert id_of_hex(b"0aF9" * 10, 20) == ((0, 0, 20), b"\x0a\xf9" * 10) and hex_of_id(b"\x0a\xf9" * 10, 40) == ((0, 0, 40), b"0af9" * 10)
     assert export(20, o, 2, 116)[1] == b"100644 blob " + b"11" * 20 + b"\ta\x00040000 tree " + b"22" * 20 + b"\tb\0"
     assert mend(20, b"100664 b\0" + b"\x11" * 20 + b"40000 a\0" + b"\x22" * 20, 2, 60)[:2] == ((0, 0, 0, 57, 2), [1, 0])
+    text = export(20, o, 2, 116)[1]
+    assert import_tree(20, text, 2, 57) == import_tree(20, text[text.index(b"\0") + 1:] + text[:text.index(b"\0") + 1], 2, 57) == ((0, 0, 0, 57), o)
+    assert import_tree(20, text.replace(b"100644", b"300644"), 2, 57)[0] == (5, 0, 0, 0) and import_tree(20, text + text, 2, 200)[0] == (7, len(text), 0, 0)
+    roots = [bytes([i]) * 20 for i in (1, 2)]
+    bundle = b"GOB\1\0\x14\2\0\0\0" + b"".join(id + b"\2" + len(t).to_bytes(4, "little") + t for id, t in zip(roots, (o, o[:29])))
+    assert compare_trees(bundle, roots[0], roots[0], 0, 0) == ((0, 0, 0, 0), [], b"") and compare_trees(bundle, *roots, 6, 1)[0] == (28, 0, 0, 0)
+    assert compare_trees(bundle, roots[1], roots[0], 0, 0)[0] == (28, 0, 0, 0) and checked(20, o, 2) == (0, 0, 0, 2) and checked(20, o[:-1], 2) == (3, 29, 3, 0)
+    assert checked(20, b"100600 " + b"a/" * 2049, 2) == (16, 0, 0, 0) and checked(20, b"x" * 5000, 2)[:3] == (3, 0, 1)
     assert tree_remove(20, o, 2, b"a", 57) == ((0, 0, 0, 28), o[29:]) and tree_put(20, o, 2, 16384, b"b", b"\x22" * 20, 57) == ((0, 0, 0, 57), o)
 
 

@@ -5,10 +5,10 @@ use Prim.Native.String.{String}
 use mathlib.Core.Path.{_≡_, refl}
 use mathlib.Core.Bool.{true, false}
 use mathlib.Core.List.{List, [], _∷_, _++_, map}
-use lib.ListN.{length, take, replicate}
+use lib.ListN.{take, replicate}
 use Rattle.ground.specs.Basics.{ascii}
 use Rattle.ground.specs.Scan.{placeFrom}
-use Rattle.ground.specs.Verdict.{idLength, sizeGate, gateOf}
+use Rattle.ground.specs.Verdict.{idLength, sizeGate, gateOf, isSet}
 use Rattle.output.specs.Output.{fitted, gated}
 use Rattle.mode.specs.Mode.{valueOf, sortOf, executes, kindOf, isTree, fromNumber}
 use Rattle.mode_text.specs.Read.{readText}
@@ -24,7 +24,7 @@ use Rattle.reading.specs.Listing.{follow, plain, listing, recordsIn, tally}
 use Rattle.rules.specs.Rules.{isPlain, judge, permitted, isDotGit, nameNumber, standsBefore, isAfter, afterNumber, gitRules}
 use Rattle.strict.specs.Strict.{textOf, cut, strictAnswer}
 use Rattle.reading.specs.Whole.{answerOf, readAnswer}
-use Rattle.rules.specs.Gate.{ruleGate, isSet}
+use Rattle.rules.specs.Gate.{ruleGate}
 use Rattle.lookup.specs.Halving.{mid, halving, searchFrom}
 use Rattle.lookup.specs.Lookup.{compareEntry, lookupIn}
 use Rattle.tree_write.specs.Write.{refusal, judged, measured, treeSize, treeAnswer}

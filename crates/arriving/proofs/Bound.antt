@@ -1,18 +1,17 @@
 -- Past the bound: 2, or what the bytes up to it have settled. Assumes nothing.
-use Prim.Native.Nat.{ℕ, zero, suc, _+_, _-_, _≤_, _<_}
+use Prim.Native.Nat.{ℕ, zero, suc, _+_, _-_}
 use native.Mathlib.Omega.{arith}
 use mathlib.Core.Path.{_≡_, refl, ap, sym, _∙_}
 use mathlib.Core.Bool.{Bool, true, false}
-use mathlib.Core.List.{List, [], _∷_, _++_, append-nil}
+use mathlib.Core.List.{List, [], _∷_, _++_}
 use mathlib.Core.Logic.{_⊎_, inl, inr, ⊎-elim}
 use lib.Dec.{eqb, ltb, leb}
-use lib.ListN.{length, take, drop, length-take, length-append}
-use lib.Seq.{take-all, take-append-seam}
+use lib.ListN.{length, take, drop, length-append}
+use lib.Seq.{take-append-seam}
 use borrow.Author.Tests.{lt-ltb, le-ltb}
 use Rattle.ground.specs.Basics.{pick}
 use Rattle.ground.specs.Scan.{countTo}
-use Rattle.ground.specs.Verdict.{verdict, broken, refused, mostBytes, mostRecords}
-use Rattle.ground.specs.declared.Verdict.{Verdict}
+use Rattle.ground.specs.Verdict.{verdict, refused, mostBytes, mostRecords}
 use Rattle.ground.specs.declared.Answer.{Answer}
 use Rattle.ground.specs.declared.Gate.{Gate}
 use Rattle.ground.specs.declared.Gate.the-variants.{Open, Shut}
@@ -23,16 +22,15 @@ use Rattle.entry.specs.Entry.{Entry, entryOf}
 use Rattle.entry.specs.Decode.{recordAt, shortPart}
 use Rattle.entry.specs.declared.EntryRecord.{EntryRecord}
 use Rattle.entry.specs.declared.Cursor.{Cursor}
-use Rattle.entry.specs.declared.Decoded.{Decoded}
 use Rattle.entry.specs.declared.Decoded.the-variants.{Whole, Broken}
 use Rattle.rules.specs.Rules.{Rules, judge, gitRules}
 use Rattle.rules.specs.Gate.{ruleGate}
-use Rattle.reading.specs.Listing.{Listing, done, stop, entry, follow, tally}
+use Rattle.reading.specs.Listing.{stop, entry, follow, tally}
 use Rattle.reading.specs.declared.Counted.{Counted}
 use Rattle.reading.specs.declared.Counted.the-variants.{Stopped}
 use Rattle.strict.specs.Strict.{textOf, cut}
 use Rattle.arriving.specs.Feed.{mostHeld}
-use Rattle.arriving.specs.Whole.{shortAt, endAt, heldName, heldMode, arriving, told, checkIn, orShut, checkOf}
+use Rattle.arriving.specs.Whole.{shortAt, heldName, heldMode, arriving, told, checkIn, orShut, checkOf}
 
 module _ (R : Rules) (h : ℕ) (s : List ℕ) where
   -- what is counted where more follows or not

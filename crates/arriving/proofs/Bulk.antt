@@ -1,15 +1,15 @@
 -- Several bytes of a name or of an id taken at once. Assumes nothing.
-use Prim.Native.Nat.{ℕ, zero, suc, _+_, _-_, _≤_, _<_, min}
+use Prim.Native.Nat.{ℕ, zero, suc, _+_, _-_, _≤_, _<_}
 use native.Mathlib.Nat.{add-zero, sub-zero}
 use native.Mathlib.Omega.{arith}
 use mathlib.Core.Path.{_≡_, refl, ap, sym, _∙_}
-use mathlib.Core.List.{List, [], _∷_}
+use mathlib.Core.List.{List}
 use lib.ListN.{length, getD, set, drop}
-use mathlib.Core.Bool.{Bool, true, false, _&&_}
+use mathlib.Core.Bool.{Bool, false, _&&_}
 use lib.Dec.{eqb, leb}
-use borrow.Author.Tests.{lt-ltb, eq-eqb, ne-eqb, le-leb, lt-leb}
+use borrow.Author.Tests.{lt-ltb, eq-eqb, ne-eqb, lt-leb}
 use Rattle.ground.specs.Verdict.{mostBytes, mostRecords}
-use Rattle.arriving.specs.Feed.{mostHeld, together, placedAt, meet, sharing, lineAt, longer, nameMarks, nameHeld, idMarks, idEnds, body, headStep, stepOf, feedOf}
+use Rattle.arriving.specs.Feed.{mostHeld, together, placedAt, meet, sharing, lineAt, longer, nameMarks, nameHeld, idMarks, idEnds, body, headStep, byteStep, feedOf}
 use Rattle.arriving.specs.Bulk.{Took}
 use Rattle.arriving.specs.declared.Stand.{Stand}
 use Rattle.arriving.specs.declared.Line.{Line}
@@ -27,14 +27,14 @@ marks-is held ends m p e = ap (λ (q : Phase). together held ends (placedAt m (m
 
 module _ (m : Marks) (z : m .verdict .number ≡ 0) (ends : List ℕ) where
   step-id-at : (held : List ℕ) (a : ℕ) (l : Line) (left b : ℕ) → a < mostBytes → 1 < left
-      → stepOf (together held ends (placedAt m a (m .head) (Id l left))) b ≡ together held ends (placedAt m (a + 1) (m .head) (Id l (left - 1)))
-  unfolding stepOf body idMarks idEnds
+      → byteStep (together held ends (placedAt m a (m .head) (Id l left))) b ≡ together held ends (placedAt m (a + 1) (m .head) (Id l (left - 1)))
+  unfolding byteStep body idMarks idEnds
   step-id-at held a l left b n k = rw (eq-eqb (m .verdict .number) 0 z, lt-leb mostBytes a n, lt-leb left 1 k)
 
   step-name-at : (held : List ℕ) (a : ℕ) (l : Line) (b : ℕ) → a < mostBytes → (b ≡ 0 → ⊥) → l .size < mostHeld
-      → stepOf (together held ends (placedAt m a (m .head) (Name l))) b
+      → byteStep (together held ends (placedAt m a (m .head) (Name l))) b
       ≡ together (set held (l .size) b) ends (placedAt m (a + 1) (m .head) (Name (longer held (m .last) l b)))
-  unfolding stepOf body nameMarks nameHeld
+  unfolding byteStep body nameMarks nameHeld
   step-name-at held a l b n k s = rw (eq-eqb (m .verdict .number) 0 z, lt-leb mostBytes a n, ne-eqb b 0 k, lt-leb mostHeld (l .size) s)
 
   -- so many bytes of an id, its last one not among them
@@ -73,7 +73,7 @@ module _ (m : Marks) (z : m .verdict .number ≡ 0) (ends : List ℕ) where
       → all ≡ feedOf (together (set held size b) ends (placedAt m (a + 1) (m .head) (Name (lineAt l (size + 1) more up)))) (drop (k + 1) s)
   name-turn all held a l size shared more stand up s k b n w e f g u v q =
       q ∙ feed-turn _ s k w (together (set held size b) ends (placedAt m (a + 1) (m .head) (Name (lineAt l (size + 1) more up))))
-      (sym (ap (stepOf (together held ends (placedAt m a (m .head) (Name (lineAt l size shared stand))))) (sym e)
+      (sym (ap (byteStep (together held ends (placedAt m a (m .head) (Name (lineAt l size shared stand))))) (sym e)
       ∙ step-name-at held a (lineAt l size shared stand) b n f g
       ∙ ap (λ (y : Stand). together (set held size b) ends (placedAt m (a + 1) (m .head) (Name (lineAt l (size + 1) (sharing y (size + 1) shared) y)))) (sym u)
       ∙ ap (λ (j : ℕ). together (set held size b) ends (placedAt m (a + 1) (m .head) (Name (lineAt l (size + 1) j up)))) (sym v)))
@@ -131,8 +131,8 @@ head-begin held ends m k s i e =
 
 step-head-at : (m : Marks) (held ends : List ℕ) (a : ℕ) (head : List ℕ) (k b : ℕ) → m .verdict .number ≡ 0 → a < mostBytes
     → (eqb k 0 && leb mostRecords (m .count)) ≡ false → k < 7
-    → stepOf (together held ends (placedAt m a head (Head k))) b ≡ together held ends (placedAt m (a + 1) (set head k b) (Head (k + 1)))
-unfolding stepOf headStep
+    → byteStep (together held ends (placedAt m a head (Head k))) b ≡ together held ends (placedAt m (a + 1) (set head k b) (Head (k + 1)))
+unfolding byteStep headStep
 step-head-at m held ends a head k b z n f l = rw (eq-eqb (m .verdict .number) 0 z, lt-leb mostBytes a n, f, lt-ltb k 7 l)
 
 -- whatever name is held, and whatever names are open

@@ -1,25 +1,23 @@
 -- Fed in pieces, the check answers what it answers of the whole object. Assumes nothing.
 use Prim.Native.Nat.{ℕ, zero, suc, _+_, _-_, _%_, _≤_, _<_, min}
 use native.Mathlib.Nat.{add-zero}
-use native.Mathlib.Numerals.{add-one}
 use native.Mathlib.Decide.{decLt}
 use native.Mathlib.Omega.{arith}
 use mathlib.Core.Path.{_≡_, refl, ap, sym, _∙_}
 use mathlib.Core.Bool.{Bool, true, false, _||_}
 use mathlib.Core.List.{List, [], _∷_, _++_, append-nil}
-use mathlib.Core.Logic.{⊎-elim}
-use lib.Dec.{eqb, ltb, leb}
+use lib.Dec.{eqb, ltb}
 use lib.ListN.{length, getD, set, take, drop, replicate, length-take, length-drop, length-set, take-append-drop, drop-of-length-le}
 use lib.Seq.{sets, length-sets, drop-cons, drop-drop, take-take, take-all, take-append-seam}
 use borrow.Author.Tests.{eq-eqb, ne-eqb, lt-ltb, le-ltb, le-leb, lt-leb, ltb-true, ltb-false}
 use Rattle.ground.specs.Basics.{pick, part}
 use Rattle.ground.specs.Scan.{countTo, commonStart}
-use Rattle.ground.specs.Verdict.{verdict, broken, fine, counted, refused, mostBytes, mostRecords, idLength, sizeGate}
+use Rattle.ground.specs.Verdict.{verdict, broken, fine, refused, mostBytes, mostRecords, idLength, sizeGate, isSet}
 use Rattle.ground.specs.declared.Verdict.{Verdict}
 use Rattle.ground.specs.declared.Answer.{Answer}
 use Rattle.ground.specs.declared.Gate.{Gate}
 use Rattle.ground.specs.declared.Gate.the-variants.{Open, Shut}
-use Rattle.ground.proofs.Laws.{equal, sets-front, count-le, count-is, free-count, id-is, id-small}
+use Rattle.ground.proofs.Laws.{sets-front, count-le, count-is, free-count, id-is, id-small}
 use Rattle.mode.specs.Read.{readMode}
 use Rattle.mode.specs.Mode.{isTree}
 use Rattle.mode.specs.declared.ModeRead.{ModeRead}
@@ -30,23 +28,18 @@ use Rattle.entry.specs.Record.{nameOf}
 use Rattle.entry.specs.Entry.{Entry, entryOf}
 use Rattle.entry.specs.Decode.{recordAt, shortPart}
 use Rattle.entry.specs.declared.EntryRecord.{EntryRecord}
-use Rattle.entry.specs.declared.Cursor.{Cursor}
-use Rattle.entry.specs.declared.Decoded.{Decoded}
-use Rattle.entry.specs.declared.Decoded.the-variants.{Whole, Broken}
-use Rattle.reading.specs.Listing.{Listing, done, stop, entry, follow, tally}
+use Rattle.reading.specs.Listing.{Listing, stop, entry, follow, tally}
 use Rattle.rules.specs.Rules.{orElse, isText, modesOf, judge, gitRules}
-use Rattle.rules.specs.Gate.{isSet, ruleGate}
+use Rattle.rules.specs.Gate.{ruleGate}
 use Rattle.strict.specs.Strict.{textOf, cut}
-use Rattle.reading.specs.declared.Counted.{Counted}
-use Rattle.reading.specs.declared.Counted.the-variants.{Total, Stopped}
 use Rattle.strict.proofs.Laws.{cut-bad, cut-fine, strict-refuses}
 use Rattle.doubles.specs.Doubles.{namedBefore}
-use Rattle.doubles.specs.Stack.{marksAt, openOf}
+use Rattle.doubles.specs.Stack.{marksAt}
 use Rattle.doubles.specs.declared.Placed.{Placed}
 use Rattle.doubles.specs.declared.Placed.the-variants.{Fine, Double}
 use Rattle.doubles.proofs.Theorem.{Ascends}
 use Rattle.doubles.proofs.Placing.{Tracks, tracks-none}
-use Rattle.arriving.specs.Feed.{mostHeld, mostEnds, together, refuse, judged, leavesNone, endsNext, nextEntry, placing, placed, closed, closedEnds, begin, overMode, overIn, feedOf, fresh, startOf, gateVerdict, headPart, endIn, endOf}
+use Rattle.arriving.specs.Feed.{mostHeld, mostEnds, together, refuse, judged, endsNext, placing, placed, closed, closedEnds, begin, overMode, overIn, feedOf, fresh, startOf, gateVerdict, headPart, endIn, endOf}
 use Rattle.arriving.specs.Whole.{shortAt, endAt, heldName, heldMode, arriving, told, checkIn, orShut, checkOf}
 use Rattle.arriving.specs.declared.Last.{Last}
 use Rattle.arriving.specs.declared.Line.{Line}
@@ -55,7 +48,7 @@ use Rattle.arriving.specs.declared.Phase.the-variants.{Head, Name, Id}
 use Rattle.arriving.specs.declared.Marks.{Marks}
 use Rattle.arriving.specs.declared.Check.{Check}
 use Rattle.arriving.proofs.Steps.{feed-none, feed-more, feed-cut, feed-stopped, finish-stopped, marksOf, st, finish-in, step-over, step-full, step-nul}
-use Rattle.arriving.proofs.Runs.{heads-run, eighth-run, ids-run, ids-all, names-run, names-long, lineOf, naming, mode-run, textIs}
+use Rattle.arriving.proofs.Runs.{heads-run, eighth-run, ids-run, ids-all, names-run, names-long, lineOf, naming, mode-run}
 use Rattle.arriving.proofs.Judged.{Holds, holds-fits, name-held, judged-is, name-some, goes-up, Stands, stands}
 
 -- ---- where the bytes end: the object ends there, or goes on past the bound

@@ -1,10 +1,10 @@
 -- What the machine says of a finished entry is what the strict rules say of it after the entries before. Assumes nothing.
-use Prim.Native.Nat.{ℕ, zero, suc, _+_, _-_, _≤_, _<_, min}
+use Prim.Native.Nat.{ℕ, zero, suc, _+_, _≤_, _<_, min}
 use native.Mathlib.Omega.{arith}
 use mathlib.Core.Path.{_≡_, refl, ap, sym, _∙_}
-use mathlib.Core.Bool.{Bool, true, false, _&&_, _||_, false≢true}
+use mathlib.Core.Bool.{Bool, true, false, _&&_, _||_}
 use mathlib.Core.List.{List, [], _∷_}
-use lib.Dec.{eqb, ltb}
+use lib.Dec.{ltb}
 use lib.ListN.{length, getD, take, drop, length-take}
 use lib.Seq.{sets, getD-take, take-append-seam}
 use borrow.Author.Tests.{ne-eqb, ltb-true, ltb-false}
@@ -12,25 +12,22 @@ use Rattle.ground.specs.Basics.{pick}
 use Rattle.ground.specs.Scan.{commonStart, freeOf}
 use Rattle.ground.proofs.Laws.{sets-front}
 use Rattle.mode.specs.Mode.{isTree}
-use Rattle.order.specs.Order.{byNumber, next, nameOrder}
-use Rattle.order.specs.declared.Order.{Order}
-use Rattle.order.specs.declared.Order.the-variants.{Below, Same, Above}
-use Rattle.order.proofs.Laws.{by-lt, next-byte, next-past}
+use Rattle.order.specs.Order.{isBelow, byNumber, next, nameOrder}
+use Rattle.order.proofs.Laws.{below-is, by-lt, next-byte, next-past}
 use Rattle.entry.specs.Entry.{Entry}
 use Rattle.doubles.specs.Doubles.{namedBefore, topIs, lastName, held}
 use Rattle.doubles.specs.Stack.{stackOf, keptOf, openAt, marksAt, isDouble, openOf}
-use Rattle.doubles.specs.declared.Placed.{Placed}
 use Rattle.doubles.specs.declared.Placed.the-variants.{Fine, Double}
 use Rattle.doubles.proofs.Theorem.{After, Ascends, held-within}
 use Rattle.doubles.proofs.Placing.{Tracks, tracks-first, tracks-next, double-is}
-use Rattle.rules.specs.Rules.{orElse, isText, modesOf, nameNumber, bareNumber, judge, isBelow, standsBefore, isAfter, afterNumber, gitRules}
+use Rattle.rules.specs.Rules.{orElse, isText, modesOf, nameNumber, bareNumber, judge, standsBefore, isAfter, afterNumber, gitRules}
 use Rattle.rules.proofs.Laws.{name-empty, number-bad, number-free}
 use Rattle.arriving.specs.Feed.{mostHeld, mostEnds, heldNext, isOver, judged, leavesNone}
 use Rattle.arriving.specs.declared.Stand.{Stand}
 use Rattle.arriving.specs.declared.Stand.the-variants.{Level, Over, NotOver}
 use Rattle.arriving.specs.declared.Last.{Last}
 use Rattle.arriving.specs.declared.Line.{Line}
-use Rattle.arriving.proofs.Level.{standOf, stand-order, byStand}
+use Rattle.arriving.proofs.Level.{stand-order, byStand}
 use Rattle.arriving.proofs.Runs.{stored-past, lineOf}
 
 -- the held name is that of the entry before, if there is one; else it is empty and no folder's
@@ -63,11 +60,6 @@ or-parts (suc a) b c e = absurd (omega arith)
 or-pick : (v : Bool) → _≡_ {A = ℕ} (pick v 0 7) 0 → v ≡ true
 or-pick true e = refl
 or-pick false e = absurd (omega arith)
-
-is-below : (o : Order) → isBelow o ≡ true → o ≡ Below
-is-below Below e = refl
-is-below Same e = absurd (false≢true e)
-is-below Above e = absurd (false≢true e)
 
 -- a name of which nothing is said is not empty
 not-empty : (n : List ℕ) → bareNumber n ≡ 0 → 0 < length n
@@ -152,7 +144,7 @@ module _ (last : Last) (held : List ℕ) (written folder : Bool) (room : length 
       ascends : (seen : List Entry) → isAfter seen e ≡ true → After seen e
       unfolding isAfter standsBefore
       ascends [] q = tt
-      ascends (p ∷ ps) q = is-below _ q
+      ascends (p ∷ ps) q = below-is _ q
 
       pub goes-up : Ascends seen → Ascends (e ∷ seen)
       goes-up up = (ascends seen (sym (after-is (parts .0)) ∙ or-pick _ (parts .1)), up)

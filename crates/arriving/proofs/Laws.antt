@@ -5,17 +5,14 @@ use native.Mathlib.Omega.{arith}
 use mathlib.Core.Path.{_≡_, refl, ap, sym, _∙_}
 use mathlib.Core.Bool.{Bool, true, false, _&&_}
 use mathlib.Core.List.{List, [], _∷_}
-use mathlib.Core.Logic.{_⊎_}
 use lib.Dec.{eqb, ltb, leb}
-use lib.ListN.{length, getD, set, take, drop, length-take, length-drop, drop-of-length-le}
-use lib.Seq.{set-out, drop-cons, take-all, take-take}
-use borrow.Author.Tests.{eqb-true, eq-eqb, ne-eqb, lt-ltb, le-ltb, le-leb, lt-leb, ltb-true, ltb-false}
+use lib.ListN.{length, getD, set, take, drop, length-drop, drop-of-length-le}
+use lib.Seq.{drop-cons, take-all}
+use borrow.Author.Tests.{eq-eqb, ne-eqb, lt-ltb, le-ltb, le-leb, lt-leb, ltb-true, ltb-false}
 use Rattle.ground.specs.Basics.{pick}
 use Rattle.ground.specs.Verdict.{verdict, broken, fine, counted, refused, mostBytes, mostRecords}
 use Rattle.ground.specs.declared.Verdict.{Verdict}
-use Rattle.ground.specs.declared.Answer.{Answer}
 use Rattle.ground.specs.Scan.{countTo, placeFrom}
-use Rattle.ground.specs.declared.Gate.{Gate}
 use Rattle.ground.specs.declared.Gate.the-variants.{Open, Shut}
 use Rattle.mode.specs.Read.{readMode, readModeAt, moved}
 use Rattle.mode.specs.declared.ModeRead.{ModeRead}
@@ -24,7 +21,6 @@ use Rattle.mode.specs.declared.EntryMode.{EntryMode}
 use Rattle.mode.proofs.Laws.{read-next}
 use Rattle.order.specs.Order.{next}
 use Rattle.entry.specs.Decode.{shortPart}
-use Rattle.doubles.specs.Stack.{marksAt}
 use Rattle.doubles.specs.declared.Placed.{Placed}
 use Rattle.doubles.specs.declared.Placed.the-variants.{Fine, NotAfter, Double}
 use Rattle.rules.specs.Rules.{orElse, bareNumber}
@@ -38,7 +34,7 @@ use Rattle.arriving.specs.declared.Phase.{Phase}
 use Rattle.arriving.specs.declared.Phase.the-variants.{Head, Name, Id}
 use Rattle.arriving.specs.declared.Marks.{Marks}
 use Rattle.arriving.specs.declared.Check.{Check}
-use Rattle.arriving.specs.Feed.{together, refuse, placedAt, meet, sharing, nameMarks, nameHeld, longer, isOver, judged, leavesNone, placing, endsNext, nextEntry, placed, closed, closedEnds, idMarks, idEnds, body, bodies, begun, begin, headStep, overMode, overIn, over, turnIn, stepOf, feedOf, fresh, startOf, gateVerdict, headPart, endIn, finishOf, mostHeld, bodyIn}
+use Rattle.arriving.specs.Feed.{together, refuse, meet, sharing, nameMarks, nameHeld, longer, isOver, judged, leavesNone, placing, endsNext, nextEntry, placed, closed, closedEnds, idMarks, idEnds, body, bodies, begun, begin, headStep, overIn, over, turnIn, byteStep, feedOf, fresh, startOf, headPart, endIn, finishOf, mostHeld, bodyIn}
 
 -- ---- how a name stands
 
@@ -394,31 +390,31 @@ module _ (m : Marks) where
 -- ---- a byte
 
 module _ (held ends : List ℕ) (m : Marks) (b : ℕ) where
-  pub step-stopped : (m .verdict .number ≡ 0 → ⊥) → together held ends m ≡ stepOf (together held ends m) b
-  unfolding stepOf
+  pub step-stopped : (m .verdict .number ≡ 0 → ⊥) → together held ends m ≡ byteStep (together held ends m) b
+  unfolding byteStep
   step-stopped n = rw (ne-eqb (m .verdict .number) 0 n)
 
   module _ (z : m .verdict .number ≡ 0) where
-    pub step-past : (r : Marks) → mostBytes ≤ m .at → r ≡ overIn m (m .phase) → together held ends r ≡ stepOf (together held ends m) b
-    unfolding stepOf over
+    pub step-past : (r : Marks) → mostBytes ≤ m .at → r ≡ overIn m (m .phase) → together held ends r ≡ byteStep (together held ends m) b
+    unfolding byteStep over
     step-past r l q = rw (eq-eqb (m .verdict .number) 0 z, le-leb mostBytes (m .at) l, q)
 
     module _ (l : m .at < mostBytes) (c : Check) where
-      pub step-first : (k : ℕ) → m .phase ≡ Head k → c ≡ headStep (together held ends m) k b → c ≡ stepOf (together held ends m) b
-      unfolding stepOf
+      pub step-first : (k : ℕ) → m .phase ≡ Head k → c ≡ headStep (together held ends m) k b → c ≡ byteStep (together held ends m) b
+      unfolding byteStep
       step-first k e q = rw (eq-eqb (m .verdict .number) 0 z, lt-leb mostBytes (m .at) l) (q ∙ sym (ap (turnIn (together held ends m) b) e))
 
-      pub step-in-name : (x : Line) → m .phase ≡ Name x → c ≡ body (together held ends m) b → c ≡ stepOf (together held ends m) b
-      unfolding stepOf
+      pub step-in-name : (x : Line) → m .phase ≡ Name x → c ≡ body (together held ends m) b → c ≡ byteStep (together held ends m) b
+      unfolding byteStep
       step-in-name x e q = rw (eq-eqb (m .verdict .number) 0 z, lt-leb mostBytes (m .at) l) (q ∙ sym (ap (turnIn (together held ends m) b) e))
 
-      pub step-in-id : (x : Line) (left : ℕ) → m .phase ≡ Id x left → c ≡ body (together held ends m) b → c ≡ stepOf (together held ends m) b
-      unfolding stepOf
+      pub step-in-id : (x : Line) (left : ℕ) → m .phase ≡ Id x left → c ≡ body (together held ends m) b → c ≡ byteStep (together held ends m) b
+      unfolding byteStep
       step-in-id x left e q = rw (eq-eqb (m .verdict .number) 0 z, lt-leb mostBytes (m .at) l) (q ∙ sym (ap (turnIn (together held ends m) b) e))
 
 -- ---- a piece
 
-pub feed-turn : (c : Check) (s : List ℕ) (i : ℕ) → i < length s → (after : Check) → after ≡ stepOf c (getD s i 0) → feedOf c (drop i s) ≡ feedOf after (drop (i + 1) s)
+pub feed-turn : (c : Check) (s : List ℕ) (i : ℕ) → i < length s → (after : Check) → after ≡ byteStep c (getD s i 0) → feedOf c (drop i s) ≡ feedOf after (drop (i + 1) s)
 unfolding feedOf
 feed-turn c s i l after e = rw (e, add-one i, drop-cons s i 0 l)
 

@@ -1,5 +1,5 @@
 -- A name that arrives byte by byte stands to the held one as Git's order says. Assumes nothing.
-use Prim.Native.Nat.{ℕ, zero, suc, _+_, _-_, _≤_, _<_}
+use Prim.Native.Nat.{ℕ, suc, _+_, _≤_, _<_}
 use native.Mathlib.Numerals.{add-one}
 use native.Mathlib.Omega.{arith}
 use mathlib.Core.Path.{_≡_, refl, ap, sym, _∙_}
@@ -10,10 +10,9 @@ use lib.ListN.{length, getD, drop}
 use borrow.Author.Tests.{eqb-true, eqb-false, ltb-true, ltb-false, lt-ltb, le-ltb}
 use Rattle.ground.specs.Basics.{pick}
 use Rattle.ground.specs.Scan.{commonStart}
-use Rattle.order.specs.Order.{byNumber, next, nameOrder, orElse}
+use Rattle.order.specs.Order.{isBelow, byNumber, next, nameOrder, thenBy}
 use Rattle.order.specs.declared.Order.the-variants.{Below, Same, Above}
 use Rattle.order.proofs.Laws.{by-lt, by-gt, by-eq}
-use Rattle.rules.specs.Rules.{isBelow}
 use Rattle.arriving.specs.Feed.{byByte, byEnd, meet, sharing}
 use Rattle.arriving.specs.declared.Stand.{Stand}
 use Rattle.arriving.specs.declared.Stand.the-variants.{Level, Over, NotOver}
@@ -148,7 +147,7 @@ stand-order (y ∷ p) (x ∷ a) s t = go (eqb x y) refl (ltb x y) refl (stand-or
     w = ltb (next (drop (length p) a) s) (next [] t)
 
     go : (u : Bool) → eqb x y ≡ u → (v : Bool) → ltb x y ≡ v → isBelow (nameOrder a s p t) ≡ byStand (standOf p a s) w
-        → isBelow (orElse (byNumber x y) (nameOrder a s p t)) ≡ byStand (pick u (standOf p a s) (pick v Over NotOver)) w
+        → isBelow (thenBy (byNumber x y) (nameOrder a s p t)) ≡ byStand (pick u (standOf p a s) (pick v Over NotOver)) w
     go true e v f ih = rw (by-eq (eqb-true x y e)) ih
     go false e true f ih = rw (by-lt (ltb-true x y f))
     go false e false f ih = rw (by-gt (differs (eqb-false x y e) (ltb-false x y f)))

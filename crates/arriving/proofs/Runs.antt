@@ -1,37 +1,30 @@
 -- The machine over several bytes: the first eight, a name, an id. Each phase has a closed form. Assumes nothing.
 use Prim.Native.Nat.{ℕ, zero, suc, _+_, _-_, _≤_, _<_}
 use native.Mathlib.Numerals.{add-one}
-use native.Mathlib.Nat.{add-zero, add-suc, sub-zero}
+use native.Mathlib.Nat.{add-zero, sub-zero}
 use native.Mathlib.Decide.{decLt}
 use native.Mathlib.Omega.{arith}
 use mathlib.Core.Path.{_≡_, refl, ap, sym, _∙_}
-use mathlib.Core.Bool.{Bool, true, false}
+use mathlib.Core.Bool.{Bool}
 use mathlib.Core.List.{List, [], _∷_, _++_, append-assoc, append-nil}
 use mathlib.Core.Logic.{⊎-elim}
-use lib.Dec.{eqb, ltb, leb}
-use lib.ListN.{length, getD, set, take, drop, length-append, length-take, length-drop, length-set, take-append-drop, drop-of-length-le}
-use lib.Seq.{getD-set-other, sets, length-sets, take-suc, drop-cons, take-all, getD-take, sets-eq, take-append-seam, drop-append-le, drop-drop, getD-append-add, append-snoc}
+use lib.ListN.{length, getD, set, take, drop, length-append, length-take, length-drop, take-append-drop, drop-of-length-le}
+use lib.Seq.{getD-set-other, sets, take-suc, drop-cons, getD-take, drop-append-le}
 use borrow.Author.Tests.{eq-eqb, ne-eqb}
-use Rattle.ground.specs.Basics.{pick}
 use Rattle.ground.specs.Scan.{countTo, commonStart}
-use Rattle.ground.specs.Verdict.{verdict, fine, mostBytes, mostRecords}
-use Rattle.ground.specs.declared.Verdict.{Verdict}
-use Rattle.ground.proofs.Laws.{equal, sets-append, sets-front, count-le}
+use Rattle.ground.specs.Verdict.{verdict, mostBytes, mostRecords}
+use Rattle.ground.proofs.Laws.{equal, sets-append, sets-front}
 use Rattle.mode.specs.Read.{readMode}
 use Rattle.mode.specs.Mode.{isTree}
-use Rattle.mode.specs.declared.ModeRead.{ModeRead}
-use Rattle.mode.specs.declared.ModeRead.the-variants.{Mode, Bad}
+use Rattle.mode.specs.declared.ModeRead.the-variants.{Mode}
 use Rattle.mode.specs.declared.EntryMode.{EntryMode}
 use Rattle.mode.proofs.Laws.{eight-decide, read-next}
 use Rattle.rules.specs.Rules.{isText, modesOf}
-use Rattle.arriving.specs.Feed.{mostHeld, together, refuse, longer, meet, sharing, judged, closed, closedEnds, body, bodies, begin, stepOf, feedOf}
-use Rattle.arriving.specs.declared.Stand.{Stand}
+use Rattle.arriving.specs.Feed.{mostHeld, together, longer, meet, judged, closed, closedEnds, bodies, begin, byteStep, feedOf}
 use Rattle.arriving.specs.declared.Stand.the-variants.{Level}
 use Rattle.arriving.specs.declared.Last.{Last}
 use Rattle.arriving.specs.declared.Line.{Line}
-use Rattle.arriving.specs.declared.Phase.{Phase}
 use Rattle.arriving.specs.declared.Phase.the-variants.{Head, Name, Id}
-use Rattle.arriving.specs.declared.Marks.{Marks}
 use Rattle.arriving.specs.declared.Check.{Check}
 use Rattle.arriving.proofs.Level.{standOf, stand-more, shared-more, common-none, meet-same}
 use Rattle.arriving.proofs.Steps.{feed-none, feed-more, feed-cut, feed-stopped, marksOf, st, step-head, step-eighth, step-name-body, step-nul, step-name, step-long, step-id-body, step-id, step-last}
@@ -177,7 +170,7 @@ module _ (k : ℕ) (ends : List ℕ) (ended h first count : ℕ) (last : Last) (
       ∙ sym (stand-more p a (last .folder) b) in
       rw (n, shared-more p a (last .folder) b, m)
 
-  step-naming : (p : List ℕ) (at b : ℕ) → at < mostBytes → (b ≡ 0 → ⊥) → length p < mostHeld → stepOf (naming p at) b ≡ naming (p ++ (b ∷ [])) (at + 1)
+  step-naming : (p : List ℕ) (at b : ℕ) → at < mostBytes → (b ≡ 0 → ⊥) → length p < mostHeld → byteStep (naming p at) b ≡ naming (p ++ (b ∷ [])) (at + 1)
   step-naming p at b n z g =
       let w : sets held 0 (p ++ (b ∷ [])) ≡ set (sets held 0 p) (length p) b
       = sets-append held 0 p (b ∷ []) ∙ ap (λ (j : ℕ). set (sets held 0 p) j b) (zero-add (length p)) in

@@ -1,45 +1,42 @@
 -- 16 is given exactly where an entry with a readable mode is reached whose name is too long. Assumes nothing.
-use Prim.Native.Nat.{ℕ, zero, suc, _+_, _-_, _≤_, _<_, min}
+use Prim.Native.Nat.{ℕ, zero, suc, _+_, _-_, _≤_, _<_}
 use native.Mathlib.Decide.{decLt}
 use native.Mathlib.Omega.{arith}
 use mathlib.Core.Path.{_≡_, refl, ap, sym, _∙_}
 use mathlib.Core.Bool.{Bool, true, false}
-use mathlib.Core.List.{List, [], _∷_, _++_}
-use lib.Dec.{eqb, ltb, leb}
+use mathlib.Core.List.{List, [], _∷_}
+use lib.Dec.{ltb}
 use lib.ListN.{length, take, drop, length-take, length-drop, drop-of-length-le}
-use lib.Seq.{drop-drop, take-all}
-use borrow.Author.Tests.{lt-ltb, le-ltb, le-leb, lt-leb, leb-true, leb-false}
+use lib.Seq.{drop-drop}
+use borrow.Author.Tests.{le-leb}
 use Rattle.ground.specs.Basics.{pick, part}
 use Rattle.ground.specs.Scan.{countTo}
-use Rattle.ground.specs.Verdict.{verdict, broken, counted, refused, mostBytes, mostRecords}
+use Rattle.ground.specs.Verdict.{verdict, broken, refused, mostBytes, mostRecords}
 use Rattle.ground.specs.declared.Verdict.{Verdict}
 use Rattle.ground.specs.declared.Answer.{Answer}
 use Rattle.ground.specs.declared.Gate.{Gate}
-use Rattle.ground.specs.declared.Gate.the-variants.{Open, Shut}
-use Rattle.ground.proofs.Laws.{equal, count-le}
+use Rattle.ground.specs.declared.Gate.the-variants.{Open}
+use Rattle.ground.proofs.Laws.{count-le}
 use Rattle.mode.specs.Read.{readMode}
 use Rattle.mode.specs.declared.ModeRead.{ModeRead}
 use Rattle.mode.specs.declared.ModeRead.the-variants.{Mode, Bad}
 use Rattle.mode.specs.declared.EntryMode.{EntryMode}
 use Rattle.entry.specs.Record.{nameOf}
 use Rattle.entry.specs.Entry.{Entry, entryOf}
-use Rattle.entry.specs.Decode.{recordAt, brokenAt, decode, decodeMode, decodeName}
+use Rattle.entry.specs.Decode.{recordAt, decode, decodeMode, decodeName}
 use Rattle.entry.specs.declared.EntryRecord.{EntryRecord}
 use Rattle.entry.specs.declared.Cursor.{Cursor}
-use Rattle.entry.specs.declared.Decoded.{Decoded}
-use Rattle.entry.specs.declared.Decoded.the-variants.{Whole, Broken}
-use Rattle.entry.proofs.Laws.{Parts, decode-parts}
-use Rattle.reading.specs.Listing.{Listing, done, stop, entry, tally}
+use Rattle.entry.specs.declared.Decoded.the-variants.{Whole}
+use Rattle.entry.proofs.Laws.{decode-parts}
+use Rattle.reading.specs.Listing.{Listing, stop, entry, tally}
 use Rattle.doubles.specs.Doubles.{namedBefore}
 use Rattle.rules.specs.Rules.{orElse, isText, modesOf, nameNumber, permitted, isDotGit, isAfter, afterNumber, judge, gitRules}
 use Rattle.rules.specs.Gate.{ruleGate}
 use Rattle.strict.specs.Strict.{textOf, cut}
-use Rattle.reading.specs.declared.Counted.{Counted}
-use Rattle.reading.specs.declared.Counted.the-variants.{Total, Stopped}
 use Rattle.strict.proofs.Laws.{cut-bad, cut-fine}
 use Rattle.arriving.specs.Feed.{mostHeld}
 use Rattle.arriving.specs.Whole.{shortAt, endAt, arriving, told, checkIn, orShut, checkOf}
-use Rattle.arriving.specs.Sixteen.{LongName, Reached, begins, past, MeetsLong}
+use Rattle.arriving.specs.Sixteen.{Reached, begins, past, MeetsLong}
 use Rattle.arriving.proofs.Fed.{arriving-none, arriving-full, arriving-bad, arriving-long, arriving-short, arriving-whole}
 
 module _ (more : Bool) (rs h : ℕ) (s : List ℕ) where

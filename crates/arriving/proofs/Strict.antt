@@ -1,42 +1,37 @@
 -- What is said of the whole object is what the strict reader answers, where 16 is not met. Assumes nothing.
-use Prim.Native.Nat.{ℕ, zero, suc, _+_, _-_, _≤_, _<_}
-use native.Mathlib.Nat.{add-zero}
-use native.Mathlib.Decide.{decLt}
-use native.Mathlib.Omega.{arith}
+use Prim.Native.Nat.{ℕ, zero, suc, _+_, _-_, _≤_}
 use mathlib.Core.Path.{_≡_, refl, ap, sym, _∙_}
 use mathlib.Core.Bool.{Bool, true, false}
-use mathlib.Core.List.{List, [], _∷_, _++_}
+use mathlib.Core.List.{List, [], _∷_}
 use lib.Dec.{eqb, ltb, leb}
-use lib.ListN.{length, take, drop, length-take, length-drop}
-use lib.Seq.{drop-drop, take-all}
-use borrow.Author.Tests.{eq-eqb, ne-eqb, eqb-true, eqb-false, lt-ltb, le-ltb, le-leb, lt-leb, leb-true}
+use lib.ListN.{length, take, drop}
+use lib.Seq.{take-all}
+use borrow.Author.Tests.{le-ltb, le-leb}
 use Rattle.ground.specs.Basics.{pick}
 use Rattle.ground.specs.Scan.{countTo}
 use Rattle.ground.specs.Verdict.{verdict, counted, refused, mostBytes, mostRecords, sizeGate}
-use Rattle.ground.specs.declared.Verdict.{Verdict}
 use Rattle.ground.specs.declared.Answer.{Answer}
 use Rattle.ground.specs.declared.Gate.{Gate}
 use Rattle.ground.specs.declared.Gate.the-variants.{Open, Shut}
 use Rattle.mode.specs.Read.{readMode}
 use Rattle.mode.specs.declared.ModeRead.{ModeRead}
 use Rattle.mode.specs.declared.ModeRead.the-variants.{Mode, Bad}
-use Rattle.mode.specs.declared.EntryMode.{EntryMode}
 use Rattle.entry.specs.Record.{many}
 use Rattle.entry.specs.Entry.{Entry, entryOf}
-use Rattle.entry.specs.Decode.{recordAt, brokenAt, decode, decodeMode, decodeName}
+use Rattle.entry.specs.Decode.{decode, decodeMode, decodeName}
 use Rattle.entry.specs.declared.EntryRecord.{EntryRecord}
 use Rattle.entry.specs.declared.Cursor.{Cursor}
 use Rattle.entry.specs.declared.Decoded.{Decoded}
 use Rattle.entry.specs.declared.Decoded.the-variants.{Whole, Broken}
-use Rattle.reading.specs.Listing.{Listing, done, stop, entry, follow, plain, listing, tally}
+use Rattle.reading.specs.Listing.{stop, entry, follow, plain, tally}
 use Rattle.rules.specs.Rules.{Rules, judge, gitRules}
 use Rattle.rules.specs.Gate.{ruleGate}
 use Rattle.strict.specs.Strict.{textOf, cut, strictly, strictAnswer}
 use Rattle.reading.specs.Whole.{inRoom, answerOf}
 use Rattle.reading.specs.declared.Counted.{Counted}
 use Rattle.reading.specs.declared.Counted.the-variants.{Total, Stopped}
-use Rattle.arriving.specs.Feed.{mostHeld, mostEnds, together, feedOf, startOf, endOf}
-use Rattle.arriving.specs.Whole.{shortAt, endAt, heldName, heldMode, arriving, told, checkIn, orShut, checkOf}
+use Rattle.arriving.specs.Feed.{mostHeld}
+use Rattle.arriving.specs.Whole.{heldName, heldMode, arriving, told, checkIn, orShut, checkOf}
 
 abbrev numberOf : Counted → ℕ
 numberOf k = told k .verdict .number

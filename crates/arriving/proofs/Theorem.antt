@@ -1,19 +1,15 @@
 -- What is claimed of the check in pieces is proved. Assumes nothing.
-use Prim.Native.Nat.{ℕ, _≤_, _<_}
+use Prim.Native.Nat.{ℕ, _<_}
 use native.Mathlib.Omega.{arith}
 use mathlib.Core.Path.{_≡_, refl, ap, sym, _∙_}
 use mathlib.Core.List.{List, [], _∷_, _++_}
-use mathlib.Core.Logic.{_⊎_, inl, inr, ⊎-elim}
+use mathlib.Core.Logic.{_⊎_, inl, inr}
 use lib.ListN.{length, take, drop, length-take, length-drop, take-append-drop}
-use Rattle.ground.specs.Verdict.{verdict, refused, mostBytes, mostRecords}
+use Rattle.ground.specs.Verdict.{verdict, refused, mostBytes}
 use Rattle.ground.specs.declared.Answer.{Answer}
-use Rattle.ground.specs.declared.Gate.the-variants.{Open}
 use Rattle.entry.specs.Record.{many}
-use Rattle.rules.specs.Gate.{ruleGate}
-use Rattle.strict.specs.Strict.{strictAnswer}
 use Rattle.arriving.specs.Feed.{together, startOf, feedOf, endOf}
 use Rattle.arriving.specs.Whole.{checkOf}
-use Rattle.arriving.specs.Sixteen.{MeetsLong}
 use Rattle.arriving.specs.Claims.{inPieces, joined, Rooms, answer, PieceLaws}
 use Rattle.arriving.specs.declared.Check.{Check}
 use Rattle.arriving.proofs.Steps.{feed-none, feed-cut, feed-stopped}

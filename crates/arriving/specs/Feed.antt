@@ -245,13 +245,13 @@ unfoldable pub over : Check → Check
 over c = together (c .held) (c .ends) (overIn (c .marks) (c .marks .phase))
 
 -- after a refusal nothing changes
-unfoldable pub stepOf : Check → ℕ → Check
-stepOf c b = pick (eqb (c .marks .verdict .number) 0) (pick (leb mostBytes (c .marks .at)) (over c) (turnIn c b (c .marks .phase))) c
+unfoldable pub byteStep : Check → ℕ → Check
+byteStep c b = pick (eqb (c .marks .verdict .number) 0) (pick (leb mostBytes (c .marks .at)) (over c) (turnIn c b (c .marks .phase))) c
 
 -- a piece
 unfoldable pub feedOf : Check → List ℕ → Check
 feedOf c [] = c
-feedOf c (b ∷ bs) = feedOf (stepOf c b) bs
+feedOf c (b ∷ bs) = feedOf (byteStep c b) bs
 
 -- ---- the start and the end
 

@@ -1,6 +1,6 @@
 -- What the check in pieces answers, said of the whole object: strict reading, with 16 and 2 (docs/FORMAT.md, "A check in pieces"). Assumes nothing.
 use Prim.Native.Nat.{ℕ, zero, suc, _+_, _-_}
-use mathlib.Core.Bool.{Bool, true, false}
+use mathlib.Core.Bool.{Bool}
 use mathlib.Core.List.{List, [], _∷_}
 use lib.ListN.{length, take, drop}
 use lib.Dec.{ltb, leb}

@@ -1,6 +1,6 @@
 -- What the proofs of the calls cite. Assumes nothing.
 use Prim.Native.Nat.{ℕ, max}
-use mathlib.Core.Path.{_≡_, refl, sym, ap, _∙_}
+use mathlib.Core.Path.{_≡_, sym, ap, _∙_}
 use mathlib.Core.List.{List}
 use lib.ListN.{length}
 use Rattle.ground.specs.Verdict.{verdict, fine, sizeGate}

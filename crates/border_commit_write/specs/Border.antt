@@ -5,7 +5,7 @@ use lib.ListN.{length, getD}
 use Rattle.ground.specs.Verdict.{stored}
 use Rattle.ground.specs.declared.Answer.{Answer}
 use Rattle.header.specs.declared.CommitParts.{CommitParts}
-use Rattle.commit_write.specs.Write.{commitSize, commitAnswer, written}
+use Rattle.commit_write.specs.Write.{commitSize, commitAnswer, partsWritten}
 
 -- the parts that ten numbers say
 abbrev pub partsOf : List ℕ → CommitParts
@@ -32,4 +32,4 @@ answerSaid h bytes parts parents headers out = commitAnswer h bytes (partsOf par
 -- the output afterwards
 abbrev pub outputSaid : ℕ → List ℕ → List ℕ → List ℕ → List ℕ → List ℕ → List ℕ
 outputSaid h bytes parts parents headers out =
-    stored (answerSaid h bytes parts parents headers out .verdict) (written h bytes (partsOf parts) parents headers) out
+    stored (answerSaid h bytes parts parents headers out .verdict) (partsWritten h bytes (partsOf parts) parents headers) out

@@ -1,24 +1,21 @@
 -- Laws of a bundle that is opened. Assumes nothing.
-use Prim.Native.Nat.{ℕ, _+_, _-_, _≤_}
+use Prim.Native.Nat.{ℕ, _≤_}
 use native.Mathlib.Omega.{arith}
 use mathlib.Core.Path.{_≡_, refl, sym, ap, _∙_}
-use mathlib.Core.Bool.{Bool, true, false, false≢true, _&&_, _||_}
-use mathlib.Core.List.{List, [], _∷_}
-use lib.Dec.{eqb}
-use lib.ListN.{length, take, drop}
+use mathlib.Core.Bool.{true, false}
+use mathlib.Core.List.{List}
+use lib.ListN.{length}
 use borrow.Author.Tests.{eq-eqb, ne-eqb}
-use Rattle.ground.specs.Basics.{pick}
-use Rattle.ground.specs.Scan.{sameBytes}
 use Rattle.ground.specs.Verdict.{verdict, fine, mostBytes, sizeGate}
 use Rattle.ground.specs.declared.Verdict.{Verdict}
 use Rattle.ground.specs.declared.Gate.{Gate}
 use Rattle.ground.specs.declared.Gate.the-variants as gate
-use Rattle.ground.proofs.Laws.{and-left, and-right, is-false, same-true, size-open, size-fine}
-use Rattle.frame.specs.Frame.{headOf, Frames, done, fault, frame, framesBy, whole}
+use Rattle.ground.proofs.Laws.{size-fine}
+use Rattle.frame.specs.Frame.{headOf, framesBy, whole}
 use Rattle.frame.specs.declared.Header.{Header}
 use Rattle.frame.specs.declared.Head.{Head}
 use Rattle.frame.specs.declared.Head.the-variants.{Good, Bad}
-use Rattle.twice.specs.Ids.{idsIn, among, repeats}
+use Rattle.twice.specs.Ids.{idsIn, repeats}
 use Rattle.bundle.specs.Bundle.{openBy, openFrom, openOf, ownLength, told, checkOf}
 use Rattle.bundle.specs.declared.Checked.{Checked}
 use Rattle.bundle.specs.declared.Opening.{Opening}

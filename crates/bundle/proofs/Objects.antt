@@ -1,9 +1,9 @@
 -- Laws of a bundle as a list of objects, for the layers above. Assumes nothing.
-use Prim.Native.Nat.{ℕ, zero, suc, _+_, _<_, _≤_}
+use Prim.Native.Nat.{ℕ, zero, suc, _≤_}
 use native.Mathlib.Omega.{arith}
 use mathlib.Core.Path.{_≡_, refl, ap, sym, _∙_}
 use mathlib.Core.Bool.{Bool, true, false}
-use mathlib.Core.List.{List, [], _∷_, map}
+use mathlib.Core.List.{List, _∷_, map}
 use lib.Dec.{eqb}
 use lib.ListN.{length, drop}
 use Rattle.ground.specs.Basics.{pick}
@@ -21,8 +21,7 @@ use Rattle.frame.specs.declared.Placed.{Placed}
 use Rattle.frame.specs.declared.Placed.the-variants.{At, Absent}
 use Rattle.frame.proofs.Laws.{frame-inside}
 use Rattle.twice.specs.Ids.{idsIn, repeats}
-use Rattle.bundle.specs.Bundle.{Object, objectOf, Bundle, good, bad, bundleBy, bundleOf, idsOf, Sought, present, absent, objectWith, openBy}
-use Rattle.bundle.specs.declared.Opening.{Opening}
+use Rattle.bundle.specs.Bundle.{Object, objectOf, good, bad, bundleBy, bundleOf, idsOf, Sought, present, absent, objectWith, openBy}
 use Rattle.bundle.specs.declared.Opening.the-variants.{Open, Shut}
 
 -- the ids of the objects

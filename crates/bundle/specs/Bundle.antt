@@ -10,7 +10,6 @@ use Rattle.ground.specs.declared.Gate.{Gate}
 use Rattle.ground.specs.declared.Gate.the-variants as gate
 use Rattle.frame.specs.Frame.{headOf, framesBy, framesIn, whole}
 use Rattle.frame.specs.Place.{idIn}
-use Rattle.frame.specs.declared.Header.{Header}
 use Rattle.frame.specs.declared.Head.{Head}
 use Rattle.frame.specs.declared.Head.the-variants.{Good, Bad}
 use Rattle.frame.specs.declared.Frame.{Frame}

@@ -12,19 +12,16 @@ use lib.Seq.{take-at, drop-at, getD-at, drop-append-add, drop-drop, drop-cons, g
 use borrow.Author.Tests.{eq-eqb, eqb-true, le-leb, leb-true}
 use Rattle.ground.specs.Basics.{pick, ascii}
 use Rattle.ground.specs.Scan.{sameBytes}
-use Rattle.ground.specs.Verdict.{mostRecords, idLength}
+use Rattle.ground.specs.Verdict.{mostRecords, idLength, isSet}
 use Rattle.ground.proofs.Laws.{and-left, and-right, same-true, id-is}
-use Rattle.rules.specs.Gate.{isSet}
-use Rattle.frame.specs.Frame.{little, fieldsAt, byRules, byVersion, headOf, sizeOf, isFrame, frameOf, frameAt, Frames, done, fault, frame, onward, frames, framesBy, framesIn, whole}
+use Rattle.frame.specs.Frame.{little, fieldsAt, byRules, byVersion, headOf, sizeOf, isFrame, frameOf, frameAt, done, fault, onward, frames, framesBy, framesIn, whole}
 use Rattle.frame.specs.Place.{idIn}
 use Rattle.frame.specs.declared.Header.{Header}
 use Rattle.frame.specs.declared.Head.{Head}
 use Rattle.frame.specs.declared.Head.the-variants.{Good, Bad}
-use Rattle.frame.specs.declared.Frame.{Frame}
-use Rattle.frame.specs.declared.Framed.{Framed}
 use Rattle.frame.specs.declared.Framed.the-variants.{Whole, Broken}
 use Rattle.frame.proofs.Laws.{fields-good, head-one}
-use Rattle.bundle.specs.Bundle.{Object, objectOf, Bundle, good, bad, bundleBy, bundleOf}
+use Rattle.bundle.specs.Bundle.{Object, objectOf, good, bad, bundleBy, bundleOf}
 use Rattle.bundle_grammar.specs.Grammar.{asLittle, objectBytes, objectsBytes, Version, first, second, versionBytes, rulesOf, beginsAt, bundleBytes, IsObject, IsBundle, AreBytes, Joined}
 
 -- ---- numbers

@@ -11,7 +11,7 @@ use Rattle.ground.specs.Verdict.{verdict}
 use Rattle.actor.specs.Actor.{isActor}
 use Rattle.header.specs.Words.{treeWord, authorWord, committerWord}
 use Rattle.commit_line.specs.Line.{idAt, lineAt}
-use Rattle.header.specs.Record.{wellFormed, valueOf}
+use Rattle.header.specs.Record.{wellFormed, headerValue}
 use Rattle.header.specs.declared.HeaderRecord.{HeaderRecord}
 use Rattle.commit_line.specs.declared.Line.{Line}
 use Rattle.commit_line.specs.declared.Line.the-variants.{Value, Missing}
@@ -39,13 +39,13 @@ pub each-plan : (Q : Plan → Type 0) → ((v : List ℕ) → Q (stores v)) → 
 unfolding unfoldPlan gatePlan valuePlan roomPlan
 each-plan Q value two ten s x room eight =
     each-size (λ g. Q (gatePlan g (valuePlan s x room)))
-    (each-pick Q (wellFormed x (length s) && hasForm (x .mark) (valueOf s x)) (roomPlan v room) (refuses (verdict 10 0))
+    (each-pick Q (wellFormed x (length s) && hasForm (x .mark) (headerValue s x)) (roomPlan v room) (refuses (verdict 10 0))
     (each-within Q (length v) room (stores v) (refuses (verdict 8 (length v))) (λ p. value v) (eight (length v)))
     ten)
     two _ 0
   where
     v : List ℕ
-    v = plainOf (x .mark) (valueOf s x)
+    v = plainOf (x .mark) (headerValue s x)
 
 pub plan-kept : (out : List ℕ) (p : Plan) → Refusal (answerOf p .verdict) → afterOf out p ≡ out
 unfolding answerOf afterOf

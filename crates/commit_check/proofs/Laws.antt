@@ -18,7 +18,7 @@ use Rattle.ground.specs.declared.Gate.{Gate}
 use Rattle.ground.specs.declared.Gate.the-variants.{Open, Shut}
 use Rattle.hex.specs.Hex.{isHex}
 use Rattle.extra_header.specs.Extra.{foldedForm}
-use Rattle.header.specs.Record.{width, headerAt, wellFormed, valueOf}
+use Rattle.header.specs.Record.{width, headerAt, wellFormed, headerValue}
 use Rattle.header.proofs.Laws.{WellFormed, well-parts}
 use Rattle.header.specs.declared.HeaderRecord.{HeaderRecord}
 use Rattle.header.specs.declared.CommitParts.{CommitParts}
@@ -80,21 +80,21 @@ module _ (bytes : List ℕ) (x : HeaderRecord) where
   header-bad w = simp w
 
   module _ (w : wellFormed x (length bytes) ≡ true) where
-    pub header-one : x .mark ≡ 1 → headerFits bytes x ≡ foldedForm (valueOf bytes x)
+    pub header-one : x .mark ≡ 1 → headerFits bytes x ≡ foldedForm (headerValue bytes x)
     unfolding headerFits
-    header-one e = rw (w, form-folded (x .mark) (valueOf bytes x) e)
+    header-one e = rw (w, form-folded (x .mark) (headerValue bytes x) e)
 
     pub header-other : (x .mark ≡ 1 → ⊥) → headerFits bytes x ≡ true
     unfolding headerFits
-    header-other e = rw (w, form-any (x .mark) (valueOf bytes x) e)
+    header-other e = rw (w, form-any (x .mark) (headerValue bytes x) e)
 
   pub header-well : headerFits bytes x ≡ true → WellFormed x (length bytes)
   unfolding headerFits
-  header-well e = well-parts x (length bytes) (and-left (wellFormed x (length bytes)) (hasForm (x .mark) (valueOf bytes x)) e)
+  header-well e = well-parts x (length bytes) (and-left (wellFormed x (length bytes)) (hasForm (x .mark) (headerValue bytes x)) e)
 
-  pub header-form : headerFits bytes x ≡ true → hasForm (x .mark) (valueOf bytes x) ≡ true
+  pub header-form : headerFits bytes x ≡ true → hasForm (x .mark) (headerValue bytes x) ≡ true
   unfolding headerFits
-  header-form e = and-right (wellFormed x (length bytes)) (hasForm (x .mark) (valueOf bytes x)) e
+  header-form e = and-right (wellFormed x (length bytes)) (hasForm (x .mark) (headerValue bytes x)) e
 
 -- ---- a run of records
 

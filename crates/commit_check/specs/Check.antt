@@ -10,7 +10,7 @@ use Rattle.ground.specs.declared.Verdict.{Verdict}
 use Rattle.ground.specs.declared.Gate.{Gate}
 use Rattle.ground.specs.declared.Gate.the-variants.{Open, Shut}
 use Rattle.hex.specs.Hex.{isHex}
-use Rattle.header.specs.Record.{width, wellFormed, valueOf}
+use Rattle.header.specs.Record.{width, wellFormed, headerValue}
 use Rattle.header.specs.declared.HeaderRecord.{HeaderRecord}
 use Rattle.header.specs.declared.CommitParts.{CommitParts}
 use Rattle.unfold.specs.Unfold.{hasForm}
@@ -34,7 +34,7 @@ encodingFits len p = eqb (p .encoding) 0 || (eqb (p .encoding) 1 && ranged (p .�
 
 -- a header's record is well formed, and its value has the form that the mark says
 unfoldable pub headerFits : List ℕ → HeaderRecord → Bool
-headerFits bytes x = wellFormed x (length bytes) && hasForm (x .mark) (valueOf bytes x)
+headerFits bytes x = wellFormed x (length bytes) && hasForm (x .mark) (headerValue bytes x)
 
 -- the records in turn, each with whether it passes: tree, parents, author, committer, encoding, headers, message
 abbrev pub lastTests : List ℕ → CommitParts → List HeaderRecord → List Bool

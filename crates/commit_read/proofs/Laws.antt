@@ -17,7 +17,7 @@ use Rattle.commit_fields.specs.declared.Refusal.{Refusal}
 use Rattle.commit_fields.specs.declared.Found.{Found}
 use Rattle.commit_fields.specs.declared.Outcome.{Outcome}
 use Rattle.commit_fields.specs.declared.Outcome.the-variants.{Whole, Fails}
-use Rattle.commit_read.specs.Stored.{stored, written}
+use Rattle.commit_read.specs.Stored.{stored, headsStored}
 use Rattle.commit_fields.proofs.Laws.{starts-length, tally-count, flats-length}
 
 -- ---- the parents, stored
@@ -49,18 +49,18 @@ stored-all h l at n k =
 
 -- ---- the extra headers, stored
 
-pub written-end : (rec : List ℕ) (n : ℕ) {at : ℕ} (l : Heads) → l ≡ ended at → written rec n l ≡ rec
-unfolding written
+pub written-end : (rec : List ℕ) (n : ℕ) {at : ℕ} (l : Heads) → l ≡ ended at → headsStored rec n l ≡ rec
+unfolding headsStored
 written-end rec n l q = rw q
 
 pub written-more : (rec new : List ℕ) (n : ℕ) {x : HeaderRecord} (l m : Heads) → l ≡ header x m → new ≡ putHeader rec n x
-    → written rec n l ≡ written new (n + 1) m
-unfolding written
+    → headsStored rec n l ≡ headsStored new (n + 1) m
+unfolding headsStored
 written-more rec new n l m q p = rw (q, p)
 
 -- where there is room, storing the records one by one stores their flat numbers
-written-sets : (rec : List ℕ) (n : ℕ) (l : Heads) → n + length (recordsOf l) ≤ length rec / width → written rec n l ≡ sets rec (n * width) (flats (recordsOf l))
-unfolding written recordsOf flats
+written-sets : (rec : List ℕ) (n : ℕ) (l : Heads) → n + length (recordsOf l) ≤ length rec / width → headsStored rec n l ≡ sets rec (n * width) (flats (recordsOf l))
+unfolding headsStored recordsOf flats
 written-sets rec n (ended at) k = refl
 written-sets rec n (header x l) k =
     let e : putHeader rec n x ≡ sets rec (n * width) (flat x) = put-is rec n x (omega arith) in
@@ -69,7 +69,7 @@ written-sets rec n (header x l) k =
     written-sets (putHeader rec n x) (n + 1) l (rw m (omega arith)) ∙ rw (e, z)
 
 pub written-all : (rec : List ℕ) (l : Heads) (n : ℕ) → n ≡ length (recordsOf l) → n ≤ length rec / width
-    → written rec 0 l ≡ flats (recordsOf l) ++ drop (n * width) rec
+    → headsStored rec 0 l ≡ flats (recordsOf l) ++ drop (n * width) rec
 written-all rec l n q k =
     let z : 0 + length (flats (recordsOf l)) ≡ n * width = omega (arith, flats-length (recordsOf l)) in
     written-sets rec 0 l (omega arith) ∙ sets-eq (flats (recordsOf l)) rec 0 (omega arith) ∙ ap (λ (j : ℕ). flats (recordsOf l) ++ drop j rec) z
@@ -98,6 +98,6 @@ module _ (o : Outcome) where
   parents-done h l f q k = rw q (sym (stored-all h l (6 + 2 * h) (f .parents) k))
 
   pub headers-done : (s l : List ℕ) (f : Found) → o ≡ Whole f → f .headers ≡ tally 0 (heads s (f .first)) .count → f .headers ≤ length l / width
-      → headersIn s l o ≡ written l 0 (heads s (f .first))
+      → headersIn s l o ≡ headsStored l 0 (heads s (f .first))
   unfolding headersIn
   headers-done s l f q e k = rw q (sym (written-all l (heads s (f .first)) (f .headers) (omega (arith, e, tally-count 0 (heads s (f .first)))) k))

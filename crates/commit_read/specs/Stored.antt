@@ -11,6 +11,6 @@ stored h l i at zero = l
 stored h l i at (suc n) = stored h (set l i (at + 7)) (i + 1) (at + (8 + 2 * h)) n
 
 -- a list of numbers with every record stored, n of them already
-unfoldable pub written : List ℕ → ℕ → Heads → List ℕ
-written l n (ended at) = l
-written l n (header x r) = written (putHeader l n x) (n + 1) r
+unfoldable pub headsStored : List ℕ → ℕ → Heads → List ℕ
+headsStored l n (ended at) = l
+headsStored l n (header x r) = headsStored (putHeader l n x) (n + 1) r

@@ -3,7 +3,7 @@ ghost use mathlib.Core.Path.{_≡_};
 ghost use Prim.Native.Nat.{_+_, _*_, _<_, _≤_};
 ghost use lib.ListN.{length};
 ghost use Rattle.commit_fields.specs.Headers.{heads};
-ghost use Rattle.commit_read.specs.Stored.{stored, written};
+ghost use Rattle.commit_read.specs.Stored.{stored, headsStored};
 ghost use Rattle.commit_read.specs.Read.{refusedRead, doneRead, commitAnswer, commitParents, commitHeaders};
 use commit_fields::Found;
 use commit_fields::Outcome;
@@ -45,7 +45,7 @@ fn fill_parents(out: &mut [usize], n: usize, at: usize, h: usize)
 
 // The records of all extra headers from a place on, stored from the front.
 fn fill_headers(s: &[u8], at: usize, out: &mut [usize])
-    ensures { λ r. ⌜ now (out .exit) ≡ written (now (out .entry)) 0 (heads (now (s .entry)) at) ⌝ }
+    ensures { λ r. ⌜ now (out .exit) ≡ headsStored (now (out .entry)) 0 (heads (now (s .entry)) at) ⌝ }
 {
     let mut p = at;
     let mut n: usize = 0;

@@ -11,7 +11,7 @@ use borrow.Author.Tests.{le-leb}
 use Rattle.header.specs.Words.{authorWord, committerWord, encodingWord}
 use Rattle.commit_line.specs.Line.{lineAt}
 use Rattle.extra_header.specs.Extra.{extraAt}
-use Rattle.header.specs.Record.{headerOf, valueOf}
+use Rattle.header.specs.Record.{headerOf, headerValue}
 use Rattle.commit_line.specs.declared.Line.{Line}
 use Rattle.commit_line.specs.declared.Line.the-variants.{Value, Missing}
 use Rattle.extra_header.specs.declared.Extra.{Extra}
@@ -80,9 +80,9 @@ well s at x next k = go (k .read)
         } in
         rw (y .1) w
 
-form : (s : List ℕ) (x : HeaderRecord) {A : Type 0} → ((x .mark ≡ 0) × A) ⊎ ((x .mark ≡ 1) × FoldedForm (valueOf s x)) → hasForm (x .mark) (valueOf s x) ≡ true
-form s x (inl k) = form-any (x .mark) (valueOf s x) (λ z. omega (arith, k .0))
-form s x (inr k) = form-folded (x .mark) (valueOf s x) (k .0) ∙ folded-exactly (valueOf s x) .1 (k .1)
+form : (s : List ℕ) (x : HeaderRecord) {A : Type 0} → ((x .mark ≡ 0) × A) ⊎ ((x .mark ≡ 1) × FoldedForm (headerValue s x)) → hasForm (x .mark) (headerValue s x) ≡ true
+form s x (inl k) = form-any (x .mark) (headerValue s x) (λ z. omega (arith, k .0))
+form s x (inr k) = form-folded (x .mark) (headerValue s x) (k .0) ∙ folded-exactly (headerValue s x) .1 (k .1)
 
 -- a header that is read fits
 header-fits : (s : List ℕ) (at : ℕ) (x : HeaderRecord) (next : ℕ) → extraAt s at ≡ Got x next → headerFits s x ≡ true

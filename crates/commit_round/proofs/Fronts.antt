@@ -20,7 +20,7 @@ use Rattle.commit_grammar.specs.Named.{named}
 use Rattle.commit_grammar.proofs.Refusals.{BadOutcome, outcome-bad}
 use Rattle.commit_check.specs.Check.{headersOf}
 use Rattle.commit_write.specs.Written.{lowerHex}
-use Rattle.commit_write.specs.Write.{commitNamed, written}
+use Rattle.commit_write.specs.Write.{commitNamed, partsWritten}
 use Rattle.commit_round.specs.Round.{LowerIds}
 use Rattle.commit_round.specs.Claims.{parentsFront, headersFront}
 use Rattle.commit_round.proofs.Rewriting.{read-rewrites}
@@ -75,5 +75,5 @@ module _ (s : List ℕ) (h : ℕ) (ps hs : List ℕ) (v : commitAnswer s h ps hs
   -- an accepted commit with its ids in lower case is written as itself
   pub read-written : lowerHex (commitNamed h s (commitAnswer s h ps hs .parts) (parentsFront s h ps hs) (headersFront s h ps hs) .tree) ≡ commitNamed h s (commitAnswer s h ps hs .parts) (parentsFront s h ps hs) (headersFront s h ps hs) .tree
       → LowerIds (commitNamed h s (commitAnswer s h ps hs .parts) (parentsFront s h ps hs) (headersFront s h ps hs) .parents)
-      → written h s (commitAnswer s h ps hs .parts) (parentsFront s h ps hs) (headersFront s h ps hs) ≡ s
+      → partsWritten h s (commitAnswer s h ps hs .parts) (parentsFront s h ps hs) (headersFront s h ps hs) ≡ s
   read-written t l = read-rewrites s h ps hs v (commitNamed h s (commitAnswer s h ps hs .parts) (parentsFront s h ps hs) (headersFront s h ps hs)) fronts-name t l

@@ -8,7 +8,7 @@ use mathlib.Core.Logic.{_⊎_, inl, inr}
 use native.Mathlib.Omega.{arith}
 use borrow.Author.Tests.{eq-eqb, ne-eqb}
 use Rattle.ground.specs.Scan.{freeOf}
-use Rattle.grammar.specs.Grammar.{Header, Commit, headerBytes, headersBytes, commitBytes, FoldedForm, HeaderForm, HeaderForms, CommitForm}
+use Rattle.grammar.specs.Grammar.{Header, headerBytes, headersBytes, commitBytes, FoldedForm, HeaderForm, HeaderForms, CommitForm}
 use Rattle.commit_grammar.proofs.Theorems.{read-is-commit}
 use Rattle.commit_write.specs.Written.{lowerHex, headerWritten, headersWritten, commitWritten}
 use Rattle.commit_round.specs.Round.{LowerIds}

@@ -41,7 +41,7 @@ AcceptedRewrites =
     → (c : Commit) → c ≡ named h s (commitAnswer s h ps hs) (commitParents s h ps hs) (commitHeaders s h ps hs)
     → lowerHex (c .tree) ≡ c .tree → LowerIds (c .parents) → (c .encoding ≡ given [] → ⊥)
     → (write.commitAnswer h s (commitAnswer s h ps hs .parts) (parentsFront s h ps hs) (headersFront s h ps hs) room ≡ counted (length s))
-    × (write.written h s (commitAnswer s h ps hs .parts) (parentsFront s h ps hs) (headersFront s h ps hs) ≡ s)
+    × (write.partsWritten h s (commitAnswer s h ps hs .parts) (parentsFront s h ps hs) (headersFront s h ps hs) ≡ s)
 
 -- with two lines or more, what is written of a value has the folded form, and unfolds to the value
 abbrev pub FoldUnfolds : Type 0

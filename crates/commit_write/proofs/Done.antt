@@ -16,7 +16,7 @@ use Rattle.output.proofs.Laws.{fitted-fine, fitted-done}
 use Rattle.header.specs.declared.CommitParts.{CommitParts}
 use Rattle.commit_check.specs.Sound.{Sound}
 use Rattle.commit_check.proofs.Laws.{checked-sound, sound-checked}
-use Rattle.commit_write.specs.Write.{encodingNamed, written, measured, encodingRefusal, commitSize, commitAnswer}
+use Rattle.commit_write.specs.Write.{encodingNamed, partsWritten, measured, encodingRefusal, commitSize, commitAnswer}
 use Rattle.commit_write.proofs.Laws.{measured-fine, measured-checked, measured-length, checked-less, answer-bad, answer-fault, answer-fits}
 
 module _ (h : ℕ) (bytes : List ℕ) (p : CommitParts) (parents headers : List ℕ) (room : ℕ) where
@@ -43,7 +43,7 @@ module _ (h : ℕ) (bytes : List ℕ) (p : CommitParts) (parents headers : List 
         × (fitted room (measured h bytes p parents headers room) ≡ measured h bytes p parents headers room)
     had-room = fitted-done room (measured h bytes p parents headers room) (sym (ap (λ (a : Answer). a .verdict .number) fits) ∙ z)
 
-    done-counted : commitAnswer h bytes p parents headers room ≡ counted (length (written h bytes p parents headers))
+    done-counted : commitAnswer h bytes p parents headers room ≡ counted (length (partsWritten h bytes p parents headers))
     done-counted = fits ∙ had-room .2 ∙ measured-fine h bytes p parents headers room (measured-checked h bytes p parents headers room done-measured)
 
     pub done-size : commitSize h bytes p parents headers ≡ commitAnswer h bytes p parents headers room
@@ -51,16 +51,16 @@ module _ (h : ℕ) (bytes : List ℕ) (p : CommitParts) (parents headers : List 
         measured-fine h bytes p parents headers 0 (checked-less h bytes p parents headers room (measured-checked h bytes p parents headers room done-measured))
         ∙ sym done-counted
 
-    pub done-length : commitAnswer h bytes p parents headers room .count ≡ length (written h bytes p parents headers)
+    pub done-length : commitAnswer h bytes p parents headers room .count ≡ length (partsWritten h bytes p parents headers)
     done-length = ap (λ (a : Answer). a .count) done-counted
 
-    pub done-fits : length (written h bytes p parents headers) ≤ room
+    pub done-fits : length (partsWritten h bytes p parents headers) ≤ room
     done-fits = omega (arith, measured-length h bytes p parents headers room done-measured, had-room .1)
 
   -- a commit that passes, with an encoding that may be written, is written where there is room
-  pub writes : Sound h bytes p parents headers room → encodingRefusal (encodingNamed bytes p) ≡ 0 → length (written h bytes p parents headers) ≤ room
-      → commitAnswer h bytes p parents headers room ≡ counted (length (written h bytes p parents headers))
+  pub writes : Sound h bytes p parents headers room → encodingRefusal (encodingNamed bytes p) ≡ 0 → length (partsWritten h bytes p parents headers) ≤ room
+      → commitAnswer h bytes p parents headers room ≡ counted (length (partsWritten h bytes p parents headers))
   writes s e l =
       let m = measured-fine h bytes p parents headers room (ap (λ (v : Verdict). v .number) (sound-checked h bytes p parents headers room s)) in
       answer-fits h bytes p parents headers room (ap (λ (a : Answer). a .verdict .number) m) e
-      ∙ rw m (fitted-fine room (counted (length (written h bytes p parents headers))) refl l)
+      ∙ rw m (fitted-fine room (counted (length (partsWritten h bytes p parents headers))) refl l)

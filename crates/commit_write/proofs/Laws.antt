@@ -3,7 +3,7 @@ use native.Mathlib.Nat.{suc-mul}
 use native.Mathlib.Numerals.{add-one}
 use native.Mathlib.Omega.{arith}
 use Prim.Native.Nat.{ℕ, suc, _+_, _-_, _*_, _/_, _<_, _≤_}
-use mathlib.Core.Path.{_≡_, refl, ap, sym, _∙_}
+use mathlib.Core.Path.{_≡_, ap, sym, _∙_}
 use mathlib.Core.Bool.{Bool, true, false}
 use mathlib.Core.List.{List, [], _∷_, _++_, map}
 use mathlib.Core.Logic.{⊎-elim}
@@ -13,16 +13,15 @@ use lib.Seq.{sets, drop-cons, append-snoc}
 use borrow.Author.Tests.{eq-eqb, ne-eqb}
 use Rattle.ground.specs.Basics.{pick, part}
 use Rattle.ground.specs.Verdict.{verdict, counted, refused, mostBytes, mostRecords}
-use Rattle.ground.specs.Scan.{countTo, freeOf}
 use Rattle.ground.specs.declared.Verdict.{Verdict}
 use Rattle.ground.specs.declared.Answer.{Answer}
-use Rattle.ground.proofs.Laws.{equal, is-false, id-small, free-whole, whole-free, sets-append}
+use Rattle.ground.proofs.Laws.{equal, id-small, sets-append}
 use Rattle.output.specs.Output.{fitted}
 use Rattle.output.proofs.Laws.{sets-ended, fitted-bad}
 pub use Rattle.hex.proofs.Laws.{digit-low, digit-high, digit-letter}
 pub use Rattle.commit_value.proofs.Laws.{Left, left-all, left-next, left-none}
 use Rattle.header.specs.Words.{treeWord, parentWord, authorWord, committerWord, encodingWord}
-use Rattle.header.specs.Record.{width, headerAt, nameOf, valueOf}
+use Rattle.header.specs.Record.{width, headerAt, nameOf, headerValue}
 use Rattle.header.specs.declared.HeaderRecord.{HeaderRecord}
 use Rattle.header.specs.declared.CommitParts.{CommitParts}
 use Rattle.grammar.specs.Grammar.{absent, given, line, parentsBytes, encodingBytes}
@@ -34,7 +33,7 @@ use Rattle.commit_check.proofs.Laws.{checked-sound, sound-checked, pass-first, 
 use Rattle.commit_value.specs.Fold.{foldValue, valueWritten, mostPlace, valueAt}
 use Rattle.commit_value.proofs.Laws.{fold-le, value-inside}
 use Rattle.commit_write.specs.Written.{lowerDigit, lowerHex, headerWritten, headersWritten, commitWritten}
-use Rattle.commit_write.specs.Write.{encodingNamed, written, measured, encodingRefusal, encoded, commitAnswer}
+use Rattle.commit_write.specs.Write.{encodingNamed, partsWritten, measured, encodingRefusal, encoded, commitAnswer}
 
 -- ---- pieces stored one after another
 
@@ -107,27 +106,27 @@ named-length h bytes from p = part-length bytes from (from + 2 * h) (omega arith
 -- ---- a header
 
 module _ (bytes : List ℕ) (x : HeaderRecord) where
-  header-pieces : headerWritten (headerNamed bytes x) ≡ (nameOf bytes x ++ 32 ∷ []) ++ valueWritten (x .mark) (valueOf bytes x)
+  header-pieces : headerWritten (headerNamed bytes x) ≡ (nameOf bytes x ++ 32 ∷ []) ++ valueWritten (x .mark) (headerValue bytes x)
   unfolding headerWritten
-  header-pieces = sym (append-snoc (nameOf bytes x) 32 (valueWritten (x .mark) (valueOf bytes x)))
+  header-pieces = sym (append-snoc (nameOf bytes x) 32 (valueWritten (x .mark) (headerValue bytes x)))
 
   pub name-length : headerFits bytes x ≡ true → length (nameOf bytes x) ≡ x .«name_end» - x .«name_start»
   name-length f = let w = header-well bytes x f in part-length bytes (x .«name_start») (x .«name_end») (w .name-forward) (w .name-inside)
 
-  pub value-length : headerFits bytes x ≡ true → length (valueOf bytes x) ≡ x .«value_end» - x .«value_start»
+  pub value-length : headerFits bytes x ≡ true → length (headerValue bytes x) ≡ x .«value_end» - x .«value_start»
   value-length f = let w = header-well bytes x f in part-length bytes (x .«value_start») (x .«value_end») (w .value-forward) (w .value-inside)
 
   -- so no sum of sizes leaves 64 bits
   pub header-le : headerFits bytes x ≡ true → length bytes ≤ mostBytes → length (headerWritten (headerNamed bytes x)) ≤ 3221225474
   unfolding headerWritten
   header-le f p =
-      go (eqb (x .mark) 1) (length-append (nameOf bytes x) (32 ∷ pick (eqb (x .mark) 1) (valueOf bytes x) (foldValue (valueOf bytes x))))
+      go (eqb (x .mark) 1) (length-append (nameOf bytes x) (32 ∷ pick (eqb (x .mark) 1) (headerValue bytes x) (foldValue (headerValue bytes x))))
     where
-      go : (t : Bool) → length (nameOf bytes x ++ 32 ∷ pick t (valueOf bytes x) (foldValue (valueOf bytes x)))
-          ≡ length (nameOf bytes x) + suc (length (pick t (valueOf bytes x) (foldValue (valueOf bytes x))))
-          → length (nameOf bytes x ++ 32 ∷ pick t (valueOf bytes x) (foldValue (valueOf bytes x))) ≤ 3221225474
+      go : (t : Bool) → length (nameOf bytes x ++ 32 ∷ pick t (headerValue bytes x) (foldValue (headerValue bytes x)))
+          ≡ length (nameOf bytes x) + suc (length (pick t (headerValue bytes x) (foldValue (headerValue bytes x))))
+          → length (nameOf bytes x ++ 32 ∷ pick t (headerValue bytes x) (foldValue (headerValue bytes x))) ≤ 3221225474
       go true q = let w = header-well bytes x f in omega (arith, q, name-length f, value-length f, w)
-      go false q = let w = header-well bytes x f in omega (arith, q, name-length f, value-length f, w, fold-le (valueOf bytes x))
+      go false q = let w = header-well bytes x f in omega (arith, q, name-length f, value-length f, w, fold-le (headerValue bytes x))
 
   -- what its name and its value ask where they are stored
   module _ (f : headerFits bytes x ≡ true) (p : length bytes ≤ mostBytes) (at : ℕ) (m : at + 3221225474 ≤ mostPlace) where
@@ -136,15 +135,15 @@ module _ (bytes : List ℕ) (x : HeaderRecord) where
 
     -- stored: name and space, then the value
     pub header-put : (l n r : List ℕ) (value end : ℕ) → value ≡ at + length (nameOf bytes x ++ 32 ∷ []) → n ≡ sets l at (nameOf bytes x ++ 32 ∷ [])
-        → end ≡ value + length (valueAt value (x .mark) (valueOf bytes x)) → r ≡ sets n value (valueAt value (x .mark) (valueOf bytes x))
+        → end ≡ value + length (valueAt value (x .mark) (headerValue bytes x)) → r ≡ sets n value (valueAt value (x .mark) (headerValue bytes x))
         → (end ≡ at + length (headerWritten (headerNamed bytes x))) × (r ≡ sets l at (headerWritten (headerNamed bytes x)))
     header-put l n r value end a b d g =
         let w = header-well bytes x f in
         let near : value ≤ mostPlace = omega (arith, a, length-append (nameOf bytes x) (32 ∷ []), name-length f, w .name-inside) in
-        let short : length (valueOf bytes x) ≤ mostBytes = omega (arith, value-length f, w .value-inside) in
-        let e = value-inside value (x .mark) (valueOf bytes x) near short in
-        let k : Put l at ((nameOf bytes x ++ 32 ∷ []) ++ valueWritten (x .mark) (valueOf bytes x)) r end =
-        put-then (put-of l at (nameOf bytes x ++ 32 ∷ []) n value a b) (put-of n value (valueWritten (x .mark) (valueOf bytes x)) r end (rw e at d) (rw e at g)) in
+        let short : length (headerValue bytes x) ≤ mostBytes = omega (arith, value-length f, w .value-inside) in
+        let e = value-inside value (x .mark) (headerValue bytes x) near short in
+        let k : Put l at ((nameOf bytes x ++ 32 ∷ []) ++ valueWritten (x .mark) (headerValue bytes x)) r end =
+        put-then (put-of l at (nameOf bytes x ++ 32 ∷ []) n value a b) (put-of n value (valueWritten (x .mark) (headerValue bytes x)) r end (rw e at d) (rw e at g)) in
         let q : Put l at (headerWritten (headerNamed bytes x)) r end = rw header-pieces k in
         (q .past, q .holds)
 
@@ -330,7 +329,7 @@ pub commit-put : (h : ℕ) (bytes : List ℕ) (p : CommitParts) (parents headers
     → Put l4 d (encodingBytes (encodingNamed bytes p)) l5 e
     → Put l5 e (headersWritten (map (headerNamed bytes) (headersOf headers))) l6 f
     → Put l6 f (10 ∷ part (p .«message_start») (p .«message_end») bytes) l7 g
-    → Put l 0 (written h bytes p parents headers) l7 g
+    → Put l 0 (partsWritten h bytes p parents headers) l7 g
 unfolding commitWritten
 commit-put h bytes p parents headers x1 x2 x3 x4 x5 x6 x7 = put-then x1 (put-then x2 (put-then x3 (put-then x4 (put-then x5 (put-then x6 x7)))))
 
@@ -341,7 +340,7 @@ module _ (h : ℕ) (bytes : List ℕ) (p : CommitParts) (parents headers : List 
   unfolding measured
   measured-bad z = simp (ne-eqb (checked h bytes p parents headers room .number) 0 z)
 
-  pub measured-fine : checked h bytes p parents headers room .number ≡ 0 → measured h bytes p parents headers room ≡ counted (length (written h bytes p parents headers))
+  pub measured-fine : checked h bytes p parents headers room .number ≡ 0 → measured h bytes p parents headers room ≡ counted (length (partsWritten h bytes p parents headers))
   unfolding measured
   measured-fine z = simp (eq-eqb (checked h bytes p parents headers room .number) 0 z)
 
@@ -350,7 +349,7 @@ module _ (h : ℕ) (bytes : List ℕ) (p : CommitParts) (parents headers : List 
   measured-checked z =
       ⊎-elim (λ e. e) (λ n. absurd (n (ap (λ (a : Answer). a .verdict .number) (sym (measured-bad n)) ∙ z))) (equal (checked h bytes p parents headers room .number) 0)
 
-  pub measured-length : measured h bytes p parents headers room .verdict .number ≡ 0 → measured h bytes p parents headers room .count ≡ length (written h bytes p parents headers)
+  pub measured-length : measured h bytes p parents headers room .verdict .number ≡ 0 → measured h bytes p parents headers room .count ≡ length (partsWritten h bytes p parents headers)
   measured-length z = ap (λ (a : Answer). a .count) (measured-fine (measured-checked z))
 
   -- with less room nothing else is refused

@@ -18,7 +18,7 @@ use Rattle.grammar.specs.Named.{recordsFrom}
 use Rattle.commit_check.specs.Check.{ranged, idFits, encodingFits, headerFits, judged, after, checked}
 use Rattle.commit_value.specs.Fold.{foldRest, foldValue}
 use Rattle.commit_write.specs.Written.{lowerDigit, headerWritten, headersWritten, commitWritten}
-use Rattle.commit_write.specs.Write.{written, measured, encodingRefusal, encoded, commitSize, commitAnswer}
+use Rattle.commit_write.specs.Write.{partsWritten, measured, encodingRefusal, encoded, commitSize, commitAnswer}
 
 -- a writing with ids of 20 bytes: the parts, the lent lists, the output before; the answer, the size asked alone, and the output after
 pub record Example : Type 0 where
@@ -140,7 +140,7 @@ unfolding examples idLength sizeGate gateOf placeFrom hexValue foldFrom foldEnd 
 sizes-hold = refl
 
 abbrev outputAfter : Example → List ℕ
-outputAfter e = stored (commitAnswer 20 lent (e .parts) (e .parents) (e .headers) (length (e .room)) .verdict) (written 20 lent (e .parts) (e .parents) (e .headers)) (e .room)
+outputAfter e = stored (commitAnswer 20 lent (e .parts) (e .parents) (e .headers) (length (e .room)) .verdict) (partsWritten 20 lent (e .parts) (e .parents) (e .headers)) (e .room)
 
 pub outputs-hold : map outputAfter examples ≡ map (λ (e : Example). e .output) examples
 unfolding examples idLength sizeGate gateOf fitted stored placeFrom hexValue foldFrom foldEnd foldedForm headerAt wellFormed hasForm parentsBytes encodingBytes recordsFrom ranged idFits encodingFits headerFits judged after checked foldRest foldValue lowerDigit headerWritten headersWritten commitWritten measured encodingRefusal encoded commitAnswer

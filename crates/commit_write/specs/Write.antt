@@ -24,14 +24,14 @@ abbrev pub encodingNamed : List ℕ → CommitParts → Encoding
 encodingNamed bytes p = pick (eqb (p .encoding) 1) (given (part (p .«encoding_start») (p .«encoding_end») bytes)) absent
 
 -- its bytes
-abbrev pub written : ℕ → List ℕ → CommitParts → List ℕ → List ℕ → List ℕ
-written h bytes p parents headers = commitWritten (commitNamed h bytes p parents headers)
+abbrev pub partsWritten : ℕ → List ℕ → CommitParts → List ℕ → List ℕ → List ℕ
+partsWritten h bytes p parents headers = commitWritten (commitNamed h bytes p parents headers)
 
 -- 1, 2, 10, or the length of what is written
 unfoldable pub measured : ℕ → List ℕ → CommitParts → List ℕ → List ℕ → ℕ → Answer
 measured h bytes p parents headers room =
     pick (eqb (checked h bytes p parents headers room .number) 0)
-    (counted (length (written h bytes p parents headers)))
+    (counted (length (partsWritten h bytes p parents headers)))
     (refused (checked h bytes p parents headers room))
 
 -- an answer that is done is refused where the encoding is

@@ -1,5 +1,5 @@
 -- The bytes of a commit as it is written (docs/FORMAT.md, "Commit writing"). Assumes nothing.
-use Prim.Native.Nat.{ℕ, _+_}
+use Prim.Native.Nat.{ℕ}
 use mathlib.Core.List.{List, [], _∷_, _++_, map}
 use lib.Dec.{eqb}
 use Rattle.ground.specs.Basics.{pick}

@@ -14,7 +14,7 @@ ghost use Rattle.grammar.specs.Named.{idNamed, headerNamed};
 ghost use Rattle.commit_check.specs.Check.{headersOf, idFits, encodingFits, headerFits, passing, checked};
 ghost use Rattle.commit_value.specs.Fold.{mostPlace};
 ghost use Rattle.commit_write.specs.Written.{lowerHex, headerWritten, headersWritten};
-ghost use Rattle.commit_write.specs.Write.{encodingNamed, written, encodingRefusal, measured, commitSize, commitAnswer};
+ghost use Rattle.commit_write.specs.Write.{encodingNamed, partsWritten, encodingRefusal, measured, commitSize, commitAnswer};
 use commit_check::check_commit;
 use commit_value::encoding_fault;
 use commit_value::put_byte;
@@ -176,8 +176,8 @@ fn put_commit(
     headers: &[usize],
 ) -> usize
     requires { ⌜ checked h (now bytes) parts (now parents) (now headers) 0 .number ≡ 0 ⌝ }
-    ensures { λ r. ⌜ r ≡ length (written h (now (bytes .entry)) parts (now (parents .entry)) (now (headers .entry))) ⌝ }
-    ensures { λ _. ⌜ now (out .exit) ≡ sets (now (out .entry)) 0 (written h (now (bytes .entry)) parts (now (parents .entry)) (now (headers .entry))) ⌝ }
+    ensures { λ r. ⌜ r ≡ length (partsWritten h (now (bytes .entry)) parts (now (parents .entry)) (now (headers .entry))) ⌝ }
+    ensures { λ _. ⌜ now (out .exit) ≡ sets (now (out .entry)) 0 (partsWritten h (now (bytes .entry)) parts (now (parents .entry)) (now (headers .entry))) ⌝ }
 {
     let a = put_id_line(out, 0, b"tree", bytes, h, parts.tree);
     let b = put_parents(out, a, bytes, h, parents);
@@ -262,7 +262,7 @@ pub fn write_commit(
     out: &mut [u8],
 ) -> Answer
     ensures { λ r. ⌜ r ≡ commitAnswer h (now (bytes .entry)) parts (now (parents .entry)) (now (headers .entry)) (length (now (out .entry))) ⌝ }
-    ensures { λ _. ⌜ now (out .exit) ≡ stored (commitAnswer h (now (bytes .entry)) parts (now (parents .entry)) (now (headers .entry)) (length (now (out .entry))) .verdict) (written h (now (bytes .entry)) parts (now (parents .entry)) (now (headers .entry))) (now (out .entry)) ⌝ }
+    ensures { λ _. ⌜ now (out .exit) ≡ stored (commitAnswer h (now (bytes .entry)) parts (now (parents .entry)) (now (headers .entry)) (length (now (out .entry))) .verdict) (partsWritten h (now (bytes .entry)) parts (now (parents .entry)) (now (headers .entry))) (now (out .entry)) ⌝ }
 {
     let a = measure(bytes, h, parts, parents, headers, out.len());
     let refusal = a.verdict.number;

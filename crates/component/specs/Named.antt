@@ -6,7 +6,6 @@ use Rattle.ground.specs.Basics.{pick}
 use Rattle.ground.specs.Scan.{sameBytes}
 use Rattle.entry.specs.Record.{nameOf}
 use Rattle.entry.specs.Entry.{Entry, entriesOf}
-use Rattle.entry.specs.declared.EntryRecord.{EntryRecord}
 use Rattle.reading.specs.Listing.{Listing, done, stop, entry, plain, recordsIn}
 use Rattle.component.specs.declared.Named.{Named}
 use Rattle.component.specs.declared.Named.the-variants as named

@@ -12,7 +12,7 @@ use Rattle.ground.specs.declared.Verdict.{Verdict}
 use Rattle.mode.specs.Read.{isOctal, textLen, settle, readMode}
 use Rattle.mode.specs.Write.{writeMode}
 use Rattle.mode.specs.declared.ModeRead.the-variants.{Mode}
-use Rattle.order.specs.Order.{byNumber, orElse, nameOrder}
+use Rattle.order.specs.Order.{byNumber, thenBy, nameOrder}
 use Rattle.order.specs.declared.Order.{Order}
 use Rattle.order.specs.declared.Order.the-variants.{Below, Same, Above}
 use Rattle.entry.specs.Record.{recordsOf, nameOf, idOf}
@@ -66,7 +66,7 @@ unfoldable pub byteOrder : List ℕ → List ℕ → Order
 byteOrder [] [] = Same
 byteOrder [] (y ∷ b) = Below
 byteOrder (x ∷ a) [] = Above
-byteOrder (x ∷ a) (y ∷ b) = orElse (byNumber x y) (byteOrder a b)
+byteOrder (x ∷ a) (y ∷ b) = thenBy (byNumber x y) (byteOrder a b)
 
 -- a name as Git sorts it: a folder's has a slash behind it
 abbrev pub sorted : List ℕ → Bool → List ℕ

@@ -49,4 +49,4 @@ pub record SizeSentences : Type 0 where
   pub same-commit-size : (h : ℕ) (bytes : List ℕ) (p : CommitParts) (parents headers : List ℕ) (room : ℕ) → commitAnswer h bytes p parents headers room .verdict .number ≡ 0
       → commitSize h bytes p parents headers ≡ commitAnswer h bytes p parents headers room
   pub true-commit-size : (h : ℕ) (bytes : List ℕ) (p : CommitParts) (parents headers : List ℕ) (room : ℕ) → commitAnswer h bytes p parents headers room .verdict .number ≡ 0
-      → commitAnswer h bytes p parents headers room .count ≡ length (commit.written h bytes p parents headers)
+      → commitAnswer h bytes p parents headers room .count ≡ length (commit.partsWritten h bytes p parents headers)

@@ -42,6 +42,25 @@ fn compare_with(
     walk_trees(bundle, k, left, right, items, paths, &list[..n])
 }
 
+// The same with a list that has room for all: its length is known from its type, so no proof computes so long a list.
+fn compare_lent(
+    bundle: &[u8],
+    k: Header,
+    left: &[u8],
+    right: &[u8],
+    items: &mut [usize],
+    paths: &mut [u8],
+    list: &mut [u32; 1048576],
+) -> Answer
+    requires { ⌜ length (now bundle) ≤ mostBytes ⌝ }
+    requires { ⌜ IsIndex (now bundle) k [] ⌝ }
+    ensures { λ r. ⌜ r ≡ fitted (itemsIn (length (now (items .entry)))) (length (now (paths .entry))) (differences k (now (bundle .entry)) (now (left .entry)) (now (right .entry))) ⌝ }
+    ensures { λ r. ⌜ now (items .exit) ≡ stored (r .verdict) (numbersOf 0 (differences k (now (bundle .entry)) (now (left .entry)) (now (right .entry)) .items)) (now (items .entry)) ⌝ }
+    ensures { λ r. ⌜ now (paths .exit) ≡ stored (r .verdict) (pathsOf (differences k (now (bundle .entry)) (now (left .entry)) (now (right .entry)) .items)) (now (paths .entry)) ⌝ }
+{
+    compare_with(bundle, k, left, right, items, paths, list)
+}
+
 // With room for an index of all objects: four mebibytes of the stack. The call of itself is never reached. It is there because the compiler
 // lays no function that calls itself into its callers: only such a bundle takes this one's stack.
 fn compare_large(
@@ -63,7 +82,7 @@ fn compare_large(
         return compare_large(bundle, k, left, right, items, paths);
     }
     let mut list = [0u32; 1048576];
-    compare_with(bundle, k, left, right, items, paths, &mut list)
+    compare_lent(bundle, k, left, right, items, paths, &mut list)
 }
 
 // With an index: where there are more than 1,024 objects it takes four mebibytes of the stack.

@@ -1,14 +1,13 @@
 -- In order, no two items have one path and sort. Assumes nothing.
-use Prim.Native.Nat.{ℕ, zero, suc, _+_}
-use mathlib.Core.Bool.{Bool, true, false, _&&_, _||_, not}
+use Prim.Native.Nat.{ℕ}
+use mathlib.Core.Bool.{Bool, true, false, not}
 use mathlib.Core.Path.{_≡_, refl, ap, sym, subst, _∙_}
-use mathlib.Core.List.{List, [], _∷_, _++_, append-assoc, append-nil}
+use mathlib.Core.List.{List, [], _∷_, _++_, append-assoc}
 use mathlib.Core.Logic.{_⊎_, inl, inr}
 use native.Mathlib.Omega.{arith}
-use borrow.Author.Tests.{eq-eqb, ne-eqb}
 use lib.Dec.{eqb}
 use lib.ListN.{length, length-append}
-use Rattle.ground.specs.Scan.{freeOf, sameBytes}
+use Rattle.ground.specs.Scan.{freeOf}
 use Rattle.ground.proofs.Laws.{and-right}
 use Rattle.order.specs.Order.{nameOrder}
 use Rattle.order.specs.declared.Order.the-variants.{Below}

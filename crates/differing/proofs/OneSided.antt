@@ -1,11 +1,11 @@
 -- Compared with nothing, a folder is listed whole. Assumes nothing.
-use Prim.Native.Nat.{ℕ, zero, suc, _+_}
+use Prim.Native.Nat.{ℕ, zero, suc}
 use mathlib.Core.Bool.{Bool, true, false}
-use mathlib.Core.Path.{_≡_, refl, ap, sym, _∙_}
+use mathlib.Core.Path.{_≡_, refl}
 use mathlib.Core.List.{List, [], _∷_}
 use Rattle.ground.specs.Basics.{pick}
-use Rattle.item.specs.Items.{Side, absent, Named, isFolder, Item, Folder, shut, holds, join}
-use Rattle.walk.specs.Walk.{Out, nothing, put, andThen, Lower, change, rights, against, compareEntries, opened, compareFolders, Done}
+use Rattle.item.specs.Items.{Named, isFolder, Folder, shut, holds, join}
+use Rattle.walk.specs.Walk.{Out, nothing, Lower, change, rights, against, compareEntries, opened, compareFolders}
 use Rattle.differing.specs.Differing.{everyEntry, everything, leftItem, rightItem, OneSide}
 use Rattle.walk.proofs.Walks.{then-same}
 

@@ -4,12 +4,10 @@ use mathlib.Core.Bool.{Bool, true, false, _&&_, _||_, not}
 use mathlib.Core.Path.{_≡_, refl, ap, sym, subst, _∙_}
 use mathlib.Core.List.{List, [], _∷_, _++_, append-nil}
 use mathlib.Core.Logic.{_⊎_, inl, inr}
-use native.Mathlib.Omega.{arith}
 use borrow.Author.Tests.{eqb-true, eqb-false}
 use lib.Dec.{eqb, ltb}
 use lib.ListN.{length}
 use Rattle.ground.specs.Basics.{pick}
-use Rattle.ground.specs.Scan.{freeOf}
 use Rattle.ground.specs.Verdict.{verdict, fine, mostRecords}
 use Rattle.mode.specs.Mode.{valueOf, sortOf, isTree}
 use Rattle.order.specs.Order.{nameOrder, opposite}
@@ -21,7 +19,7 @@ use Rattle.rules.proofs.Laws.{permitted-parts}
 use Rattle.item.specs.Items.{Side, absent, Named, isFolder, Item, Folder, shut, holds, join, sameId, sameSide}
 use Rattle.walk.specs.Walk.{Out, refusedBy, nothing, put, andThen, Lower, change, leftOnly, rightOnly, both, rights, against, compareEntries, opened, compareFolders, Done}
 use Rattle.merge.specs.Merge.{byOrder}
-use Rattle.differing.specs.Differing.{ofFolder, Bound, any, past, Beyond, Ascending, InOrder, none, block, GitOrder}
+use Rattle.differing.specs.Differing.{Bound, any, past, Beyond, Ascending, InOrder, none, block, GitOrder}
 use Rattle.walk.proofs.Walks.{then-is, then-stop, put-done}
 
 done-or : (o : Out) → Done o ⊎ (Done o → ⊥)

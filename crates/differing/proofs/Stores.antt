@@ -1,31 +1,26 @@
 -- What strict reading opens is in order, so all of it holds of every store. Assumes nothing.
-use Prim.Native.Nat.{ℕ, zero, suc, _+_}
+use Prim.Native.Nat.{ℕ}
 use mathlib.Core.Bool.{Bool, true, false}
-use mathlib.Core.Path.{_≡_, refl, ap, sym, subst, _∙_}
+use mathlib.Core.Path.{_≡_, refl, subst}
 use mathlib.Core.List.{List, [], _∷_, map}
-use mathlib.Core.Logic.{_⊎_, inl, inr}
 use native.Mathlib.Omega.{arith}
-use borrow.Author.Tests.{eqb-true, eqb-false}
+use borrow.Author.Tests.{eqb-true}
 use lib.Dec.{eqb}
 use Rattle.ground.specs.Basics.{pick}
-use Rattle.ground.specs.Scan.{freeOf}
 use Rattle.ground.specs.Verdict.{verdict}
 use Rattle.mode.specs.Mode.{isTree}
 use Rattle.order.specs.Order.{nameOrder}
-use Rattle.order.specs.declared.Order.{Order}
-use Rattle.order.specs.declared.Order.the-variants.{Below, Same, Above}
+use Rattle.order.proofs.Laws.{below-is}
 use Rattle.entry.specs.Entry as entries
 use Rattle.entry.specs.Entry.{Entry}
-use Rattle.entry.specs.declared.EntryRecord.{EntryRecord}
-use Rattle.reading.specs.Listing.{Listing, done, stop, entry, listing, recordsIn, tally}
+use Rattle.reading.specs.Listing.{Listing, done, stop, entry, listing, recordsIn}
 use Rattle.doubles.specs.Doubles.{namedBefore}
-use Rattle.rules.specs.Rules.{gitRules, judge, modesOf, orElse, isText, permitted, isDotGit, nameNumber, isBelow, standsBefore, isAfter, afterNumber}
-use Rattle.strict.specs.Strict.{strictly, strictCount, cut, textOf}
+use Rattle.rules.specs.Rules.{gitRules, judge, modesOf, orElse, isText, permitted, isDotGit, nameNumber, standsBefore, isAfter, afterNumber}
+use Rattle.strict.specs.Strict.{strictCount, cut, textOf}
 use Rattle.reading.specs.declared.Counted.{Counted}
 use Rattle.reading.specs.declared.Counted.the-variants.{Total, Stopped}
 use Rattle.rules.proofs.Laws.{permitted-parts}
-use Rattle.item.specs.Items.{Named, namedOf, isFolder, Stored, missing, object, Folder, shut, holds, readStrictly, treeOf, folderOf}
-use Rattle.walk.specs.Walk.{compareFolders, Done}
+use Rattle.item.specs.Items.{Named, namedOf, isFolder, Stored, missing, object, shut, holds, readStrictly, treeOf, folderOf}
 use Rattle.differing.specs.Differing.{Slashless, Bound, any, past, Beyond, Ascending, StoreOrder, StoreEmpty, StoreDistinct}
 use Rattle.differing.proofs.Theorems.{empty-exactly}
 use Rattle.differing.proofs.Ordered.{git-order}
@@ -47,15 +42,10 @@ boundOf : List Entry → Bound
 boundOf [] = any
 boundOf (p ∷ ps) = past (p .name) (isTree (p .mode))
 
-is-below : (o : Order) → isBelow o ≡ true → o ≡ Below
-is-below Below h = refl
-is-below Same h = let z : _≡_ {A = ℕ} 0 1 = cc in absurd (omega arith)
-is-below Above h = let z : _≡_ {A = ℕ} 0 1 = cc in absurd (omega arith)
-
 after-bound : (before : List Entry) (e : Entry) → isAfter before e ≡ true → Beyond (boundOf before) (e .name) (isTree (e .mode))
 unfolding boundOf isAfter standsBefore
 after-bound [] e h = tt
-after-bound (p ∷ ps) e h = is-below (nameOrder (p .name) (isTree (p .mode)) (e .name) (isTree (e .mode))) h
+after-bound (p ∷ ps) e h = below-is (nameOrder (p .name) (isTree (p .mode)) (e .name) (isTree (e .mode))) h
 
 cut-ascending : (k h start : ℕ) (s : List ℕ) (before : List Entry) (l : Listing) → Ascending (boundOf before) (map (namedOf h start s) (recordsIn (cut (gitRules k) h s before l)))
 unfolding recordsIn cut namedOf entries.entryOf boundOf

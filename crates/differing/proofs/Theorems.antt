@@ -1,23 +1,22 @@
 -- Equal entries give no item, and folders with equal ids stay shut. Assumes nothing.
-use Prim.Native.Nat.{ℕ, zero, suc, _+_, _<_, _≤_}
+use Prim.Native.Nat.{ℕ, zero, suc, _+_}
 use mathlib.Core.Bool.{Bool, true, false, _&&_, not}
 use mathlib.Core.Path.{_≡_, refl, ap, sym, _∙_}
 use mathlib.Core.List.{List, [], _∷_, _++_, map}
-use mathlib.Core.Logic.{_↔_}
 use native.Mathlib.Omega.{arith}
-use borrow.Author.Tests.{eq-eqb, ne-eqb, eqb-true}
+use borrow.Author.Tests.{eq-eqb, eqb-true}
 use lib.Dec.{eqb}
 use lib.ListN.{length}
 use Rattle.ground.proofs.Laws.{same-refl, same-true}
 use Rattle.ground.specs.Basics.{pick}
-use Rattle.ground.specs.Scan.{sameBytes, freeOf}
+use Rattle.ground.specs.Scan.{sameBytes}
 use Rattle.order.specs.Order.{nameOrder}
 use Rattle.order.specs.declared.Order.{Order}
 use Rattle.order.specs.declared.Order.the-variants.{Below, Same, Above}
 use Rattle.order.proofs.Laws.{order-self, order-same}
 use Rattle.entry.specs.Entry.{Entry}
 use Rattle.item.specs.Items.{Side, absent, Named, isFolder, Item, Folder, shut, holds, join, sameId, sameSide, entryOf}
-use Rattle.walk.specs.Walk.{Out, refusedBy, nothing, put, andThen, Lower, change, leftOnly, rightOnly, both, rights, against, compareEntries, opened, compareFolders, Done}
+use Rattle.walk.specs.Walk.{Out, nothing, put, andThen, Lower, change, leftOnly, rightOnly, both, rights, against, compareEntries, opened, compareFolders, Done}
 use Rattle.merge.specs.Merge.{byOrder}
 use Rattle.differing.specs.Differing.{Slashless, EmptyExactly, EqualUnopened}
 use Rattle.walk.proofs.Walks.{then-is, then-first, put-done, then-same}

@@ -5,7 +5,6 @@ use native.Mathlib.Omega.{arith}
 use mathlib.Core.Path.{_≡_, refl, sym, ap, subst, _∙_}
 use mathlib.Core.Bool.{Bool, true, false, _&&_, _||_}
 use mathlib.Core.List.{List, [], _∷_}
-use mathlib.Core.Logic.{_⊎_, inl, inr, ⊎-elim}
 use lib.ListN.{length, set, length-set}
 use lib.Seq.{getD-set-same, getD-set-other}
 use lib.Dec.{ltb}
@@ -18,11 +17,11 @@ use Rattle.order.specs.declared.Order.{Order}
 use Rattle.order.specs.declared.Order.the-variants.{Below, Same, Above}
 use Rattle.entry.specs.Entry.{Entry}
 use Rattle.doubles.specs.Doubles.{namedBefore, shut, topIs, lastName, noted, opened, held}
-use Rattle.doubles.specs.Stack.{stackOf, keptOf, openAt, marksAt, isDouble, ifBelow, placeOf, marksOf}
+use Rattle.doubles.specs.Stack.{stackOf, openAt, marksAt, isDouble, placeOf, marksOf}
 use Rattle.doubles.specs.declared.Placed.{Placed}
 use Rattle.doubles.specs.declared.Placed.the-variants.{Fine, NotAfter, Double}
 use Rattle.doubles.proofs.Theorem.{Ascends, marked, marked-is, nameBytes, held-few, shut-drops, shut-stops, noted-tree, noted-file}
-use Rattle.doubles.proofs.Stacking.{kept-shut, kept-le, open-within}
+use Rattle.doubles.proofs.Stacking.{kept-shut, kept-le}
 
 -- the first n of the array are the names that were open before the last entry
 pub record Tracks (a : List ℕ) (n : ℕ) (seen : List Entry) : Type 0 where

@@ -1,21 +1,20 @@
 -- The answers of the edits, way by way as the code has them. Assumes nothing.
-use Prim.Native.Nat.{ℕ, suc, _+_, _≤_, _<_, max}
+use Prim.Native.Nat.{ℕ, suc, _≤_, _<_, max}
 use mathlib.Core.Bool.{Bool, true, false, false≢true}
 use mathlib.Core.Path.{_≡_, refl, ap, sym, _∙_}
 use mathlib.Core.List.{List, [], _∷_}
 use native.Mathlib.Omega.{arith}
 use borrow.Author.Tests.{eq-eqb, ne-eqb, le-leb, lt-leb}
-use lib.Dec.{eqb, leb}
 use lib.ListN.{length}
 use lib.Seq.{sets}
 use Rattle.ground.specs.Basics.{pick}
 use Rattle.ground.specs.Scan.{sameBytes}
-use Rattle.ground.specs.Verdict.{verdict, fine, counted, refused, stored, mostBytes, mostRecords}
+use Rattle.ground.specs.Verdict.{verdict, counted, refused, stored, mostBytes, mostRecords}
 use Rattle.ground.specs.declared.Verdict.{Verdict}
 use Rattle.ground.specs.declared.Answer.{Answer}
 use Rattle.ground.specs.declared.Gate.the-variants.{Open, Shut}
 use Rattle.ground.proofs.Laws.{is-false, gate-open, id-small}
-use Rattle.output.specs.Output.{gated, fitted}
+use Rattle.output.specs.Output.{fitted}
 use Rattle.output.proofs.Laws.{fitted-short, fitted-fine, refused-both, done-both, gated-shut, gated-open}
 use Rattle.entry.specs.Entry.{Entry, asWritten}
 use Rattle.rules.specs.Rules.{gitRules, standsBefore}
@@ -27,7 +26,7 @@ use Rattle.reading.specs.declared.Counted.the-variants.{Total, Stopped}
 use Rattle.reading.proofs.Laws.{tally-stops, Refusal}
 use Rattle.strict.specs.Strict.{strictly, strictCount}
 use Rattle.strict.proofs.Laws.{cut-refuses, count-within}
-use Rattle.edit.specs.Table.{removeFrom, insert, putIn, Held, none, held, isHeld, tableOf}
+use Rattle.edit.specs.Table.{removeFrom, insert, putIn, held, isHeld, tableOf}
 use Rattle.edit.specs.Edit.{entriesIn, newNo, sizeOf, putting, removing, onCounted, putAnswer, removeAnswer}
 
 pub insert-length : (new : Entry) (es : List Entry) → length (insert new es) ≡ suc (length es)

@@ -1,11 +1,11 @@
 -- Laws of a new entry: what refuses it. Assumes nothing.
 use Prim.Native.Nat.{ℕ, _+_, _-_, _≤_, _<_}
-use mathlib.Core.Bool.{Bool, true, false, _||_, _&&_, false≢true}
-use mathlib.Core.Path.{_≡_, refl, ap, sym, subst, _∙_}
+use mathlib.Core.Bool.{Bool, true, false, _||_, false≢true}
+use mathlib.Core.Path.{_≡_, refl, ap, sym, _∙_}
 use mathlib.Core.List.{List, [], _∷_, _++_}
 use mathlib.Core.Logic.{_⊎_, inl, inr}
 use native.Mathlib.Omega.{arith}
-use borrow.Author.Tests.{eq-eqb, ne-eqb, eqb-true, eqb-false}
+use borrow.Author.Tests.{eq-eqb, ne-eqb, eqb-true}
 use lib.Dec.{eqb}
 use lib.ListN.{length}
 use Rattle.ground.specs.Basics.{pick}
@@ -19,7 +19,7 @@ use Rattle.mode.specs.declared.ModeRead.the-variants.{Mode}
 use Rattle.mode_table.specs.declared.Written.{Written}
 use Rattle.mode_round.proofs.Again.{again-same, again-less, written-reads}
 use Rattle.entry.specs.Entry.{Entry}
-use Rattle.rules.specs.Rules.{orElse, isText, groupRow, modesOf, isPlain, permitted, isDotGit, nameNumber, bareNumber, gitRules}
+use Rattle.rules.specs.Rules.{orElse, isText, groupRow, modesOf, permitted, nameNumber, bareNumber, gitRules}
 use Rattle.rules.proofs.Laws.{number-free}
 use Rattle.one_listing.specs.Sound.{isMode}
 use Rattle.one_listing.specs.Lawful.{RowOk, RowsOk}

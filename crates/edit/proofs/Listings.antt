@@ -1,11 +1,11 @@
 -- The walk's bytes are the edited listing as written. Assumes nothing.
 use Prim.Native.Nat.{ℕ, zero, suc, _+_, _-_, _≤_, _<_}
 use mathlib.Core.Bool.{Bool, true, false}
-use mathlib.Core.Path.{_≡_, refl, ap, sym, subst, _∙_}
+use mathlib.Core.Path.{_≡_, refl, ap, sym, _∙_}
 use mathlib.Core.List.{List, [], _∷_, _++_, append-assoc, map}
 use native.Mathlib.Omega.{arith}
-use lib.ListN.{length, take, drop, length-append}
-use lib.Seq.{take-append-seam, drop-append-seam, take-at}
+use lib.ListN.{length, drop, length-append}
+use lib.Seq.{drop-append-seam, take-at}
 use Rattle.ground.specs.Basics.{pick, part}
 use Rattle.ground.specs.Scan.{sameBytes}
 use Rattle.ground.specs.Verdict.{mostBytes, mostRecords}
@@ -17,8 +17,8 @@ use Rattle.entry.specs.declared.EntryRecord.{EntryRecord}
 use Rattle.entry.specs.declared.Decoded.{Decoded}
 use Rattle.entry.specs.declared.Decoded.the-variants.{Whole, Broken}
 use Rattle.rules.specs.Rules.{gitRules, standsBefore}
-use Rattle.reading.specs.Listing.{Listing, done, stop, entry, follow, plain, listing, recordsIn, tally}
-use Rattle.reading.specs.declared.Counted.the-variants.{Total, Stopped}
+use Rattle.reading.specs.Listing.{done, entry, follow, plain, listing, recordsIn, tally}
+use Rattle.reading.specs.declared.Counted.the-variants.{Total}
 use Rattle.reading.proofs.Laws.{plain-none, tally-length}
 use Rattle.strict.specs.Strict.{strictly}
 use Rattle.strict.proofs.Laws.{strict-plain}
@@ -27,7 +27,7 @@ use Rattle.one_listing.specs.Sound.{Sound}
 use Rattle.one_listing.proofs.Back.{Writable, AllWritable, recordFor, listed, bytes-length, record-names, read-written}
 use Rattle.one_listing.proofs.Cutting.{uncut-sound, sound-writable, sound-again}
 use Rattle.one_listing.proofs.Present.{git-ok}
-use Rattle.edit_walk.specs.Walk.{ahead, tail, carried, keptIn, walkBytes, walkOf}
+use Rattle.edit_walk.specs.Walk.{ahead, carried, keptIn, walkBytes, walkOf}
 use Rattle.edit_walk.specs.declared.Walked.{Walked}
 use Rattle.edit_walk.proofs.Laws as walk
 use Rattle.edit.specs.Table.{removeFrom, insert, putIn}

@@ -5,12 +5,11 @@ use mathlib.Core.List.{List}
 use lib.ListN.{drop}
 use Rattle.ground.specs.Basics.{pick}
 use Rattle.ground.specs.Scan.{sameBytes}
-use Rattle.order.specs.Order.{nameOrder}
+use Rattle.order.specs.Order.{isBelow, nameOrder}
 use Rattle.entry.specs.Record.{nameOf, folderOf}
 use Rattle.entry.specs.Decode.{decode}
 use Rattle.entry.specs.declared.Decoded.{Decoded}
 use Rattle.entry.specs.declared.Decoded.the-variants.{Whole, Broken}
-use Rattle.rules.specs.Rules.{isBelow}
 use Rattle.edit_turn.specs.declared.Fate.{Fate}
 use Rattle.edit_turn.specs.declared.Fate.the-variants.{Out, Over, Behind}
 use Rattle.edit_turn.specs.declared.Turn.{Turn}

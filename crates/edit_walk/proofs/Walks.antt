@@ -4,14 +4,14 @@ use mathlib.Core.Bool.{Bool, true, false}
 use mathlib.Core.Path.{_≡_, refl, ap, sym, subst, _∙_}
 use mathlib.Core.List.{List, [], _∷_, _++_}
 use native.Mathlib.Omega.{arith}
-use lib.ListN.{length, take, drop, length-drop, length-append}
+use lib.ListN.{length, drop, length-drop, length-append}
 use lib.Seq.{sets, drop-drop, length-take-le}
 use Rattle.ground.specs.Basics.{pick, part}
 use Rattle.ground.specs.Scan.{sameBytes}
 use Rattle.ground.specs.declared.Verdict.{Verdict}
 use Rattle.ground.proofs.Laws.{sets-append}
 use Rattle.mode.specs.Mode.{isTree}
-use Rattle.order.specs.Order.{nameOrder}
+use Rattle.order.specs.Order.{isBelow, nameOrder}
 use Rattle.entry.specs.Record.{nameOf, folderOf}
 use Rattle.entry.specs.Entry.{Entry, entryBytes}
 use Rattle.entry.specs.Decode.{decode}
@@ -20,8 +20,7 @@ use Rattle.entry.specs.declared.Cursor.{Cursor}
 use Rattle.entry.specs.declared.Decoded.{Decoded}
 use Rattle.entry.specs.declared.Decoded.the-variants.{Whole, Broken}
 use Rattle.entry.proofs.Laws.{decode-inside}
-use Rattle.rules.specs.Rules.{isBelow}
-use Rattle.reading.specs.Listing.{Listing, done, stop, entry, follow, plain}
+use Rattle.reading.specs.Listing.{Listing, done, entry, follow, plain}
 use Rattle.reading.proofs.Laws.{plain-some}
 use Rattle.edit_turn.specs.Turns.{fateOf, turned, turnOf, turnAt}
 use Rattle.edit_turn.specs.declared.Fate.the-variants.{Out, Over, Behind}

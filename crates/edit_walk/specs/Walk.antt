@@ -9,11 +9,10 @@ use Rattle.ground.specs.Verdict.{sizeGate}
 use Rattle.ground.specs.declared.Gate.{Gate}
 use Rattle.ground.specs.declared.Gate.the-variants.{Open, Shut}
 use Rattle.mode.specs.Mode.{isTree}
-use Rattle.order.specs.Order.{nameOrder}
+use Rattle.order.specs.Order.{isBelow, nameOrder}
 use Rattle.entry.specs.Record.{nameOf, folderOf}
 use Rattle.entry.specs.Entry.{Entry, entryBytes}
 use Rattle.entry.specs.declared.EntryRecord.{EntryRecord}
-use Rattle.rules.specs.Rules.{isBelow}
 use Rattle.reading.specs.Listing.{Listing, done, stop, entry, plain}
 use Rattle.edit_walk.specs.declared.Walked.{Walked}
 

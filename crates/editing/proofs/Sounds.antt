@@ -8,13 +8,13 @@ use Rattle.ground.specs.Basics.{pick}
 use Rattle.ground.specs.Scan.{sameBytes, freeOf}
 use Rattle.ground.proofs.Laws.{same-refl}
 use Rattle.mode.specs.Mode.{isTree}
-use Rattle.order.specs.Order.{nameOrder, opposite}
+use Rattle.order.specs.Order.{isBelow, nameOrder, opposite}
 use Rattle.order.specs.declared.Order.{Order}
 use Rattle.order.specs.declared.Order.the-variants.{Below, Same, Above}
-use Rattle.order.proofs.Laws.{order-flip, order-trans, order-same}
+use Rattle.order.proofs.Laws.{below-is, order-flip, order-trans, order-same}
 use Rattle.entry.specs.Entry.{Entry}
 use Rattle.doubles.specs.Doubles.{namedBefore}
-use Rattle.rules.specs.Rules.{gitRules, standsBefore, isBelow, isAfter, afterNumber}
+use Rattle.rules.specs.Rules.{gitRules, standsBefore, isAfter, afterNumber}
 use Rattle.one_listing.specs.Sound.{SoundEntry, Before, Ascending, EachSound, Distinct, SoundListing}
 use Rattle.one_listing.proofs.Present.{plainly}
 use Rattle.edit.specs.Table.{removeFrom, insert, putIn}
@@ -72,12 +72,7 @@ remove-ascends name (e ∷ es) s = go (remove-ascends name es (ascending-rest e 
 
 stands : (e new : Entry) → standsBefore e new ≡ true → Before e new
 unfolding standsBefore
-stands e new q = go (nameOrder (e .name) (isTree (e .mode)) (new .name) (isTree (new .mode))) q
-  where
-    go : (o : Order) → isBelow o ≡ true → o ≡ Below
-    go Below z = refl
-    go Same z = absurd (false≢true z)
-    go Above z = absurd (false≢true z)
+stands e new q = below-is (nameOrder (e .name) (isTree (e .mode)) (new .name) (isTree (new .mode))) q
 
 -- an entry of another name that does not stand before stands after
 turns : (e new : Entry) → freeOf 47 (e .name) ≡ true → freeOf 47 (new .name) ≡ true → sameBytes (e .name) (new .name) ≡ false → standsBefore e new ≡ false → Before new e

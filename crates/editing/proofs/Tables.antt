@@ -8,7 +8,7 @@ use Rattle.ground.specs.Scan.{sameBytes}
 use Rattle.ground.proofs.Laws.{same-refl, same-true}
 use Rattle.entry.specs.Entry.{Entry}
 use Rattle.rules.specs.Rules.{standsBefore}
-use Rattle.edit.specs.Table.{removeFrom, insert, putIn, Held, none, held, tableOf, tablePut, tableRemove}
+use Rattle.edit.specs.Table.{removeFrom, insert, putIn, none, held, tableOf, tablePut, tableRemove}
 
 -- no entry has the name
 abbrev pub Without : List ℕ → List Entry → Type 0

@@ -4,14 +4,13 @@ use mathlib.Core.Bool.{Bool, true, false}
 use mathlib.Core.Path.{_≡_, refl, ap, sym, _∙_}
 use mathlib.Core.List.{List, [], _∷_}
 use borrow.Author.Tests.{eqb-true}
-use lib.Dec.{eqb}
 use lib.ListN.{length}
 use Rattle.ground.specs.Basics.{pick}
 use Rattle.ground.specs.Scan.{sameBytes}
-use Rattle.ground.proofs.Laws.{same-true, same-refl}
+use Rattle.ground.proofs.Laws.{same-true}
 use Rattle.entry.specs.Entry.{Entry}
-use Rattle.edit.specs.Table.{removeFrom, Held, none, held, Table, tablePut, tableRemove}
-use Rattle.editing.specs.Demand.{Written, DoneWritten, Change, puts, removes, tableChanged, numberOf, given, Step, isDone, next, after, tableAfter, InTurn, SamePut, ThereAndBack}
+use Rattle.edit.specs.Table.{removeFrom, none, held, Table, tablePut, tableRemove}
+use Rattle.editing.specs.Demand.{Written, DoneWritten, puts, removes, tableChanged, numberOf, given, isDone, next, after, tableAfter, InTurn, SamePut, ThereAndBack}
 use Rattle.editing.proofs.Tables.{carried-over, removed-without, without-same}
 use Rattle.editing.proofs.Writing.{one-writing, put-written, remove-written}
 

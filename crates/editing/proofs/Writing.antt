@@ -1,11 +1,11 @@
 -- A table is written in one way, and a done edit gives the changed table as written. Assumes nothing.
-use Prim.Native.Nat.{ℕ, _+_, _≤_, _<_, max}
+use Prim.Native.Nat.{ℕ, _+_, _≤_, max}
 use native.Mathlib.Omega.{arith}
 use mathlib.Core.Bool.{Bool, true, false, false≢true, _&&_}
 use mathlib.Core.Path.{_≡_, refl, ap, sym, subst, _∙_}
-use mathlib.Core.List.{List, [], _∷_, _++_, map, List·Memᴰ, List·Memᴰ·not-nil, List·Memᴰ·cases-cons, List·Memᴰ·head, List·Memᴰ·tail}
+use mathlib.Core.List.{List, [], _∷_, List·Memᴰ, List·Memᴰ·not-nil, List·Memᴰ·cases-cons, List·Memᴰ·head, List·Memᴰ·tail}
 use mathlib.Core.Logic.{_⊎_, inl, inr}
-use borrow.Author.Tests.{eqb-true, leb-true, ltb-false}
+use borrow.Author.Tests.{eqb-true, leb-true}
 use lib.Dec.{eqb, leb, ltb}
 use lib.ListN.{length, take, drop}
 use lib.Seq.{take-append-seam}
@@ -28,8 +28,7 @@ use Rattle.reading.specs.declared.Counted.{Counted}
 use Rattle.reading.specs.declared.Counted.the-variants.{Total, Stopped}
 use Rattle.strict.specs.Strict.{cut, strictly}
 use Rattle.strict.proofs.Laws.{strict-refuses}
-use Rattle.one_listing.specs.Again.{againEntry}
-use Rattle.one_listing.specs.Sound.{Sound, Distinct, SoundListing}
+use Rattle.one_listing.specs.Sound.{Distinct, SoundListing}
 use Rattle.one_listing.proofs.Back.{listed, read-written, names-listed}
 use Rattle.one_listing.proofs.Cutting.{sound-writable, sound-again, sound-uncut}
 use Rattle.one_listing.proofs.Settling.{set-settles}
@@ -38,7 +37,7 @@ use Rattle.edit.specs.Table.{removeFrom, putIn, Held, none, held, isHeld, Table
 use Rattle.edit.specs.Edit.{entriesIn, newNo, sizeOf, putting, removing, onCounted, putAnswer, removeAnswer}
 use Rattle.edit.proofs.Answers.{stopped-refuses, removed-le}
 use Rattle.editing.specs.Demand.{Written, OneWriting, FromAccepted, AcceptedAgain, Missing}
-use Rattle.editing.proofs.Tables.{carried-over, put-table, remove-table}
+use Rattle.editing.proofs.Tables.{put-table, remove-table}
 use Rattle.editing.proofs.Sounds.{put-sound, remove-sound}
 
 -- ---- a sound listing by its table

@@ -14,7 +14,7 @@ use Rattle.entry.specs.Entry.{Entry, asWritten}
 use Rattle.rules.specs.Rules.{gitRules}
 use Rattle.one_listing.specs.Sound.{SoundListing}
 use Rattle.one_listing.specs.Demand.{Accepts}
-use Rattle.edit.specs.Table.{removeFrom, Held, none, held, Table, tableOf, tablePut, tableRemove}
+use Rattle.edit.specs.Table.{removeFrom, none, held, Table, tableOf, tablePut, tableRemove}
 use Rattle.edit.specs.Edit.{putAnswer, removeAnswer, putOutput, removeOutput}
 
 -- By rule set k and with ids of h bytes an object is a table as written: it is a sound listing as written, within the bounds, and that listing's table is

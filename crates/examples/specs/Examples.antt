@@ -7,7 +7,7 @@ use mathlib.Core.List.{List, [], _∷_, _++_, map}
 use lib.IntN.{ℤ, pos, negsuc}
 use lib.ListN.{length, take, replicate}
 use Rattle.ground.specs.Basics.{ascii}
-use Rattle.ground.specs.Verdict.{broken, counted, refused, idLength, sizeGate, gateOf, stored}
+use Rattle.ground.specs.Verdict.{broken, counted, refused, idLength, sizeGate, gateOf, stored, isSet}
 use Rattle.ground.specs.declared.Answer.{Answer}
 use Rattle.output.specs.Output.{fitted, gated}
 use Rattle.mode.specs.Mode.{valueOf, sortOf, executes, kindOf, isTree}
@@ -25,7 +25,7 @@ use Rattle.entry.specs.Entry.{Entry, entryBytes, asWritten, entryOf, entriesOf}
 use Rattle.entry.specs.Decode.{shortPart, decodeName, decodeMode, decode}
 use Rattle.doubles.specs.Doubles.{namedBefore}
 use Rattle.rules.specs.Rules.{judge, isPlain, permitted, isDotGit, nameNumber, standsBefore, isAfter, afterNumber, gitRules}
-use Rattle.rules.specs.Gate.{isSet, ruleGate}
+use Rattle.rules.specs.Gate.{ruleGate}
 use Rattle.reading.specs.Listing.{Listing, follow, plain, listing, recordsIn, flats, tally}
 use Rattle.reading.specs.Whole.{answerOf, readAnswer, readRecords}
 use Rattle.strict.specs.Strict.{textOf, cut, strictAnswer, strictRecords}

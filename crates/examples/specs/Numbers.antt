@@ -8,7 +8,7 @@ use mathlib.Core.List.{List, [], _∷_, _++_, map}
 use lib.ListN.{take, replicate}
 use Rattle.ground.specs.Basics.{ascii}
 use Rattle.ground.specs.Scan.{placeFrom}
-use Rattle.ground.specs.Verdict.{verdict, idLength, sizeGate, gateOf}
+use Rattle.ground.specs.Verdict.{verdict, idLength, sizeGate, gateOf, isSet}
 use Rattle.ground.specs.declared.Verdict.{Verdict}
 use Rattle.ground.specs.declared.Gate.{Gate}
 use Rattle.ground.specs.declared.Gate.the-variants.{Open, Shut}
@@ -27,7 +27,7 @@ use Rattle.reading.specs.Listing.{done, stop, follow, plain, listing, tally}
 use Rattle.rules.specs.Rules.{isPlain, judge, permitted, isDotGit, nameNumber, standsBefore, isAfter, groupRow, afterNumber, gitRules}
 use Rattle.strict.specs.Strict.{textOf, cut, strictAnswer}
 use Rattle.reading.specs.Whole.{answerOf, readAnswer}
-use Rattle.rules.specs.Gate.{isSet, ruleGate}
+use Rattle.rules.specs.Gate.{ruleGate}
 use Rattle.lookup.specs.Halving.{mid, halving, searchFrom}
 use Rattle.lookup.specs.Lookup.{compareEntry, lookupIn}
 use Rattle.tree_write.specs.Write.{refusal, judged, measured, treeSize, treeAnswer}

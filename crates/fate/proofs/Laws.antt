@@ -1,5 +1,5 @@
 -- Laws of what is done to an entry. Assumes nothing.
-use Prim.Native.Nat.{ℕ, _%_, _/_, _<_, _≤_}
+use Prim.Native.Nat.{ℕ, _%_, _/_, _≤_}
 use native.Mathlib.Omega.{arith}
 use mathlib.Core.Path.{_≡_, refl, ap, sym, _∙_}
 use mathlib.Core.Bool.{Bool, true, false, _&&_, _||_}
@@ -11,7 +11,7 @@ use borrow.Author.Tests.{eq-eqb, ne-eqb}
 use Rattle.ground.specs.Basics.{pick}
 use Rattle.ground.specs.Scan.{sameBytes}
 use Rattle.mode.specs.Mode.{topBits, valueOf, sortOf, executes, kindOf, isTree}
-use Rattle.mode.specs.Table.{rows, rowAt, writtenOf, shown}
+use Rattle.mode.specs.Table.{rows, rowAt, writtenOf}
 use Rattle.mode_table.specs.declared.EntryKind.{EntryKind}
 use Rattle.mode_table.specs.declared.EntryKind.the-variants.{Tree, Blob, BlobExecutable, Link, Commit}
 use Rattle.mode_text.specs.declared.ShortText.{ShortText}

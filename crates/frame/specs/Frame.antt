@@ -6,8 +6,7 @@ use lib.ListN.{length, getD, take, drop}
 use lib.Dec.{eqb, leb}
 use Rattle.ground.specs.Basics.{pick, ascii}
 use Rattle.ground.specs.Scan.{sameBytes}
-use Rattle.ground.specs.Verdict.{idLength, mostRecords}
-use Rattle.rules.specs.Gate.{isSet}
+use Rattle.ground.specs.Verdict.{idLength, mostRecords, isSet}
 use Rattle.frame.specs.declared.Header.{Header}
 use Rattle.frame.specs.declared.Head.{Head}
 use Rattle.frame.specs.declared.Head.the-variants.{Good, Bad}

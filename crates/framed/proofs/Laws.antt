@@ -1,27 +1,19 @@
 -- Laws of ids that ascend. Assumes nothing.
 use Prim.Native.Nat.{ℕ, _+_, _-_}
 use mathlib.Core.Path.{_≡_, refl}
-use mathlib.Core.Bool.{Bool, true, false, false≢true, _&&_, _||_}
+use mathlib.Core.Bool.{Bool, true, false}
 use mathlib.Core.List.{List, [], _∷_}
 use lib.ListN.{take, drop}
 use Rattle.ground.specs.Basics.{pick}
 use Rattle.ground.specs.Scan.{sameBytes}
 use Rattle.ground.proofs.Laws.{and-left, and-right, is-false, same-true}
-use Rattle.order.specs.declared.Order.{Order}
-use Rattle.order.specs.declared.Order.the-variants.{Below, Same, Above}
-use Rattle.order.proofs.Laws.{order-irreflexive, order-trans}
-use Rattle.rules.specs.Rules.{isBelow}
+use Rattle.order.proofs.Laws.{below-is, order-irreflexive, order-trans}
 use Rattle.frame.specs.Frame.{Frames, done, fault, frame}
 use Rattle.frame.specs.Place.{idIn}
 use Rattle.frame.specs.declared.Frame.{Frame}
 use Rattle.frame.proofs.Laws.{id-part}
 use Rattle.twice.specs.Ids.{idsIn, among, repeats}
 use Rattle.framed.specs.Ids.{below, rises}
-
-below-is : (o : Order) → isBelow o ≡ true → o ≡ Below
-below-is Below e = refl
-below-is Same e = absurd (false≢true e)
-below-is Above e = absurd (false≢true e)
 
 below-trans : (x y z : List ℕ) → below x y ≡ true → below y z ≡ true → below x z ≡ true
 below-trans x y z p q = rw (order-trans x false y false z false (below-is _ p) (below-is _ q))

@@ -2,8 +2,7 @@
 use Prim.Native.Nat.{ℕ}
 use mathlib.Core.Bool.{Bool, true, false, _&&_}
 use mathlib.Core.List.{List, [], _∷_}
-use Rattle.order.specs.Order.{nameOrder}
-use Rattle.rules.specs.Rules.{isBelow}
+use Rattle.order.specs.Order.{isBelow, nameOrder}
 
 -- an id is below another, byte by byte
 abbrev pub below : List ℕ → List ℕ → Bool

@@ -3,7 +3,7 @@ use Prim.Native.Nat.{ℕ, zero, suc, _+_, _*_}
 use mathlib.Core.List.{List, [], _∷_, map}
 use lib.Dec.{eqb}
 use Rattle.ground.specs.Basics.{pick, part}
-use Rattle.header.specs.Record.{headerAt, nameOf, valueOf}
+use Rattle.header.specs.Record.{headerAt, nameOf, headerValue}
 use Rattle.header.specs.declared.HeaderRecord.{HeaderRecord}
 use Rattle.header.specs.declared.CommitParts.{CommitParts}
 use Rattle.grammar.specs.Grammar.{Header, absent, given, Commit}
@@ -14,7 +14,7 @@ idNamed h s at = part at (at + 2 * h) s
 
 -- the header that a record names
 abbrev pub headerNamed : List ℕ → HeaderRecord → Header
-headerNamed s x = record { name = nameOf s x; value = valueOf s x; mark = x .mark }
+headerNamed s x = record { name = nameOf s x; value = headerValue s x; mark = x .mark }
 
 -- n records from record i on
 unfoldable pub recordsFrom : ℕ → ℕ → List ℕ → List HeaderRecord

@@ -46,6 +46,10 @@ mostRecords = 1048576
 unfoldable pub idLength : ℕ → Bool
 idLength h = eqb h 20 || eqb h 32
 
+-- there are two rule sets
+unfoldable pub isSet : ℕ → Bool
+isSet k = eqb k 1 || eqb k 2
+
 -- 2 where a buffer or a list is over its bound
 unfoldable pub sizeGate : ℕ → ℕ → Gate
 sizeGate bytes records = pick (leb bytes mostBytes && leb records mostRecords) Open (Shut (verdict 2 0))

@@ -43,5 +43,5 @@ wellFormed x len =
 abbrev pub nameOf : List ℕ → HeaderRecord → List ℕ
 nameOf s x = part (x .«name_start») (x .«name_end») s
 
-abbrev pub valueOf : List ℕ → HeaderRecord → List ℕ
-valueOf s x = part (x .«value_start») (x .«value_end») s
+abbrev pub headerValue : List ℕ → HeaderRecord → List ℕ
+headerValue s x = part (x .«value_start») (x .«value_end») s

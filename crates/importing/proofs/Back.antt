@@ -19,13 +19,13 @@ use Rattle.output.specs.Output.{fitted}
 use Rattle.output.proofs.Laws.{fitted-done, fitted-fine}
 use Rattle.mode.specs.Mode.{isTree}
 use Rattle.mode.specs.Write.{writeMode}
-use Rattle.order.specs.Order.{opposite}
+use Rattle.order.specs.Order.{isBelow, opposite}
 use Rattle.order.proofs.Laws.{order-flip, order-trans}
 use Rattle.entry.specs.Entry.{Entry, entryBytes, asWritten, entriesOf, entryOf}
 use Rattle.entry.specs.Decode.{decode}
 use Rattle.entry.specs.declared.Decoded.{Decoded}
 use Rattle.entry.specs.declared.Decoded.the-variants.{Whole, Broken}
-use Rattle.rules.specs.Rules.{gitRules, standsBefore, isBelow}
+use Rattle.rules.specs.Rules.{gitRules, standsBefore}
 use Rattle.rules.specs.Gate.{ruleGate}
 use Rattle.rules.proofs.Laws.{rule-known, rule-open}
 use Rattle.reading.specs.Listing.{follow, plain, listing, recordsIn, tally}

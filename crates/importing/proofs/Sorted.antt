@@ -8,13 +8,13 @@ use Rattle.ground.specs.Basics.{pick}
 use Rattle.ground.specs.Verdict.{verdict}
 use Rattle.ground.proofs.Laws.{same-refl}
 use Rattle.mode.specs.Mode.{isTree}
-use Rattle.order.specs.Order.{nameOrder, opposite}
+use Rattle.order.specs.Order.{isBelow, nameOrder, opposite}
 use Rattle.order.specs.declared.Order.{Order}
 use Rattle.order.specs.declared.Order.the-variants.{Below, Same, Above}
-use Rattle.order.proofs.Laws.{order-flip}
+use Rattle.order.proofs.Laws.{below-is, order-flip}
 use Rattle.entry.specs.Entry.{Entry}
-use Rattle.rules.specs.Rules.{standsBefore, isBelow}
-use Rattle.one_listing.specs.Sound.{SoundEntry, Before, Ascending, EachSound, Distinct}
+use Rattle.rules.specs.Rules.{standsBefore}
+use Rattle.one_listing.specs.Sound.{Before, Ascending, EachSound, Distinct}
 use Rattle.sorting.specs.Sort.{insertBy, sortBy, Perm, none, more, flip, then}
 use Rattle.sorting.proofs.Sorted.{sort-perm, perm-sym}
 use Rattle.sorting.proofs.Repeats.{perm-mem}
@@ -67,14 +67,9 @@ not-same x y p q = go (nameOrder (x .name) (isTree (x .mode)) (y .name) (isTree 
     go Above e =
         absurd (false≢true (sym p ∙ ap isBelow (order-flip (x .name) (isTree (x .mode)) (y .name) (isTree (y .mode)) ∙ ap opposite e)))
 
-below-is : (x y : Entry) → standsBefore x y ≡ true → Before x y
+stands-before : (x y : Entry) → standsBefore x y ≡ true → Before x y
 unfolding standsBefore
-below-is x y p = go (nameOrder (x .name) (isTree (x .mode)) (y .name) (isTree (y .mode))) p
-  where
-    go : (o : Order) → isBelow o ≡ true → o ≡ Below
-    go Below e = refl
-    go Same e = absurd (false≢true e)
-    go Above e = absurd (false≢true e)
+stands-before x y p = below-is (nameOrder (x .name) (isTree (x .mode)) (y .name) (isTree (y .mode))) p
 
 -- an entry put in after one that stands before it
 after : (x y : Entry) (l : List Entry) → Before y x → Ascending (y ∷ l) → Ascending (insertBy standsBefore x l) → Ascending (y ∷ insertBy standsBefore x l)
@@ -96,7 +91,7 @@ insert-up x [] a n = tt
 insert-up x (y ∷ l) a n = go (standsBefore y x) refl (insert-up x l (rest-up y l a) (λ z m. n z (List·Memᴰ·tail m)))
   where
     go : (u : Bool) → standsBefore y x ≡ u → Ascending (insertBy standsBefore x l) → Ascending (pick u (y ∷ insertBy standsBefore x l) (x ∷ y ∷ l))
-    go true p i = after x y l (below-is y x p) a i
+    go true p i = after x y l (stands-before y x p) a i
     go false p i = (not-same x y p (n y (List·Memᴰ·head refl)), a)
 
 pub sort-up : (l : List Entry) → Apart compareSame l → Ascending (sortBy standsBefore l)

@@ -1,10 +1,10 @@
 -- What is claimed of importing holds. Assumes nothing.
-use Prim.Native.Nat.{ℕ, _+_, _-_, _*_, _<_, _≤_, max}
+use Prim.Native.Nat.{ℕ, _+_, _-_, _*_, _≤_, max}
 use native.Mathlib.Omega.{arith}
 use mathlib.Core.Path.{_≡_, refl, ap, sym, _∙_}
-use mathlib.Core.Logic.{_⊎_, inl, inr, ⊎-elim}
+use mathlib.Core.Logic.{_⊎_, inl, inr}
 use mathlib.Core.Bool.{Bool, true, false, false≢true, not}
-use mathlib.Core.List.{List, [], _∷_, List·Memᴰ}
+use mathlib.Core.List.{List, [], _∷_}
 use lib.Dec.{eqb}
 use lib.ListN.{length, drop}
 use borrow.Author.Tests.{eqb-true, eqb-false}
@@ -18,19 +18,19 @@ use Rattle.ground.proofs.Laws.{same-refl, gate-open}
 use Rattle.output.proofs.Laws.{fitted-done}
 use Rattle.mode_table.specs.Table.{rows}
 use Rattle.entry.specs.Record.{many}
-use Rattle.entry.specs.Entry.{Entry, asWritten, entriesOf}
-use Rattle.rules.specs.Rules.{modesOf, groupRow, bareNumber, isDotGit, gitRules, standsBefore}
+use Rattle.entry.specs.Entry.{asWritten, entriesOf}
+use Rattle.rules.specs.Rules.{modesOf, groupRow, isDotGit, gitRules, standsBefore}
 use Rattle.rules.specs.Gate.{ruleGate}
 use Rattle.rules.proofs.Laws.{permitted-parts, number-free, rule-known, rule-open}
 use Rattle.reading.specs.Listing.{Listing, recordsIn}
 use Rattle.strict.proofs.Laws.{strict-refuses}
 use Rattle.one_listing.specs.Sound.{Five, Sound, SoundEntry, EachSound, SoundListing}
-use Rattle.one_listing.specs.Demand.{Accepts, SameSet}
+use Rattle.one_listing.specs.Demand.{Accepts}
 use Rattle.one_listing.proofs.Back.{read-written, names-listed}
 use Rattle.one_listing.proofs.Cutting.{sound-writable, sound-again}
 use Rattle.one_listing.proofs.Settling.{set-settles}
 use Rattle.one_listing.proofs.Present.{git-ok, plainly, git-one-listing}
-use Rattle.sorting.specs.Sort.{sortBy, Perm}
+use Rattle.sorting.specs.Sort.{Perm}
 use Rattle.sorting.proofs.Sorted.{sort-perm, perm-sym, perm-length}
 use Rattle.sorting.proofs.Repeats.{perm-mem}
 use Rattle.mend_kept.proofs.Sorts.{name-free}
@@ -40,7 +40,7 @@ use Rattle.text_form.specs.Form.{begins, nameFrom}
 use Rattle.tree_export.specs.Export.{textIn}
 use Rattle.text_record.specs.Record.{frontMode, nameIn, idIn, textNumber, entryIn}
 use Rattle.text_record.proofs.Shape.{shape}
-use Rattle.text_import.specs.Import.{Texts, done, stop, one, texts, entriesIn, ending, compareSame, nameSame, repeated, orThen, importVerdict, imported, countedOf, importAnswer}
+use Rattle.text_import.specs.Import.{Texts, done, stop, one, texts, entriesIn, ending, compareSame, nameSame, repeated, importVerdict, imported, countedOf, importAnswer}
 use Rattle.text_import.proofs.Walk.{read-few}
 use Rattle.text_import.proofs.Places.{Good, good-texts}
 use Rattle.text_import.proofs.Bytes.{one-digits}

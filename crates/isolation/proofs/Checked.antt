@@ -9,7 +9,7 @@ use mathlib.Core.Logic.{_↔_}
 use lib.Dec.{eqb}
 use lib.ListN.{length}
 use Rattle.ground.specs.Basics.{pick}
-use Rattle.ground.specs.Verdict.{verdict, mostBytes, sizeGate}
+use Rattle.ground.specs.Verdict.{verdict, mostBytes}
 use Rattle.ground.proofs.Laws.{size-bytes}
 use Rattle.frame.specs.Frame.{headOf, framesBy, framesIn, whole}
 use Rattle.frame.specs.declared.Header.{Header}

@@ -1,9 +1,9 @@
 -- Isolation: what a path gives hangs on nothing but the objects that it meets. Assumes nothing.
-use Prim.Native.Nat.{ℕ, zero, suc, _+_, _-_, _<_, _≤_, max}
+use Prim.Native.Nat.{ℕ, _≤_, max}
 use native.Mathlib.Omega.{arith}
 use mathlib.Core.Path.{_≡_, refl, ap, sym, _∙_}
 use mathlib.Core.Bool.{Bool, true, false, false≢true, _||_, _&&_}
-use mathlib.Core.List.{List, [], _∷_, map, List·Memᴰ, List·Memᴰ·head, List·Memᴰ·tail, List·Memᴰ·not-nil, List·Memᴰ·cases-cons}
+use mathlib.Core.List.{List, [], _∷_, List·Memᴰ, List·Memᴰ·head, List·Memᴰ·tail, List·Memᴰ·not-nil, List·Memᴰ·cases-cons}
 use mathlib.Core.Logic.{_⊎_, inl, inr, ⊎-elim}
 use lib.Dec.{eqb, leb}
 use lib.ListN.{length, take, drop, length-drop}
@@ -17,10 +17,9 @@ use Rattle.ground.specs.declared.Verdict.{Verdict}
 use Rattle.ground.specs.declared.Gate.{Gate}
 use Rattle.ground.specs.declared.Gate.the-variants as gate
 use Rattle.entry.specs.Record.{idOf}
-use Rattle.entry.specs.declared.EntryRecord.{EntryRecord}
 use Rattle.reading.specs.Listing.{plain}
 use Rattle.twice.specs.Ids.{among, repeats}
-use Rattle.bundle.specs.Bundle.{Object, Bundle, good, bad, bundleOf, idsOf, Sought, present, absent, objectWith}
+use Rattle.bundle.specs.Bundle.{Object, Bundle, good, bundleOf, idsOf, Sought, present, absent, objectWith}
 use Rattle.component.specs.Component.{components, isPath}
 use Rattle.component.specs.Named.{Found, there, nowhere, entriesRead, firstNamed, firstIn}
 use Rattle.component.specs.declared.Named.{Named}
@@ -29,7 +28,7 @@ use Rattle.component.proofs.Laws.{seen, first-named, first-within}
 use Rattle.path.specs.Path.{inObject, stepTo, onto, walkAlong, refusedWith, answered, followAlong, followIn, followFrom, follow}
 use Rattle.path.specs.declared.Followed.{Followed}
 use Rattle.isolation.proofs.Checked.{checked}
-use Rattle.isolation.specs.Isolation.{Meets, first, later, Lacks, Holds, Agree, neither, both, Usable, Called, Isolation}
+use Rattle.isolation.specs.Isolation.{Meets, first, later, Lacks, Holds, Agree, neither, both, Called, Isolation}
 
 -- ---- an object and the id that it is sought by
 

@@ -3,7 +3,7 @@
 use Prim.Native.Nat.{ℕ, _≤_}
 use mathlib.Core.Path.{_≡_}
 use mathlib.Core.Bool.{false}
-use mathlib.Core.List.{List, [], _∷_, List·Memᴰ}
+use mathlib.Core.List.{List, _∷_, List·Memᴰ}
 use mathlib.Core.Logic.{_↔_}
 use lib.ListN.{length}
 use contract.Lifetimes.{Lfts}
@@ -13,7 +13,7 @@ use Rattle.ground.specs.Verdict.{mostBytes}
 use Rattle.twice.specs.Ids.{repeats}
 use Rattle.bundle.specs.Bundle.{Object, good, bundleOf, idsOf}
 use Rattle.component.specs.Component.{components}
-use Rattle.component.specs.Named.{Found, there}
+use Rattle.component.specs.Named.{there}
 use Rattle.path.specs.Path.{stepTo}
 use Rattle.path.specs.declared.Followed.{Followed}
 use Rattle.path.proofs.follow_path.Kinds as kinds

@@ -1,16 +1,15 @@
 -- Runs of stores, a copy within one list, and a path that is stored. Assumes nothing.
-use Prim.Native.Nat.{ℕ, zero, suc, _+_, _-_, _*_, _/_, _≤_, _<_}
+use Prim.Native.Nat.{ℕ, suc, _+_, _*_, _/_, _≤_, _<_}
 use mathlib.Core.Bool.{Bool, true, false, _&&_}
-use mathlib.Core.Path.{_≡_, refl, ap, sym, _∙_}
+use mathlib.Core.Path.{_≡_, ap, sym, _∙_}
 use mathlib.Core.List.{List, [], _∷_, _++_, append-assoc}
 use native.Mathlib.Omega.{arith}
 use native.Mathlib.Nat.{add-zero, add-suc, suc-add}
 use native.Mathlib.Numerals.{add-one}
 use borrow.Author.Tests.{eq-eqb, ne-eqb, le-leb, lt-leb, lt-ltb, le-ltb, leb-true, ltb-true}
-use lib.Dec.{eqb, leb, ltb}
+use lib.Dec.{leb, ltb}
 use lib.ListN.{length, getD, take, drop, set, length-drop, length-append, List·getD-append}
 use lib.Seq.{sets, sets-eq, paste, paste-suc, length-take-le, getD-drop, getD-take}
-use Rattle.ground.specs.Basics.{pick}
 use Rattle.ground.proofs.Laws.{and-left, and-right}
 use Rattle.merge.specs.declared.Change.{Change}
 use Rattle.item.specs.Items.{join}

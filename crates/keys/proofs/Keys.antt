@@ -13,7 +13,7 @@ use borrow.Author.Tests.{lt-ltb, le-ltb, ltb-true, ltb-false, eq-eqb, ne-eqb, eq
 use Rattle.ground.specs.Basics.{pick}
 use Rattle.ground.specs.Scan.{countTo, placeFrom, commonStart, freeOf}
 use Rattle.ground.proofs.Laws.{count-free, equal, part-from, count-le, count-at, count-is, common-same, common-differ}
-use Rattle.order.specs.Order.{byNumber, orElse, opposite, next, nameOrder}
+use Rattle.order.specs.Order.{byNumber, thenBy, opposite, next, nameOrder}
 use Rattle.order.specs.declared.Order.{Order}
 use Rattle.order.specs.declared.Order.the-variants.{Below, Same, Above}
 use Rattle.order.proofs.Laws.{by-lt, by-gt, by-eq, by-same, by-below, by-above, order-self, order-flip, order-trans, order-same, next-byte, decided-at}
@@ -22,7 +22,7 @@ use Rattle.keys.specs.Key.{pastMark, cutTo, nameAt, folder, slash, keyAt
 
 -- ---- keys in the order of their bytes
 
-else-same : (p r : Order) → orElse p r ≡ Same → (p ≡ Same) × (r ≡ Same)
+else-same : (p r : Order) → thenBy p r ≡ Same → (p ≡ Same) × (r ≡ Same)
 else-same Below r h = let z : _≡_ {A = ℕ} 0 1 = cc in absurd (omega arith)
 else-same Same r h = (refl, h)
 else-same Above r h = let z : _≡_ {A = ℕ} 0 1 = cc in absurd (omega arith)
@@ -97,7 +97,7 @@ by-suc x y = go (byNumber x y) refl
     go Same e = by-eq (ap suc (by-same e))
     go Above e = by-gt (omega (arith, by-above e))
 
-else-else : (p q r : Order) → orElse p (orElse q r) ≡ orElse (orElse p q) r
+else-else : (p q r : Order) → thenBy p (thenBy q r) ≡ thenBy (thenBy p q) r
 else-else Below q r = refl
 else-else Same q r = refl
 else-else Above q r = refl
@@ -112,43 +112,43 @@ unfolding nameOrder next
 order-none [] = refl
 order-none (x ∷ l) = by-gt (omega arith) ∙ sym (by-gt (omega arith))
 
-none-none : (s t : Bool) → nameOrder (slash s) false (slash t) false ≡ orElse (nameOrder [] s [] t) (byNumber (length (slash s)) (length (slash t)))
+none-none : (s t : Bool) → nameOrder (slash s) false (slash t) false ≡ thenBy (nameOrder [] s [] t) (byNumber (length (slash s)) (length (slash t)))
 unfolding nameOrder next byNumber
 none-none true true = refl
 none-none true false = refl
 none-none false true = refl
 none-none false false = refl
 
-below-else : (o r : Order) → o ≡ Below → o ≡ orElse o r
-below-else o r e = e ∙ ap (λ (o : Order). orElse o r) (sym e)
+below-else : (o r : Order) → o ≡ Below → o ≡ thenBy o r
+below-else o r e = e ∙ ap (λ (o : Order). thenBy o r) (sym e)
 
-above-else : (o r : Order) → o ≡ Above → o ≡ orElse o r
-above-else o r e = e ∙ ap (λ (o : Order). orElse o r) (sym e)
+above-else : (o r : Order) → o ≡ Above → o ≡ thenBy o r
+above-else o r e = e ∙ ap (λ (o : Order). thenBy o r) (sym e)
 
 -- the keys' bytes compare as the names do in Git's order, and where those are Same by the keys' lengths
 pub key-order : (a : List ℕ) (s : Bool) (b : List ℕ) (t : Bool)
-    → nameOrder (a ++ slash s) false (b ++ slash t) false ≡ orElse (nameOrder a s b t) (byNumber (length (a ++ slash s)) (length (b ++ slash t)))
+    → nameOrder (a ++ slash s) false (b ++ slash t) false ≡ thenBy (nameOrder a s b t) (byNumber (length (a ++ slash s)) (length (b ++ slash t)))
 unfolding nameOrder next
 key-order [] s [] t = none-none s t
 key-order [] false (y ∷ b) t = below-else (byNumber 0 (suc y)) _ (by-lt (omega arith))
 key-order [] true (y ∷ b) t =
-    ap (λ (o : Order). orElse o (nameOrder [] false (b ++ slash t) false)) (sym (by-suc 47 y))
-    ∙ ap (orElse (byNumber 48 (suc y))) (none-order (b ++ slash t) ∙ sym (by-suc 0 (length (b ++ slash t))))
+    ap (λ (o : Order). thenBy o (nameOrder [] false (b ++ slash t) false)) (sym (by-suc 47 y))
+    ∙ ap (thenBy (byNumber 48 (suc y))) (none-order (b ++ slash t) ∙ sym (by-suc 0 (length (b ++ slash t))))
 key-order (x ∷ a) s [] false = above-else (byNumber (suc x) 0) _ (by-gt (omega arith))
 key-order (x ∷ a) s [] true =
-    ap (λ (o : Order). orElse o (nameOrder (a ++ slash s) false [] false)) (sym (by-suc x 47))
-    ∙ ap (orElse (byNumber (suc x) 48)) (order-none (a ++ slash s) ∙ sym (by-suc (length (a ++ slash s)) 0))
+    ap (λ (o : Order). thenBy o (nameOrder (a ++ slash s) false [] false)) (sym (by-suc x 47))
+    ∙ ap (thenBy (byNumber (suc x) 48)) (order-none (a ++ slash s) ∙ sym (by-suc (length (a ++ slash s)) 0))
 key-order (x ∷ a) s (y ∷ b) t =
-    ap (orElse (byNumber x y)) (key-order a s b t)
+    ap (thenBy (byNumber x y)) (key-order a s b t)
     ∙ else-else (byNumber x y) (nameOrder a s b t) (byNumber (length (a ++ slash s)) (length (b ++ slash t)))
-    ∙ ap (orElse (orElse (byNumber x y) (nameOrder a s b t))) (sym (by-suc (length (a ++ slash s)) (length (b ++ slash t))))
+    ∙ ap (thenBy (thenBy (byNumber x y) (nameOrder a s b t))) (sym (by-suc (length (a ++ slash s)) (length (b ++ slash t))))
 
 -- the keys of names without a slash compare as the names do
 pub key-names : (a : List ℕ) (s : Bool) (b : List ℕ) (t : Bool) → freeOf 47 a ≡ true → freeOf 47 b ≡ true
     → nameOrder (a ++ slash s) false (b ++ slash t) false ≡ nameOrder a s b t
 key-names a s b t p q = key-order a s b t ∙ go (nameOrder a s b t) refl
   where
-    go : (o : Order) → nameOrder a s b t ≡ o → orElse o (byNumber (length (a ++ slash s)) (length (b ++ slash t))) ≡ o
+    go : (o : Order) → nameOrder a s b t ≡ o → thenBy o (byNumber (length (a ++ slash s)) (length (b ++ slash t))) ≡ o
     go Below e = refl
     go Same e = let w = order-same a s b t p q e in by-eq (rw (w .0, w .1) refl)
     go Above e = refl
@@ -175,10 +175,10 @@ module _ (text : List ℕ) (mark width : ℕ) where
 -- by how the two names stand
 pub below-is : (key : ℕ → List ℕ) (x y : ℕ) (a : List ℕ) (s : Bool) (b : List ℕ) (t : Bool) → key x ≡ a ++ slash s → key y ≡ b ++ slash t
     → (o : Order) → o ≡ nameOrder a s b t → (m n : ℕ) → m ≡ length (a ++ slash s) → n ≡ length (b ++ slash t)
-    → decide (orElse o (byNumber m n)) (ltb x y) ≡ belowBy key x y
+    → decide (thenBy o (byNumber m n)) (ltb x y) ≡ belowBy key x y
 unfolding belowBy
 below-is key x y a s b t p q o e m n f g =
-    let z : orElse o (byNumber m n) ≡ nameOrder (key x) false (key y) false = rw (e, f, g, p, q) (sym (key-order a s b t)) in
+    let z : thenBy o (byNumber m n) ≡ nameOrder (key x) false (key y) false = rw (e, f, g, p, q) (sym (key-order a s b t)) in
     ap (λ (o : Order). decide o (ltb x y)) z
 
 -- the same in terms of where the names begin
@@ -187,7 +187,7 @@ module _ (text : List ℕ) (mark width : ℕ) where
       → (b ≤ length text) × (drop b text ≡ pastMark mark (drop (y / 2) text))
       → (o : Order) → o ≡ nameOrder (cutTo width (drop a text)) (eqb (x % 2) 1) (cutTo width (drop b text)) (eqb (y % 2) 1)
       → (m n : ℕ) → m ≡ length (cutTo width (drop a text) ++ slash (eqb (x % 2) 1)) → n ≡ length (cutTo width (drop b text) ++ slash (eqb (y % 2) 1))
-      → decide (orElse o (byNumber m n)) (ltb x y) ≡ belowBy (keyAt text mark width) x y
+      → decide (thenBy o (byNumber m n)) (ltb x y) ≡ belowBy (keyAt text mark width) x y
   elements x y a b p q o e m n f g =
       below-is (keyAt text mark width) x y (cutTo width (drop a text)) (eqb (x % 2) 1) (cutTo width (drop b text)) (eqb (y % 2) 1)
       (key-is text mark width x a (p .1)) (key-is text mark width y b (q .1)) o e m n f g

@@ -259,8 +259,9 @@ made-of n = sym (length-replicate n 0)
 pub room-for : (n c : ℕ) → c ≤ n → c ≤ length (replicate {A = ℕ} n 0)
 room-for n c p = omega (arith, length-replicate {A = ℕ} n 0)
 
-pub no-more : (n m : ℕ) → n ≤ m → length (replicate {A = ℕ} n 0) ≤ m
-no-more n m p = omega (arith, length-replicate {A = ℕ} n 0)
+-- an array of n elements, n a variable: room for as many, and no more
+pub array-room : (n c : ℕ) (l : List ℕ) → length l ≡ n → c ≤ n → n ≤ mostRecords → (c ≤ length l) × (length l ≤ mostRecords)
+array-room n c l q p m = (omega arith, omega arith)
 
 pub most-le : 1048576 ≤ mostRecords
 most-le = omega arith

@@ -380,6 +380,25 @@ fn mend_small(s: &[u8], h: usize, count: usize, fates: &mut [usize], out: &mut [
     mend_with(s, h, count, fates, out, &mut list)
 }
 
+// With room for all, in a list that is lent: its length is known from its type, so no proof computes so long a list.
+fn mend_lent(
+    s: &[u8],
+    h: usize,
+    count: usize,
+    fates: &mut [usize],
+    out: &mut [u8],
+    list: &mut [u32; 1048576],
+) -> Mended
+    requires { ⌜ (length (now s) ≤ mostBytes) × (20 ≤ h) × (h ≤ 32) ⌝ }
+    requires { ⌜ tally 0 (listing h (now s)) ≡ Total count ⌝ }
+    requires { ⌜ (count ≤ length (now fates)) × (count ≤ mostRecords) ⌝ }
+    ensures answer { λ r. ⌜ r ≡ inRoom (length (now (out .entry))) (length (mended h (now (s .entry)))) count ⌝ }
+    ensures fates { λ r. ⌜ now (fates .exit) ≡ stored (r .verdict) (fatesOf h (now (s .entry))) (now (fates .entry)) ⌝ }
+    ensures out { λ r. ⌜ now (out .exit) ≡ stored (r .verdict) (mended h (now (s .entry))) (now (out .entry)) ⌝ }
+{
+    mend_with(s, h, count, fates, out, list)
+}
+
 // The same with room for all: four mebibytes of the stack. The call of itself is never reached. It is there because the compiler
 // lays no function that calls itself into its callers: only such an object takes this one's stack.
 fn mend_large(s: &[u8], h: usize, count: usize, fates: &mut [usize], out: &mut [u8]) -> Mended
@@ -394,7 +413,7 @@ fn mend_large(s: &[u8], h: usize, count: usize, fates: &mut [usize], out: &mut [
         return mend_large(s, h, count, fates, out);
     }
     let mut list = [0u32; 1048576];
-    mend_with(s, h, count, fates, out, &mut list)
+    mend_lent(s, h, count, fates, out, &mut list)
 }
 
 // Refused: nothing is written.

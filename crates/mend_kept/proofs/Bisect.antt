@@ -4,7 +4,7 @@ use native.Mathlib.Decide.{decLt}
 use native.Mathlib.Omega.{arith}
 use mathlib.Core.Path.{_≡_, refl, ap, sym, _∙_}
 use mathlib.Core.Bool.{Bool, true, false, false≢true, _&&_, _||_}
-use mathlib.Core.List.{List, [], _∷_, _++_}
+use mathlib.Core.List.{List, [], _∷_}
 use lib.Dec.{ltb}
 use lib.ListN.{length, getD, take, drop}
 use borrow.Author.Tests.{lt-ltb, ltb-true}
@@ -12,7 +12,7 @@ use Rattle.ground.specs.Scan.{sameBytes}
 use Rattle.ground.proofs.Laws.{and-left, and-right, same-test, same-true, same-refl}
 use Rattle.order.specs.Order.{nameOrder}
 use Rattle.order.specs.declared.Order.{Order}
-use Rattle.order.specs.declared.Order.the-variants.{Below, Same, Above}
+use Rattle.order.specs.declared.Order.the-variants.{Same}
 use Rattle.order.proofs.Laws.{order-self}
 use Rattle.entry.specs.Record.{nameOf}
 use Rattle.entry.specs.Decode.{decode}
@@ -24,7 +24,7 @@ use Rattle.entry.specs.declared.Decoded.the-variants.{Whole, Broken}
 use Rattle.keys.specs.Key.{decide, keyAt, belowBy}
 use Rattle.keys.specs.Strict.{Strict}
 use Rattle.keys.proofs.Keys.{key-strict}
-use Rattle.sorting.specs.Sort.{Ascends, UpTo}
+use Rattle.sorting.specs.Sort.{Ascends}
 use Rattle.sorting.proofs.Sorted.{ascends-pair, up-below, up-then-below}
 use Rattle.sorting.proofs.Repeats.{same-below, between}
 use Rattle.mend_kept.specs.Code.{Lowest, Known, hasName, earlier}

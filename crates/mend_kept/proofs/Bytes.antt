@@ -1,9 +1,8 @@
 -- The bytes of the entries that are kept: how they are stored, and that they are the entries as written. Assumes nothing.
-use Prim.Native.Nat.{ℕ, zero, suc, _+_, _-_, _*_, _/_, _<_, _≤_}
+use Prim.Native.Nat.{ℕ, suc, _+_, _-_, _*_, _/_, _<_, _≤_}
 use native.Mathlib.Omega.{arith}
 use native.Mathlib.Numerals.{add-one}
 use mathlib.Core.Path.{_≡_, refl, ap, sym, _∙_}
-use mathlib.Core.Bool.{Bool, true, false}
 use mathlib.Core.List.{List, [], _∷_, _++_, append-assoc}
 use lib.ListN.{length, getD, take, drop, length-append, length-take, length-drop, drop-of-length-le}
 use lib.Seq.{sets, drop-cons, drop-drop, length-take-le, take-add}
@@ -14,17 +13,17 @@ use Rattle.ground.specs.declared.Verdict.{Verdict}
 use Rattle.ground.proofs.Laws.{sets-append, count-is}
 use Rattle.mode.specs.Mode.{kindOf}
 use Rattle.mode.specs.Table.{rows, rowAt, writtenOf, shown}
-use Rattle.mode.specs.Write.{writeMode, sixDigits, trimmed}
+use Rattle.mode.specs.Write.{writeMode, trimmed}
 use Rattle.mode_table.specs.declared.EntryKind.{EntryKind}
 use Rattle.mode_table.specs.declared.EntryKind.the-variants.{Tree, Blob, BlobExecutable, Link, Commit}
 use Rattle.entry.specs.Record.{nameOf, idOf}
-use Rattle.entry.specs.Entry.{Entry, entryBytes}
+use Rattle.entry.specs.Entry.{entryBytes}
 use Rattle.entry.specs.Decode.{decode}
 use Rattle.entry.specs.declared.EntryRecord.{EntryRecord}
 use Rattle.entry.specs.declared.Cursor.{Cursor}
 use Rattle.entry.specs.declared.Decoded.{Decoded}
 use Rattle.entry.specs.declared.Decoded.the-variants.{Whole, Broken}
-use Rattle.entry.proofs.Laws.{Parts, decode-inside, decode-parts}
+use Rattle.entry.proofs.Laws.{decode-inside, decode-parts}
 use Rattle.strict.proofs.Strictly.{decoded-within}
 use Rattle.fate.specs.Fate.{ownMode, ownText}
 use Rattle.fate.proofs.Laws.{own-few}

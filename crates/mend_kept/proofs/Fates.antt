@@ -1,21 +1,19 @@
 -- What the walks store is what the definitions say: fates by the names kept before, and the elements of the entries that are kept. Assumes nothing.
-use Prim.Native.Nat.{ℕ, zero, suc, _+_, _-_, _*_, _/_, _<_, _≤_}
+use Prim.Native.Nat.{ℕ, zero, suc, _+_, _*_, _/_, _≤_}
 use native.Mathlib.Omega.{arith}
-use native.Mathlib.Numerals.{add-one}
 use mathlib.Core.Path.{_≡_, refl, ap, sym, _∙_}
 use mathlib.Core.Logic.{⊎-elim}
-use mathlib.Core.Bool.{Bool, true, false, false≢true, not, _&&_, _||_}
+use mathlib.Core.Bool.{Bool, true, false, not, _&&_, _||_}
 use mathlib.Core.List.{List, [], _∷_, _++_, map, append-nil, List·Memᴰ, List·Memᴰ·cases-cons, List·Memᴰ·not-nil}
 use lib.Dec.{eqb, ltb}
-use lib.ListN.{length, getD, drop}
+use lib.ListN.{getD, drop}
 use lib.Seq.{drop-drop, getD-drop}
-use borrow.Author.Tests.{lt-ltb, le-ltb, eqb-true}
+use borrow.Author.Tests.{lt-ltb, le-ltb}
 use Rattle.ground.specs.Basics.{pick}
 use Rattle.ground.specs.Scan.{sameBytes}
 use Rattle.ground.specs.Verdict.{mostRecords}
-use Rattle.ground.specs.declared.Verdict.{Verdict}
-use Rattle.ground.proofs.Laws.{and-left, and-right, same-true, same-refl}
-use Rattle.entry.specs.Record.{nameOf, folderOf}
+use Rattle.ground.proofs.Laws.{same-true}
+use Rattle.entry.specs.Record.{nameOf}
 use Rattle.entry.specs.Decode.{decode}
 use Rattle.entry.specs.declared.EntryRecord.{EntryRecord}
 use Rattle.entry.specs.declared.Cursor.{Cursor}
@@ -24,17 +22,17 @@ use Rattle.entry.specs.declared.Decoded.the-variants.{Whole, Broken}
 use Rattle.entry.proofs.Laws.{decode-inside}
 use Rattle.rules.specs.Rules.{nameNumber, bareNumber}
 use Rattle.rules.proofs.Laws.{number-free}
-use Rattle.reading.specs.Listing.{Listing, listing, recordsIn}
+use Rattle.reading.specs.Listing.{listing, recordsIn}
 use Rattle.reading.proofs.Laws.{restAt, none-full, none-left}
 use Rattle.strict.specs.Strict.{textOf}
 use Rattle.strict.proofs.Strictly.{decoded-free}
-use Rattle.keys.specs.Key.{keyAt, belowBy, slash}
+use Rattle.keys.specs.Key.{keyAt, belowBy}
 use Rattle.keys.proofs.Keys.{key-strict}
 use Rattle.sorting.specs.Sort.{sortBy, Perm, none, more, flip, then}
 use Rattle.sorting.proofs.Sorted.{sort-perm, sort-ascends}
 use Rattle.sorting.proofs.Repeats.{perm-mem, place-mem}
 use Rattle.fate.specs.Fate.{staysMode, ownText, fateOf}
-use Rattle.mend_kept.specs.Kept.{among, fateIn, isKept, namesAfter, fatesFrom, keptFrom, fatesOf, keptOf}
+use Rattle.mend_kept.specs.Kept.{among, fateIn, isKept, namesAfter, fatesFrom, keptFrom, fatesOf}
 use Rattle.mend_kept.specs.Code.{chosen, elementOf, elements, Known, earlier, codeFate, codeFates}
 use Rattle.mend_kept.proofs.Walk.{here-whole, decoded-place, element-key, element-whole}
 

@@ -1,5 +1,5 @@
 -- The kept entries in Git's order: the elements sorted are the entries sorted, and their bytes are the new object. Assumes nothing.
-use Prim.Native.Nat.{ℕ, zero, suc, _+_, _-_, _*_, _/_, _<_, _≤_}
+use Prim.Native.Nat.{ℕ, _+_, _-_, _≤_}
 use native.Mathlib.Omega.{arith}
 use mathlib.Core.Path.{_≡_, refl, ap, sym, _∙_}
 use mathlib.Core.Logic.{⊎-elim}
@@ -11,11 +11,10 @@ use borrow.Author.Tests.{le-ltb, eqb-true}
 use Rattle.ground.specs.Basics.{pick}
 use Rattle.ground.specs.Scan.{sameBytes, freeOf}
 use Rattle.ground.proofs.Laws.{and-left, and-right, same-refl}
-use Rattle.mode.specs.Mode.{topBits, valueOf, sortOf, executes, kindOf, isTree}
+use Rattle.mode.specs.Mode.{valueOf, sortOf, executes, kindOf, isTree}
 use Rattle.mode.specs.Table.{rows, rowAt, writtenOf}
-use Rattle.mode_table.specs.declared.EntryKind.{EntryKind}
 use Rattle.mode_table.specs.declared.EntryKind.the-variants.{Tree, Blob, BlobExecutable, Link, Commit}
-use Rattle.order.specs.Order.{nameOrder}
+use Rattle.order.specs.Order.{isBelow, nameOrder}
 use Rattle.order.specs.declared.Order.{Order}
 use Rattle.order.specs.declared.Order.the-variants.{Below, Same, Above}
 use Rattle.order.proofs.Laws.{order-same}
@@ -24,9 +23,9 @@ use Rattle.entry.specs.Entry.{Entry, entryBytes, asWritten}
 use Rattle.entry.specs.Decode.{decode}
 use Rattle.entry.specs.declared.EntryRecord.{EntryRecord}
 use Rattle.entry.specs.declared.Cursor.{Cursor}
-use Rattle.entry.specs.declared.Decoded.the-variants.{Whole, Broken}
+use Rattle.entry.specs.declared.Decoded.the-variants.{Whole}
 use Rattle.entry.proofs.Laws.{decode-inside}
-use Rattle.rules.specs.Rules.{nameNumber, standsBefore, isBelow, permitted, isPlain, isDotGit, orElse}
+use Rattle.rules.specs.Rules.{nameNumber, standsBefore, permitted, isDotGit, orElse}
 use Rattle.rules.proofs.Laws.{permitted-parts}
 use Rattle.reading.specs.Listing.{listing, recordsIn}
 use Rattle.strict.specs.Strict.{textOf}
@@ -35,7 +34,7 @@ use Rattle.keys.proofs.Keys.{key-names}
 use Rattle.sorting.specs.Sort.{insertBy, sortBy, Perm, none, more, flip, then}
 use Rattle.sorting.proofs.Sorted.{sort-perm}
 use Rattle.sorting.proofs.Repeats.{perm-mem}
-use Rattle.fate.specs.Fate.{staysMode, ownMode, ownText, fateOf}
+use Rattle.fate.specs.Fate.{staysMode, ownMode, ownText}
 use Rattle.mend_kept.specs.Kept.{among, fateIn, isKept, namesAfter, fatesFrom, keptFrom, keptOf, mendedEntry, mended}
 use Rattle.mend_kept.specs.Code.{elementOf, elements, keptSize, codeSize, codeFate, codeFates, keptBytes, bytesAt, allBytes}
 use Rattle.mend_kept.proofs.Walk.{element-key, element-whole}

@@ -1,6 +1,5 @@
 -- The walks over an object, turn by turn: elements gathered, and what is done to each entry stored. Assumes nothing.
 use Prim.Native.Nat.{ℕ, zero, suc, _+_, _-_, _*_, _/_, _%_, _<_, _≤_}
-use native.Mathlib.Decide.{decLe}
 use native.Mathlib.Numerals.{add-one}
 use native.Mathlib.Omega.{arith}
 use mathlib.Core.Path.{_≡_, refl, ap, sym, _∙_}
@@ -8,25 +7,23 @@ use mathlib.Core.Bool.{Bool, true, false, _&&_}
 use mathlib.Core.List.{List, [], _∷_, _++_}
 use lib.Dec.{eqb, ltb}
 use lib.ListN.{length, getD, take, drop, set, length-set, length-drop}
-use lib.Seq.{sets, drop-drop, length-sets, set-out}
+use lib.Seq.{sets, drop-drop, set-out}
 use borrow.Author.Tests.{lt-ltb, le-ltb, eq-eqb, ne-eqb}
 use Rattle.ground.specs.Basics.{pick}
 use Rattle.ground.specs.Scan.{countTo}
-use Rattle.ground.specs.Verdict.{mostBytes, mostRecords}
-use Rattle.ground.specs.declared.Verdict.{Verdict}
+use Rattle.ground.specs.Verdict.{mostRecords}
 use Rattle.ground.proofs.Laws.{getD-any}
 use Rattle.mode_round.proofs.Space.{read-count}
 use Rattle.entry.specs.Record.{nameOf, folderOf}
 use Rattle.entry.specs.Decode.{decode}
 use Rattle.entry.specs.declared.EntryRecord.{EntryRecord}
 use Rattle.entry.specs.declared.Cursor.{Cursor}
-use Rattle.entry.specs.declared.Decoded.{Decoded}
-use Rattle.entry.specs.declared.Decoded.the-variants.{Whole, Broken}
+use Rattle.entry.specs.declared.Decoded.the-variants.{Whole}
 use Rattle.entry.proofs.Laws.{Parts, decode-inside, decode-parts}
-use Rattle.reading.specs.Listing.{Listing, done, stop, entry, listing, recordsIn}
-use Rattle.reading.proofs.Laws.{restAt, rest-end, whole-here, none-full, none-left}
+use Rattle.reading.specs.Listing.{done, entry, listing, recordsIn}
+use Rattle.reading.proofs.Laws.{restAt, rest-end, whole-here}
 use Rattle.strict.specs.Strict.{textOf}
-use Rattle.strict.proofs.Strictly.{decoded-within, decoded-free}
+use Rattle.strict.proofs.Strictly.{decoded-within}
 use Rattle.keys.specs.Key.{pastMark, cutTo, nameAt, folder, slash, keyAt}
 use Rattle.rules.specs.Rules.{bareNumber}
 use Rattle.fate.specs.Fate.{staysMode, ownText, fateOf}

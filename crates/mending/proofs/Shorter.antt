@@ -1,23 +1,23 @@
 -- The new object is never longer: no text of a kind's own mode is longer than a text that was read as such a mode. Assumes nothing.
-use Prim.Native.Nat.{ℕ, zero, suc, _+_, _-_, _*_, _/_, _%_, _<_, _≤_}
+use Prim.Native.Nat.{ℕ, zero, suc, _+_, _-_, _*_, _%_, _≤_}
 use native.Mathlib.Omega.{arith}
 use native.Mathlib.Decide.{decLe}
 use mathlib.Core.Path.{_≡_, refl, ap, sym, _∙_}
-use mathlib.Core.Bool.{Bool, true, false, false≢true, _&&_, _||_}
-use mathlib.Core.List.{List, [], _∷_, _++_, map}
+use mathlib.Core.Bool.{Bool, true, false, _&&_, _||_}
+use mathlib.Core.List.{List, [], _∷_, map}
 use mathlib.Core.Logic.{_⊎_, inl, inr, ⊎-elim}
 use lib.Dec.{eqb, leb}
 use lib.ListN.{length, getD, take, drop, length-append, length-drop, length-take}
-use borrow.Author.Tests.{eqb-true, ne-eqb, eq-eqb, leb-true}
+use borrow.Author.Tests.{eqb-true, ne-eqb, leb-true}
 use Rattle.ground.specs.Basics.{pick}
-use Rattle.mode.specs.Mode.{topBits, valueOf, sortOf, executes, kindOf, isTree}
+use Rattle.mode.specs.Mode.{topBits, valueOf, sortOf, kindOf, isTree}
 use Rattle.mode.specs.Read.{octalFrom, textLen, settle, restAt, modeOf, readMode}
 use Rattle.mode.specs.Table.{rows, rowAt, writtenOf, shown}
-use Rattle.mode_table.specs.declared.EntryKind.the-variants.{Tree, Blob, BlobExecutable, Link, Commit}
+use Rattle.mode_table.specs.declared.EntryKind.the-variants.{Tree}
 use Rattle.mode.specs.declared.ModeRead.the-variants.{Mode}
 use Rattle.mode.specs.declared.EntryMode.{EntryMode}
 use Rattle.mode.proofs.Laws.{read-parts, read-text, rest-more, text-le}
-use Rattle.entry.specs.Entry.{Entry, entryBytes, asWritten}
+use Rattle.entry.specs.Entry.{entryBytes, asWritten}
 use Rattle.entry.specs.Decode.{decode}
 use Rattle.entry.specs.declared.EntryRecord.{EntryRecord}
 use Rattle.entry.specs.declared.Cursor.{Cursor}

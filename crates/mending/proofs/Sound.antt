@@ -1,20 +1,20 @@
 -- The entries of the new object are sound under rule set 2. Assumes nothing.
-use Prim.Native.Nat.{ℕ, _+_, _-_, _<_, _≤_}
+use Prim.Native.Nat.{ℕ, _≤_}
 use native.Mathlib.Omega.{arith}
 use mathlib.Core.Path.{_≡_, refl, ap, sym, _∙_}
-use mathlib.Core.Logic.{_⊎_, inl, inr, ⊎-elim}
+use mathlib.Core.Logic.{inl, inr, ⊎-elim}
 use mathlib.Core.Bool.{Bool, true, false, false≢true, not}
-use mathlib.Core.List.{List, [], _∷_, _++_, map, List·Memᴰ, List·Memᴰ·head, List·Memᴰ·tail, List·Memᴰ·cases-cons, List·Memᴰ·not-nil}
-use lib.ListN.{length, drop, length-drop}
+use mathlib.Core.List.{List, [], _∷_, map, List·Memᴰ, List·Memᴰ·head, List·Memᴰ·tail, List·Memᴰ·cases-cons, List·Memᴰ·not-nil}
+use lib.ListN.{drop, length-drop}
 use lib.Seq.{length-take-le}
-use Rattle.ground.specs.Basics.{pick, ascii}
-use Rattle.ground.specs.Scan.{sameBytes, freeOf}
+use Rattle.ground.specs.Basics.{ascii}
+use Rattle.ground.specs.Scan.{sameBytes}
 use Rattle.ground.proofs.Laws.{same-refl}
 use Rattle.mode.specs.Mode.{kindOf, isTree}
 use Rattle.mode.specs.Table.{rows, rowAt, writtenOf}
 use Rattle.mode_table.specs.declared.EntryKind.{EntryKind}
 use Rattle.mode_table.specs.declared.EntryKind.the-variants.{Tree, Blob, BlobExecutable, Link, Commit}
-use Rattle.order.specs.Order.{nameOrder, opposite}
+use Rattle.order.specs.Order.{isBelow, nameOrder, opposite}
 use Rattle.order.specs.declared.Order.{Order}
 use Rattle.order.specs.declared.Order.the-variants.{Below, Same, Above}
 use Rattle.order.proofs.Laws.{order-same, order-flip}
@@ -22,21 +22,21 @@ use Rattle.entry.specs.Record.{nameOf, idOf}
 use Rattle.entry.specs.Entry.{Entry}
 use Rattle.entry.specs.declared.EntryRecord.{EntryRecord}
 use Rattle.entry.proofs.Laws.{decode-inside}
-use Rattle.rules.specs.Rules.{standsBefore, isBelow, isDotGit, lower}
+use Rattle.rules.specs.Rules.{standsBefore, isDotGit}
 use Rattle.rules.proofs.Laws.{permitted-parts}
 use Rattle.reading.specs.Listing.{listing, recordsIn}
 use Rattle.one_listing.specs.Sound.{Five, SoundEntry, Before, Ascending, EachSound, SoundListing}
 use Rattle.one_listing.specs.Sound as sound
 use Rattle.keys.specs.Key.{keyAt, belowBy}
 use Rattle.keys.proofs.Keys.{key-strict}
-use Rattle.sorting.specs.Sort.{sortBy, Ascends, UpTo}
+use Rattle.sorting.specs.Sort.{sortBy, Ascends}
 use Rattle.sorting.proofs.Sorted.{sort-perm, sort-ascends, perm-sym}
 use Rattle.sorting.proofs.Repeats.{perm-mem, Once, perm-once}
 use Rattle.fate.specs.Fate.{ownMode}
-use Rattle.mend.specs.Mend.{keptFrom, keptOf, mendedEntry, mended}
+use Rattle.mend.specs.Mend.{keptOf, mendedEntry}
 use Rattle.mend_kept.specs.Code.{elementOf}
 use Rattle.mend_kept.proofs.Fates.{All, all-mem}
-use Rattle.mend_kept.proofs.Sorts.{sort-map, sort-same, all-of, Kept, kept-are, Distinct, kept-distinct, one-name, name-free, own-tree, below-stands}
+use Rattle.mend_kept.proofs.Sorts.{sort-map, sort-same, all-of, Kept, kept-are, Distinct, kept-distinct, one-name, name-free, below-stands}
 use Rattle.mending.specs.Mending.{mendedListing}
 
 -- ---- one entry

@@ -1,42 +1,40 @@
 -- An object that is strict under rule set 2 is written unchanged, and all its entries are kept. Assumes nothing.
-use Prim.Native.Nat.{ℕ, suc, _+_, _-_, _<_, _≤_}
+use Prim.Native.Nat.{ℕ, _+_, _-_, _≤_}
 use native.Mathlib.Omega.{arith}
-use mathlib.Core.Path.{_≡_, refl, ap, sym, _∙_}
-use mathlib.Core.Logic.{_⊎_, inl, inr, ⊎-elim}
-use mathlib.Core.Bool.{Bool, true, false, false≢true, _||_}
+use mathlib.Core.Path.{_≡_, refl, ap, _∙_}
+use mathlib.Core.Logic.{inl, inr, ⊎-elim}
+use mathlib.Core.Bool.{true, false}
 use mathlib.Core.List.{List, [], _∷_, _++_, map, append-assoc, List·Memᴰ, List·Memᴰ·head, List·Memᴰ·tail}
-use lib.ListN.{length, take, drop, length-append}
+use lib.ListN.{length, length-append}
 use lib.Seq.{take-append-seam, drop-append-seam}
-use Rattle.ground.specs.Basics.{pick}
 use Rattle.ground.specs.Scan.{sameBytes}
 use Rattle.ground.specs.Verdict.{mostRecords}
 use Rattle.ground.proofs.Laws.{same-refl, same-true, is-false}
-use Rattle.mode.specs.Mode.{topBits, valueOf, sortOf, executes, kindOf, isTree}
+use Rattle.mode.specs.Mode.{valueOf, sortOf, executes, kindOf, isTree}
 use Rattle.mode.specs.Table.{rows, rowAt, writtenOf}
 use Rattle.mode.specs.Write.{writeMode}
-use Rattle.order.specs.Order.{nameOrder, opposite}
-use Rattle.order.specs.declared.Order.{Order}
-use Rattle.order.specs.declared.Order.the-variants.{Below, Same, Above}
+use Rattle.order.specs.Order.{isBelow, nameOrder, opposite}
+use Rattle.order.specs.declared.Order.the-variants.{Above}
 use Rattle.order.proofs.Laws.{order-flip}
 use Rattle.entry.specs.Record.{nameOf, idOf}
 use Rattle.entry.specs.Entry.{Entry, entryBytes, asWritten, entryOf}
 use Rattle.entry.specs.declared.EntryRecord.{EntryRecord}
-use Rattle.rules.specs.Rules.{gitRules, nameNumber, standsBefore, isBelow}
+use Rattle.rules.specs.Rules.{gitRules, nameNumber, standsBefore}
 use Rattle.reading.specs.Listing.{listing, recordsIn}
 use Rattle.strict.specs.Strict.{textOf}
 use Rattle.one_listing.specs.Again.{againEntry}
 use Rattle.one_listing.specs.Demand.{Accepts}
-use Rattle.one_listing.specs.Sound.{Five, SoundEntry, Before, Ascending, EachSound, Sound, SoundListing}
+use Rattle.one_listing.specs.Sound.{Five, SoundEntry, Ascending, EachSound, Sound}
 use Rattle.one_listing.specs.Sound as sound
 use Rattle.one_listing.proofs.Back.{Writable, recordFor, listed, bytes-append, record-names, read-written}
 use Rattle.one_listing.proofs.Cutting.{sound-writable, sound-again}
 use Rattle.one_listing.proofs.Theorem.{accepts-sound}
 use Rattle.one_listing.proofs.Present.{git-ok, plainly}
-use Rattle.sorting.specs.Sort.{sortBy, Ascends}
+use Rattle.sorting.specs.Sort.{Ascends}
 use Rattle.sorting.proofs.Sorted.{sort-done}
 use Rattle.fate.specs.Fate.{staysMode, ownMode, ownText, fateOf}
 use Rattle.fate.proofs.Laws.{fate-kept}
-use Rattle.mend.specs.Mend.{among, fateIn, isKept, namesAfter, fatesFrom, keptFrom, fatesOf, keptOf, mendedEntry, mended}
+use Rattle.mend.specs.Mend.{among, fateIn, namesAfter, fatesFrom, keptFrom, fatesOf, mendedEntry, mended}
 use Rattle.mend_kept.proofs.Bytes.{own-text}
 use Rattle.mend_kept.proofs.Fates.{All}
 

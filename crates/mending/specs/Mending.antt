@@ -1,20 +1,17 @@
 -- What is claimed of mending, for every answer that the contract of `mend_tree` allows (`proofs/Theorem.antt` proves it). Assumes nothing.
-use Prim.Native.Nat.{ℕ, _≤_, _<_}
+use Prim.Native.Nat.{ℕ, _≤_}
 use mathlib.Core.Path.{_≡_}
-use mathlib.Core.Bool.{Bool, true}
 use mathlib.Core.List.{List, [], _∷_, map, List·Memᴰ}
-use mathlib.Core.Logic.{_⊎_}
-use lib.ListN.{length, getD}
+use lib.ListN.{length}
 use Rattle.ground.specs.Verdict.{mostRecords}
 use Rattle.entry.specs.Record.{many, nameOf, idOf}
-use Rattle.entry.specs.Entry.{Entry, asWritten}
+use Rattle.entry.specs.Entry.{Entry}
 use Rattle.entry.specs.declared.EntryRecord.{EntryRecord}
 use Rattle.rules.specs.Rules.{gitRules, standsBefore}
 use Rattle.reading.specs.Listing.{listing, recordsIn}
 use Rattle.one_listing.specs.Demand.{Accepts}
 use Rattle.sorting.specs.Sort.{sortBy}
 use Rattle.mend.specs.Mend.{fatesOf, keptOf, mendedEntry, mended, mendAnswer}
-use Rattle.mend.specs.declared.Mended.{Mended}
 
 -- the entries of the new object
 unfoldable pub mendedListing : ℕ → List ℕ → List Entry

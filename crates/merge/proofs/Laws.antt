@@ -21,7 +21,7 @@ use Rattle.entry.specs.declared.Cursor.{Cursor}
 use Rattle.entry.specs.declared.Decoded.{Decoded}
 use Rattle.entry.specs.declared.Decoded.the-variants.{Whole, Broken}
 use Rattle.entry.proofs.Laws.{decode-inside}
-use Rattle.merge.specs.Merge.{byOrder, bytesOf, Within, moved, aheadOf, aheadAt, EntryWithin, AheadWithin, noSide, sideOf, nameIn, idIn, changeOf, leftChange, rightChange, bothOf, stepOf, stepAt, ChangeWithin, Leads, StepWithin}
+use Rattle.merge.specs.Merge.{byOrder, bytesOf, Within, moved, aheadOf, aheadAt, EntryWithin, AheadWithin, noSide, sideOf, nameIn, idIn, changeOf, leftChange, rightChange, bothOf, mergeStep, stepAt, ChangeWithin, Leads, StepWithin}
 use Rattle.merge.specs.declared.Rest.{Rest}
 use Rattle.merge.specs.declared.Ahead.{Ahead}
 use Rattle.merge.specs.declared.Ahead.the-variants.{End, Entry}
@@ -128,34 +128,34 @@ order-is o x p y q e f g = e ∙ rw (f, g)
 -- ---- the step, way by way
 
 module _ (h : ℕ) (s : List ℕ) (l r : Rest) (x y : Ahead) (ex : x ≡ aheadAt h s l) (ey : y ≡ aheadAt h s r) where
-  step-is : stepAt h s l r ≡ stepOf h s l r x y
+  step-is : stepAt h s l r ≡ mergeStep h s l r x y
   unfolding stepAt
   step-is = rw (← ex, ← ey)
 
   pub step-done : x ≡ End → y ≡ End → step.Done ≡ stepAt h s l r
-  unfolding stepOf
+  unfolding mergeStep
   step-done p q = sym (step-is ∙ rw (p, q))
 
   pub step-right-end : x ≡ End → (b : EntryRecord) (next : Rest) → y ≡ Entry b next → (c : Change) → c ≡ rightChange h b → step.Differs c l next ≡ stepAt h s l r
-  unfolding stepOf
+  unfolding mergeStep
   step-right-end p b next q c e = sym (step-is ∙ rw (p, q, e))
 
   pub step-left-end : y ≡ End → (a : EntryRecord) (next : Rest) → x ≡ Entry a next → (c : Change) → c ≡ leftChange h a → step.Differs c next r ≡ stepAt h s l r
-  unfolding stepOf
+  unfolding mergeStep
   step-left-end p a next q c e = sym (step-is ∙ rw (q, p, e))
 
   module _ (a : EntryRecord) (next : Rest) (p : x ≡ Entry a next) (b : EntryRecord) (other : Rest) (q : y ≡ Entry b other)
       (o : Order) (eo : o ≡ nameOrder (nameIn s a) (folderOf a) (nameIn s b) (folderOf b)) where
     pub step-left : o ≡ Below → (c : Change) → c ≡ leftChange h a → step.Differs c next r ≡ stepAt h s l r
-    unfolding stepOf
+    unfolding mergeStep
     step-left k c e = sym (step-is ∙ rw (p, q, ← eo, k, e))
 
     pub step-right : o ≡ Above → (c : Change) → c ≡ rightChange h b → step.Differs c l other ≡ stepAt h s l r
-    unfolding stepOf
+    unfolding mergeStep
     step-right k c e = sym (step-is ∙ rw (p, q, ← eo, k, e))
 
     pub step-both : o ≡ Same → (t : Step) → t ≡ bothOf h s a b next other → t ≡ stepAt h s l r
-    unfolding stepOf
+    unfolding mergeStep
     step-both k t e = sym (step-is ∙ rw (p, q, ← eo, k, e))
 
 -- the entry that was found lies inside the bundle
@@ -194,8 +194,8 @@ module _ (h : ℕ) (s : List ℕ) (l r : Rest) (wl : Within s l) (wr : Within s 
   by-order Same x y z p q t = q
   by-order Above x y z p q t = t
 
-  steps : (x y : Ahead) → AheadWithin h s l x → AheadWithin h s r y → StepWithin s l r (stepOf h s l r x y)
-  unfolding stepOf
+  steps : (x y : Ahead) → AheadWithin h s l x → AheadWithin h s r y → StepWithin s l r (mergeStep h s l r x y)
+  unfolding mergeStep
   steps End End p q = tt
   steps End (Entry b next) p q = right-in b next q
   steps (Entry a next) End p q = left-in a next p

@@ -105,18 +105,18 @@ bothOf h s a b l r =
     (step.Differs (changeOf a (sideOf h a) (sideOf h b) (folderOf a)) l r)
 
 -- the lower of two entries in Git's order comes alone; entries of one name and sort come together
-unfoldable pub stepOf : ℕ → List ℕ → Rest → Rest → Ahead → Ahead → Step
-stepOf h s l r End End = step.Done
-stepOf h s l r End (Entry b next) = step.Differs (rightChange h b) l next
-stepOf h s l r (Entry a next) End = step.Differs (leftChange h a) next r
-stepOf h s l r (Entry a nextl) (Entry b nextr) =
+unfoldable pub mergeStep : ℕ → List ℕ → Rest → Rest → Ahead → Ahead → Step
+mergeStep h s l r End End = step.Done
+mergeStep h s l r End (Entry b next) = step.Differs (rightChange h b) l next
+mergeStep h s l r (Entry a next) End = step.Differs (leftChange h a) next r
+mergeStep h s l r (Entry a nextl) (Entry b nextr) =
     byOrder (nameOrder (nameIn s a) (folderOf a) (nameIn s b) (folderOf b))
     (step.Differs (leftChange h a) nextl r)
     (bothOf h s a b nextl nextr)
     (step.Differs (rightChange h b) l nextr)
 
 unfoldable pub stepAt : ℕ → List ℕ → Rest → Rest → Step
-stepAt h s l r = stepOf h s l r (aheadAt h s l) (aheadAt h s r)
+stepAt h s l r = mergeStep h s l r (aheadAt h s l) (aheadAt h s r)
 
 -- ---- where a step leads
 

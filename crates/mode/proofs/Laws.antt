@@ -39,6 +39,11 @@ mask-execute v =
     (λ e. eq-eqb (v / 0o100 % 2) 1 (omega (arith, and-high v 1 6, eqb-true (bitAnd v 0o100) 0o100 e)))
     (λ e. eq-eqb (bitAnd v 0o100) 0o100 (omega (arith, and-high v 1 6, eqb-true (v / 0o100 % 2) 1 e)))
 
+-- by the value of a mode
+pub executes-told : (m v : ℕ) → v ≡ valueOf m → executes m ≡ eqb (bitAnd v 0o100) 0o100
+unfolding executes
+executes-told m v e = sym (mask-execute v ∙ ap (λ (v : ℕ). eqb (v / 0o100 % 2) 1) e)
+
 -- equal numbers answer a test alike
 pub test : {a b : ℕ} (k : ℕ) → a ≡ b → eqb a k ≡ eqb b k
 test k e = ap (λ (v : ℕ). eqb v k) e

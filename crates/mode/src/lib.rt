@@ -7,7 +7,7 @@ ghost use Rattle.ground.specs.Basics.{pick};
 ghost use Rattle.mode_text.specs.Write.{modeText};
 ghost use Rattle.mode_table.specs.Kind.{isExecutable, isFileOrLink};
 ghost use Rattle.mode_table.specs.declared.EntryKind.the-variants.{Blob, BlobExecutable};
-ghost use Rattle.mode.specs.Mode.{valueOf, sortOf, executes, kindOf, wordOf, isTree, rejected, fromNumber};
+ghost use Rattle.mode.specs.Mode.{valueOf, sortOf, executes, kindOf, wordOf, isTree, fromNumber};
 ghost use Rattle.mode.specs.Read.{readModeAt, alone, modeAlone};
 use ground::BROKEN_ENTRY;
 use ground::FINE;
@@ -61,15 +61,6 @@ const NO_NUMBER: ModeAnswer = ModeAnswer {
 };
 
 impl ModeAnswer {
-    fn refused(v: Verdict) -> ModeAnswer
-        ensures { λ r. ⌜ r ≡ rejected v ⌝ }
-    {
-        ModeAnswer {
-            verdict: v,
-            mode: EntryMode { internal: 0 },
-        }
-    }
-
     // A mode text that stands alone.
     fn alone(read: ModeRead) -> ModeAnswer
         ensures { λ r. ⌜ r ≡ alone read ⌝ }
@@ -119,18 +110,11 @@ impl EntryMode {
         self.value() & EntryMode::IFMT
     }
 
-    // The owner may execute it.
-    fn executes(self) -> bool
-        ensures { λ r. ⌜ r ≡ executes (self .internal) ⌝ }
-    {
-        self.value() & EntryMode::EXECUTE == EntryMode::EXECUTE
-    }
-
-    // The kind of a file.
+    // The kind of a file, by whether its owner may execute it.
     fn file_kind(self) -> EntryKind
         ensures { λ r. ⌜ r ≡ pick (executes (self .internal)) BlobExecutable Blob ⌝ }
     {
-        if self.executes() {
+        if self.value() & EntryMode::EXECUTE == EntryMode::EXECUTE {
             EntryKind::BlobExecutable
         } else {
             EntryKind::Blob
@@ -226,7 +210,10 @@ impl EntryMode {
     {
         match sizes(i.len(), 0) {
             Gate::Open => ModeAnswer::alone(EntryMode::extract_at(i, 0)),
-            Gate::Shut(v) => ModeAnswer::refused(v),
+            Gate::Shut(v) => ModeAnswer {
+                verdict: v,
+                mode: EntryMode { internal: 0 },
+            },
         }
     }
 

@@ -6,7 +6,7 @@ use native.Mathlib.Omega.{arith}
 use Prim.Native.Nat.{ℕ, suc, _+_, _-_, _*_, _/_, _%_, _<_, _≤_, min}
 use mathlib.Core.Path.{_≡_, refl, ap, sym, _∙_}
 use mathlib.Core.Bool.{Bool, true, false, true≢false, _&&_}
-use mathlib.Core.List.{List, [], _∷_, _++_}
+use mathlib.Core.List.{List, [], _∷_}
 use lib.Dec.{eqb, ltb, leb}
 use lib.ListN.{length, getD, take, drop, replicate, drop-of-length-le, List·getD-eq-default, length-take, length-drop, length-append}
 use lib.Seq.{drop-cons, getD-take, take-take, take-all, take-append-seam}
@@ -16,7 +16,6 @@ use Rattle.ground.specs.Scan.{countTo}
 use Rattle.ground.proofs.Laws.{count-le, count-take}
 use Rattle.mode_text.specs.Read.{octalFrom, hasSix, textLen, settle, restAt, textOf, readText, moved, readTextAt}
 use Rattle.mode_text.specs.Write.{sixDigits, trimmed, writeMode, short, shown, modeText}
-use Rattle.mode_text.specs.declared.TextRead.{TextRead}
 use Rattle.mode_text.specs.declared.TextRead.the-variants.{Bits, Bad}
 use Rattle.mode_text.specs.declared.Octal.{Octal}
 use Rattle.mode_text.specs.declared.Octal.the-variants.{Number, Other}

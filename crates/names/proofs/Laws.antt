@@ -4,12 +4,12 @@ use native.Mathlib.Omega.{arith}
 use mathlib.Core.Path.{_≡_, refl, sym, _∙_}
 use mathlib.Core.Bool.{Bool, true, false, not, _&&_, _||_, false≢true}
 use mathlib.Core.List.{List, [], _∷_, map}
-use lib.Dec.{eqb, leb}
+use lib.Dec.{eqb}
 use lib.ListN.{length, getD, length-map}
-use borrow.Author.Tests.{le-leb, lt-leb, eq-eqb, ne-eqb, eqb-true}
+use borrow.Author.Tests.{le-leb, lt-leb, ne-eqb}
 use Rattle.ground.specs.Basics.{ascii}
-use Rattle.ground.specs.Scan.{countTo, sameBytes, freeOf}
-use Rattle.ground.proofs.Laws.{is-false, and-left, and-right, whole-free, free-whole, same-length, same-test}
+use Rattle.ground.specs.Scan.{sameBytes, freeOf}
+use Rattle.ground.proofs.Laws.{is-false, and-left, and-right, same-length}
 use Rattle.names.specs.Names.{isPlain, lower, isDotGit, bareNumber}
 
 module _ (n : List ℕ) where
@@ -36,32 +36,26 @@ module _ (n : List ℕ) where
       go [] = refl
       go (x ∷ xs) = rw (ne-eqb (length (x ∷ xs)) 0 (λ z. omega arith))
 
-  no-slash : eqb (countTo 47 n) (length n) ≡ freeOf 47 n
-  no-slash =
-      same-test (eqb (countTo 47 n) (length n)) (freeOf 47 n)
-      (λ e. free-whole 47 n (eqb-true (countTo 47 n) (length n) e))
-      (λ e. eq-eqb (countTo 47 n) (length n) (whole-free 47 n e))
-
   neither : (a b c : Bool) → (not (a || b) && c) ≡ (not a && (not b && c))
   neither true b c = refl
   neither false b c = refl
 
   -- a plain name by its tests
   pub plain-is :
-      (not (eqb (length n) 0) && (eqb (countTo 47 n) (length n) && (not (sameBytes n (ascii ".") || sameBytes n (ascii "..")) && not (sameBytes n (ascii ".git")))))
+      (not (eqb (length n) 0) && (freeOf 47 n && (not (sameBytes n (ascii ".") || sameBytes n (ascii "..")) && not (sameBytes n (ascii ".git")))))
       ≡ isPlain n
   unfolding isPlain
-  plain-is = rw (some-bytes, no-slash, neither (sameBytes n (ascii ".")) (sameBytes n (ascii "..")) (not (sameBytes n (ascii ".git"))))
+  plain-is = rw (some-bytes, neither (sameBytes n (ascii ".")) (sameBytes n (ascii "..")) (not (sameBytes n (ascii ".git"))))
 
   -- of more than four bytes it is none of the three
   other : (m : List ℕ) → length m ≤ 4 → 4 < length n → sameBytes n m ≡ false
   other m k h = same-length n m (λ e. omega arith)
 
-  pub plain-long : 4 < length n → eqb (countTo 47 n) (length n) ≡ isPlain n
+  pub plain-long : 4 < length n → freeOf 47 n ≡ isPlain n
   unfolding isPlain
   plain-long h =
       rw
-      (other [] (omega arith) h, other (ascii ".") (omega arith) h, other (ascii "..") (omega arith) h, other (ascii ".git") (omega arith) h, no-slash)
+      (other [] (omega arith) h, other (ascii ".") (omega arith) h, other (ascii "..") (omega arith) h, other (ascii ".git") (omega arith) h)
       (ends (freeOf 47 n))
     where
       ends : (v : Bool) → v ≡ (v && true)

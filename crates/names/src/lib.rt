@@ -4,10 +4,10 @@ ghost use mathlib.Core.Bool.{_||_};
 ghost use Rattle.ground.specs.Basics.{ascii};
 ghost use Rattle.ground.specs.Scan.{sameBytes};
 ghost use Rattle.names.specs.Names.{isPlain, lower, isDotGit, bareNumber};
+use free_of::is_free;
 use ground::DONE;
 use ground::DOT_GIT;
 use ground::NAME;
-use scan::count_far;
 use scan::same_bytes;
 
 // Whether a name is `.` or `..`.
@@ -21,7 +21,7 @@ fn is_dots(name: &[u8]) -> bool
 fn is_plain(name: &[u8]) -> bool
     ensures { λ r. ⌜ r ≡ isPlain (now (name .entry)) ⌝ }
 {
-    let free = count_far(name, b'/') == name.len();
+    let free = is_free(name, b'/');
     if 4 < name.len() {
         return free;
     }

@@ -12,11 +12,11 @@ use Rattle.ground.specs.Scan.{sameBytes}
 use Rattle.ground.proofs.Laws.{is-false, same-refl, same-true}
 use Rattle.mode_table.specs.Table.{rows}
 use Rattle.mode_text.specs.Write.{writeMode, trimmed, again}
-use Rattle.order.specs.declared.Order.{Order}
-use Rattle.order.specs.declared.Order.the-variants.{Below, Same, Above}
 use Rattle.entry.specs.Entry.{Entry}
 use Rattle.doubles.specs.Doubles.{namedBefore}
-use Rattle.rules.specs.Rules.{orElse, groupRow, modesOf, isPlain, permitted, lower, isDotGit, nameNumber, isBelow, standsBefore, isAfter, afterNumber, gitRules}
+use Rattle.order.specs.Order.{isBelow}
+use Rattle.order.proofs.Laws.{below-is}
+use Rattle.rules.specs.Rules.{orElse, groupRow, modesOf, isPlain, permitted, lower, isDotGit, nameNumber, standsBefore, isAfter, afterNumber, gitRules}
 use Rattle.rules.proofs.Laws.{permitted-parts}
 use Rattle.one_listing.specs.Sound.{isMode, Permitted, Sound, Five, SoundEntry, Before, Ascending, EachSound, Distinct, SoundListing}
 use Rattle.one_listing.specs.Lawful.{RowsOk, RulesOk}
@@ -51,11 +51,6 @@ modes-ok k = go (eqb k 1)
     go : (v : Bool) → RowsOk (pick v (groupRow ∷ rows) rows)
     go true = (record { written = refl; some = λ e. omega arith; small = omega arith; same = refl }, rows-ok)
     go false = rows-ok
-
-below-is : (o : Order) → isBelow o ≡ true → o ≡ Below
-below-is Below e = refl
-below-is Same e = absurd (false≢true e)
-below-is Above e = absurd (false≢true e)
 
 after-before : (p : Entry) (ps : List Entry) (e : Entry) → isAfter (p ∷ ps) e ≡ true → Before p e
 unfolding isAfter standsBefore

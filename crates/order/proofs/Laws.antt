@@ -16,7 +16,12 @@ use Rattle.ground.specs.Scan.{commonStart, freeOf}
 use Rattle.ground.proofs.Laws.{common-same, common-differ, common-off, equal}
 use Rattle.order.specs.declared.Order.{Order}
 use Rattle.order.specs.declared.Order.the-variants.{Below, Same, Above}
-use Rattle.order.specs.Order.{byNumber, orElse, opposite, next, nameOrder, orderNumber}
+use Rattle.order.specs.Order.{byNumber, thenBy, isBelow, opposite, next, nameOrder, orderNumber}
+
+pub below-is : (o : Order) → isBelow o ≡ true → o ≡ Below
+below-is Below e = refl
+below-is Same e = absurd (false≢true e)
+below-is Above e = absurd (false≢true e)
 
 -- ---- two numbers
 
@@ -81,7 +86,7 @@ pub next-past : (s : List ℕ) (i : ℕ) (tree : Bool) → length s ≤ i → ne
 next-past s i tree h = rw drop-of-length-le
 
 -- first bytes that differ decide
-differ : (x y : ℕ) (rest : Order) → (x ≡ y → ⊥) → orElse (byNumber x y) rest ≡ byNumber (suc x) (suc y)
+differ : (x y : ℕ) (rest : Order) → (x ≡ y → ⊥) → thenBy (byNumber x y) rest ≡ byNumber (suc x) (suc y)
 differ x y rest n =
     ⊎-elim (λ h. rw (by-lt {x = x} {y = y} h) (sym (by-lt (omega arith))))
     (⊎-elim (λ e. absurd (n e)) (λ h. rw (by-gt {x = x} {y = y} h) (sym (by-gt (omega arith)))))
@@ -118,17 +123,17 @@ module _ (a : List ℕ) (s : Bool) (b : List ℕ) (t : Bool) (i : ℕ) (e : i �
 
 -- ---- it is an order, of all names
 
-else-flip : (p r : Order) → orElse (opposite p) (opposite r) ≡ opposite (orElse p r)
+else-flip : (p r : Order) → thenBy (opposite p) (opposite r) ≡ opposite (thenBy p r)
 else-flip Below r = refl
 else-flip Same r = refl
 else-flip Above r = refl
 
-else-same : (p r : Order) → orElse p r ≡ Same → (p ≡ Same) × (r ≡ Same)
+else-same : (p r : Order) → thenBy p r ≡ Same → (p ≡ Same) × (r ≡ Same)
 else-same Below r h = absurd (below≢same refl h)
 else-same Same r h = (refl, h)
 else-same Above r h = absurd (above≢same refl h)
 
-else-below : (p r : Order) → orElse p r ≡ Below → (p ≡ Below) ⊎ ((p ≡ Same) × (r ≡ Below))
+else-below : (p r : Order) → thenBy p r ≡ Below → (p ≡ Below) ⊎ ((p ≡ Same) × (r ≡ Below))
 else-below Below r h = inl refl
 else-below Same r h = inr (refl, h)
 else-below Above r h = absurd (above≢below refl h)
@@ -165,15 +170,15 @@ below-rest x a s y b t e h = rw (by-eq e) at h
 at-end : (x y z : ℕ) → byNumber x y ≡ Below → byNumber y z ≡ Below → byNumber x z ≡ Below
 at-end x y z h k = by-lt (omega (arith, by-below h, by-below k))
 
-at-byte : (x y z : ℕ) (p q r : Order) → (p ≡ Below → q ≡ Below → r ≡ Below) → orElse (byNumber x y) p ≡ Below → orElse (byNumber y z) q ≡ Below
-    → orElse (byNumber x z) r ≡ Below
+at-byte : (x y z : ℕ) (p q r : Order) → (p ≡ Below → q ≡ Below → r ≡ Below) → thenBy (byNumber x y) p ≡ Below → thenBy (byNumber y z) q ≡ Below
+    → thenBy (byNumber x z) r ≡ Below
 at-byte x y z p q r rest h k = go (else-below (byNumber x y) p h) (else-below (byNumber y z) q k)
   where
-    less : x < z → orElse (byNumber x z) r ≡ Below
+    less : x < z → thenBy (byNumber x z) r ≡ Below
     less l = rw (by-lt l)
 
     go : (byNumber x y ≡ Below) ⊎ ((byNumber x y ≡ Same) × (p ≡ Below)) → (byNumber y z ≡ Below) ⊎ ((byNumber y z ≡ Same) × (q ≡ Below))
-        → orElse (byNumber x z) r ≡ Below
+        → thenBy (byNumber x z) r ≡ Below
     go (inl f) (inl g) = less (omega (arith, by-below f, by-below g))
     go (inl f) (inr g) = less (omega (arith, by-below f, by-same (g .0)))
     go (inr f) (inl g) = less (omega (arith, by-same (f .0), by-below g))
@@ -240,7 +245,7 @@ unfolding nameOrder next
 order-slash [] s [] rest t p = refl
 order-slash [] s (y ∷ b) rest t p = refl
 order-slash (x ∷ a) s [] rest t p = differ x 47 (nameOrder a s rest t) (free-first x a p .0)
-order-slash (x ∷ a) s (y ∷ b) rest t p = ap (orElse (byNumber x y)) (order-slash a s b rest t (free-first x a p .1))
+order-slash (x ∷ a) s (y ∷ b) rest t p = ap (thenBy (byNumber x y)) (order-slash a s b rest t (free-first x a p .1))
 
 -- ---- the numbers
 

@@ -13,10 +13,10 @@ unfoldable pub byNumber : ℕ → ℕ → Order
 byNumber x y = pick (ltb x y) Below (pick (ltb y x) Above Same)
 
 -- the first comparison, and where it is Same the second
-abbrev pub orElse : Order → Order → Order
-orElse Below r = Below
-orElse Same r = r
-orElse Above r = Above
+abbrev pub thenBy : Order → Order → Order
+thenBy Below r = Below
+thenBy Same r = r
+thenBy Above r = Above
 
 -- the position where a name may have ended, as a number: 0 for nothing, which is lowest, and 1 and the byte for a byte;
 -- a tree's name that has ended counts as the byte 47, a slash
@@ -30,7 +30,13 @@ unfoldable pub nameOrder : List ℕ → Bool → List ℕ → Bool → Order
 nameOrder [] s [] t = byNumber (next [] s) (next [] t)
 nameOrder [] s (y ∷ b) t = byNumber (next [] s) (next (y ∷ b) t)
 nameOrder (x ∷ a) s [] t = byNumber (next (x ∷ a) s) (next [] t)
-nameOrder (x ∷ a) s (y ∷ b) t = orElse (byNumber x y) (nameOrder a s b t)
+nameOrder (x ∷ a) s (y ∷ b) t = thenBy (byNumber x y) (nameOrder a s b t)
+
+-- the first of the two stands below
+abbrev pub isBelow : Order → Bool
+isBelow Below = true
+isBelow Same = false
+isBelow Above = false
 
 -- the answer with the two names exchanged
 abbrev pub opposite : Order → Order

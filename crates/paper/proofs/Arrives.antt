@@ -1,16 +1,16 @@
 -- The check in pieces over the contracts of its calls: by the theorems of `arriving`. Assumes nothing.
 use Prim.Native.Nat.{ℕ}
 use mathlib.Core.Path.{_≡_, refl, ap, sym, _∙_}
-use mathlib.Core.List.{List, [], _∷_}
+use mathlib.Core.List.{List}
 use Rattle.ground.specs.declared.Answer.{Answer}
 use Rattle.arriving.specs.Feed.{together, startOf, feedOf, finishOf, endOf}
 use Rattle.arriving.specs.Whole.{checkOf}
-use Rattle.arriving.specs.Claims.{inPieces, joined, PieceLaws, answer}
+use Rattle.arriving.specs.Claims.{inPieces, joined, answer}
 use Rattle.arriving.specs.declared.Marks.{Marks}
 use Rattle.arriving.specs.declared.Check.{Check}
 use Rattle.arriving.proofs.Theorem.{piece-laws}
 use Rattle.call.specs.Call.{none, _and_}
-use Rattle.paper.specs.Arrives.{handed, left, piece, Feeds, no-piece, a-piece, Checked, Arrives}
+use Rattle.paper.specs.Arrives.{handed, piece, Feeds, no-piece, a-piece, Checked, Arrives}
 
 -- calls of `feed` are the fold
 fed-is : {c d : Check} {ps : List (List ℕ)} → Feeds c ps d → d ≡ inPieces c ps

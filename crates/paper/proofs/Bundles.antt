@@ -1,12 +1,10 @@
 -- The first demand of bundles and paths: every way to answer. Assumes nothing.
 use Prim.Native.Nat.{ℕ, max}
 use mathlib.Core.Path.{_≡_, refl}
-use mathlib.Core.Bool.{Bool, true, false}
 use mathlib.Core.List.{List, [], _∷_, _++_}
 use lib.Dec.{eqb}
 use lib.ListN.{length}
-use Rattle.ground.specs.Basics.{pick}
-use Rattle.ground.specs.Verdict.{verdict, fine, sizeGate}
+use Rattle.ground.specs.Verdict.{verdict}
 use Rattle.ground.specs.declared.Gate.{Gate}
 use Rattle.ground.specs.declared.Gate.the-variants as gate
 use Rattle.frame.specs.Frame.{headOf, framesBy, whole}

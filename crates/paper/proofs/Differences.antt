@@ -1,36 +1,27 @@
 -- The first demand of a comparison of two trees, and of what it stands on: every way that its walk ends. Assumes nothing.
 use Prim.Native.Nat.{ℕ, max}
 use mathlib.Core.Path.{_≡_, refl, ap, _∙_}
-use mathlib.Core.Bool.{Bool, true, false, _&&_, not}
 use mathlib.Core.List.{List, [], _∷_}
-use lib.Dec.{eqb, leb, ltb}
+use lib.Dec.{eqb, leb}
 use lib.ListN.{length}
-use Rattle.ground.specs.Basics.{pick, part}
-use Rattle.ground.specs.Verdict.{verdict, fine, counted, refused, stored, mostBytes, mostRecords}
+use Rattle.ground.specs.Basics.{part}
+use Rattle.ground.specs.Verdict.{verdict, counted, refused, stored, mostBytes}
 use Rattle.ground.specs.declared.Verdict.{Verdict}
 use Rattle.ground.specs.declared.Answer.{Answer}
 use Rattle.ground.specs.declared.Gate.{Gate}
 use Rattle.ground.proofs.Laws.{stored-refused}
-use Rattle.order.specs.Order.{nameOrder}
-use Rattle.order.specs.declared.Order.{Order}
-use Rattle.order.specs.declared.Order.the-variants.{Below, Same, Above}
 use Rattle.frame.specs.declared.Header.{Header}
-use Rattle.reading.specs.Listing.{tally}
 use Rattle.reading.specs.declared.Counted.{Counted}
-use Rattle.reading.specs.declared.Counted.the-variants.{Total, Stopped}
-use Rattle.rules.specs.Rules.{gitRules}
-use Rattle.strict.specs.Strict.{strictly, strictCount}
-use Rattle.bundle.specs.Bundle.{openOf}
+use Rattle.strict.specs.Strict.{strictCount}
 use Rattle.bundle.specs.declared.Opening.{Opening}
 use Rattle.bundle.specs.declared.Opening.the-variants as opening
-use Rattle.merge.specs.Merge.{byOrder}
 use Rattle.frame.specs.declared.Placed.{Placed}
 use Rattle.frame.specs.declared.Placed.the-variants.{At, Absent}
 use Rattle.seeking.specs.Index.{seekIn}
 use Rattle.opening.specs.Opening.{openBy, openPlaced, openCounted}
 use Rattle.opening.specs.declared.Opened.{Opened}
-use Rattle.item.specs.Items.{Side, absent, Named, isFolder, Stored, missing, object, Folder, shut, holds, readStrictly, treeOf, folderOf, join, sameId, sameSide}
-use Rattle.walk.specs.Walk.{Lower, Out, refusedBy, nothing, put, andThen, change, leftOnly, rightOnly, both, rights, against, compareEntries, opened, compareFolders}
+use Rattle.item.specs.Items.{Stored, missing, object, readStrictly, treeOf, folderOf}
+use Rattle.walk.specs.Walk.{Out, nothing}
 use Rattle.walk.specs.Lent.{pathsOf, fitted}
 use Rattle.walk.specs.Code.{folderAt, foldersIn, walkIn}
 use Rattle.difference.specs.Whole.{storeOf, foldersOf, differences, rootsOf, walked, gated, found, answer}

@@ -4,15 +4,12 @@ use mathlib.Core.Path.{_≡_, refl, ap, sym, subst, _∙_}
 use mathlib.Core.Bool.{Bool, true, false}
 use mathlib.Core.List.{List, [], _∷_}
 use borrow.Author.Tests.{eqb-true, eq-eqb}
-use lib.Dec.{eqb}
 use lib.ListN.{length, take}
 use denote.Ref.{now}
 use Rattle.ground.specs.Basics.{pick}
 use Rattle.ground.specs.declared.Answer.{Answer}
 use Rattle.edit.specs.Table.{removeFrom, none, Table}
-use Rattle.edit.specs.Edit.{putAnswer, removeAnswer, putOutput, removeOutput}
-use Rattle.edit_walk.specs.Walk.{newEntry}
-use Rattle.editing.specs.Demand.{Written, Change, puts, removes, nameOf, tableChanged, numberOf, given}
+use Rattle.editing.specs.Demand.{Written, removes, nameOf, tableChanged, numberOf, given}
 use Rattle.editing.proofs.Writing.{one-writing, from-accepted, accepted-again, missing}
 use Rattle.editing.proofs.Turns.{done-written, same-put, there-and-back}
 use Rattle.call.specs.Call.{Run}

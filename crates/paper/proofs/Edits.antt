@@ -1,5 +1,5 @@
 -- The first demand of the edits, and of the count and the walk that they stand on. Assumes nothing.
-use Prim.Native.Nat.{ℕ, _<_, max}
+use Prim.Native.Nat.{ℕ}
 use native.Mathlib.Omega.{arith}
 use mathlib.Core.Path.{_≡_, refl}
 use mathlib.Core.Bool.{Bool, true, false}
@@ -25,14 +25,14 @@ use Rattle.reading.specs.declared.Counted.the-variants.{Total, Stopped}
 use Rattle.reading.proofs.Laws.{Stops, tally-stops}
 use Rattle.strict.specs.Strict.{strictly, strictCount}
 use Rattle.one_listing.specs.Sound.{isMode}
-use Rattle.edit.specs.Table.{removeFrom, putIn, isHeld, tableOf}
+use Rattle.edit.specs.Table.{putIn, isHeld, tableOf}
 use Rattle.edit.specs.Edit.{entriesIn, newNo, sizeOf, putting, removing, onCounted, putAnswer, removeAnswer}
 use Rattle.call.specs.Call.{Fits, _and_, none}
 use Rattle.call.specs.Deeds.{ofAnswer}
 use Rattle.paper.specs.Calls.{ofCounted}
 use Rattle.paper.specs.Demand1.{OfEdits}
 use Rattle.call.proofs.Laws.{Of, same, done, zero, wider, keeps-reads, keeps-writes, keeps-stores, each-pick, each-fitted}
-use Rattle.tree_calls.proofs.Placed.{placed-stops, plain-placed, cut-placed}
+use Rattle.tree_calls.proofs.Placed.{plain-placed, cut-placed}
 
 -- every way that a strict reading stops: 2, 3, 5, 6, 18, 7, 17
 module _ (P : Verdict → Type 0) (two : P (verdict 2 0)) (three : (at p : ℕ) → isPart p ≡ true → P (broken at p)) (five : (at : ℕ) → P (verdict 5 at))

@@ -4,7 +4,7 @@ use native.Mathlib.Omega.{arith}
 use mathlib.Core.Path.{_≡_, refl, ap, sym, subst, _∙_}
 use mathlib.Core.Bool.{Bool, true, false, false≢true}
 use mathlib.Core.List.{List, [], _∷_}
-use mathlib.Core.Logic.{_⊎_, inr}
+use mathlib.Core.Logic.{inr}
 use borrow.Author.Tests.{leb-false}
 use lib.Dec.{leb}
 use lib.ListN.{length, take, drop}
@@ -27,7 +27,7 @@ use Rattle.strict.proofs.Laws.{cut-refuses}
 use Rattle.one_listing.specs.Demand.{Accepts}
 use Rattle.mend.specs.Mend.{fatesOf, mended, notMended, inRoom, countedAnswer, answerBy, mendAnswer}
 use Rattle.mend.specs.declared.Mended.{Mended}
-use Rattle.mending.specs.Mending.{mendedListing, Done, AllKept}
+use Rattle.mending.specs.Mending.{Done, AllKept}
 use Rattle.mending.proofs.Theorem.{mending}
 use Rattle.demands.specs.Demand3 as strict
 use Rattle.call.specs.Places.{Below, Over, atEntry}

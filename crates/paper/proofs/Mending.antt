@@ -4,8 +4,7 @@ use mathlib.Core.Path.{_≡_, refl, ap, sym, _∙_}
 use mathlib.Core.List.{List, [], _∷_}
 use lib.Dec.{leb}
 use lib.ListN.{length}
-use Rattle.ground.specs.Verdict.{verdict, mostRecords}
-use Rattle.ground.specs.declared.Verdict.{Verdict}
+use Rattle.ground.specs.Verdict.{mostRecords}
 use Rattle.ground.specs.declared.Gate.{Gate}
 use Rattle.ground.proofs.Laws.{stored-refused}
 use Rattle.reading.specs.Listing.{listing, tally}

@@ -9,7 +9,7 @@ use borrow.Author.Tests.{ne-eqb}
 use denote.Ref.{now}
 use Rattle.ground.specs.Basics.{pick}
 use Rattle.ground.specs.Scan.{countTo}
-use Rattle.ground.specs.Verdict.{refused, isPart, idLength, sizeGate}
+use Rattle.ground.specs.Verdict.{refused, isPart, idLength, sizeGate, isSet}
 use Rattle.ground.specs.declared.Verdict.{Verdict}
 use Rattle.ground.specs.declared.Answer.{Answer}
 use Rattle.ground.specs.declared.Gate.{Gate}
@@ -17,7 +17,7 @@ use Rattle.mode.specs.Read.{readMode}
 use Rattle.mode.specs.declared.ModeRead.{ModeRead}
 use Rattle.mode.specs.declared.ModeRead.the-variants.{Mode, Bad}
 use Rattle.entry.specs.Decode.{shortPart}
-use Rattle.rules.specs.Gate.{isSet, ruleGate}
+use Rattle.rules.specs.Gate.{ruleGate}
 use Rattle.arriving.specs.Feed.{together, fresh, gateVerdict, headPart, endIn, startOf, feedOf, finishOf, endOf}
 use Rattle.arriving.specs.Whole.{checkOf}
 use Rattle.arriving.specs.Claims.{inPieces, joined}

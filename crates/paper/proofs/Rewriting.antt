@@ -1,13 +1,12 @@
 -- Two rewritings settle an object, whatever outcomes the contracts of `read_tree` and `write_tree` allow: from the theorems of `rewriting`.
 -- Assumes nothing.
-use Prim.Native.Nat.{ℕ, suc, _*_, _≤_}
+use Prim.Native.Nat.{ℕ, _*_, _≤_}
 use mathlib.Core.Path.{_≡_, refl, ap, sym, subst, _∙_}
 use mathlib.Core.List.{List}
 use lib.ListN.{length, take}
 use denote.Ref.{now}
 use Rattle.ground.specs.Verdict.{counted, stored, mostBytes, mostRecords}
 use Rattle.entry.specs.Record.{width, recordsOf}
-use Rattle.entry.specs.declared.EntryRecord.{EntryRecord}
 use Rattle.reading.specs.Listing.{listing, recordsIn}
 use Rattle.reading.specs.Whole.{readAnswer, readRecords}
 use Rattle.tree_write.specs.Write.{written, treeAnswer}

@@ -20,12 +20,11 @@ use Rattle.rules.specs.Rules.{isText, modesOf, isPlain, isDotGit, bareNumber, o
 use Rattle.rules.specs.Gate.{ruleGate}
 use Rattle.rules.proofs.Laws.{rule-shut}
 use Rattle.reading.specs.Listing.{tally}
-use Rattle.reading.specs.Whole.{inRoom, answerOf}
 use Rattle.reading.specs.declared.Counted.{Counted}
 use Rattle.reading.specs.declared.Counted.the-variants.{Total, Stopped}
 use Rattle.reading.proofs.Laws.{answer-counted}
 use Rattle.strict.specs.Strict.{strictly, strictAnswer}
-use Rattle.tree_export.specs.Export.{textIn, countedIn, exportAnswer}
+use Rattle.tree_export.specs.Export.{countedIn, exportAnswer}
 use Rattle.tree_export.proofs.Laws.{stops-not-four, began}
 use Rattle.text_record.specs.Record.{pared, frontMode, nameIn, formed, saidNumber, textNumber, entryIn, sizeIn}
 use Rattle.text_import.specs.Lent.{tooMany, lentBy, lentAnswer}
@@ -34,7 +33,7 @@ use Rattle.call.specs.Call.{none, _and_, Fits}
 use Rattle.call.specs.Deeds.{ofAnswer}
 use Rattle.paper.specs.Demand1.{OfText}
 use Rattle.call.proofs.Laws as fits
-use Rattle.call.proofs.Laws.{same, one-list, Of, wider, keeps, keeps-writes, keeps-stores, each-gate, each-fitted}
+use Rattle.call.proofs.Laws.{same, one-list, wider, keeps, keeps-writes, keeps-stores, each-gate, each-fitted}
 use Rattle.tree_calls.proofs.Reading.{each-strict}
 
 abbrev Exported : Answer → Type 0

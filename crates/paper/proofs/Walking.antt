@@ -1,33 +1,17 @@
 -- The verdict of a walk over two trees is one of those that its folders have, or done, 2, 27. Assumes nothing.
-use Prim.Native.Nat.{ℕ, zero, suc, _+_, max}
-use mathlib.Core.Path.{_≡_, refl, ap}
-use mathlib.Core.Bool.{Bool, true, false, _&&_, not}
+use Prim.Native.Nat.{ℕ, zero, suc}
+use mathlib.Core.Bool.{Bool}
 use mathlib.Core.List.{List, [], _∷_}
-use lib.Dec.{eqb, leb, ltb}
-use lib.ListN.{length}
-use Rattle.ground.specs.Basics.{pick}
-use Rattle.ground.specs.Verdict.{verdict, fine, counted, refused, mostBytes, mostRecords}
+use lib.Dec.{eqb, ltb}
+use Rattle.ground.specs.Verdict.{verdict, fine, mostRecords}
 use Rattle.ground.specs.declared.Verdict.{Verdict}
-use Rattle.ground.specs.declared.Answer.{Answer}
-use Rattle.ground.specs.declared.Gate.{Gate}
-use Rattle.ground.proofs.Laws.{stored-refused}
 use Rattle.order.specs.Order.{nameOrder}
 use Rattle.order.specs.declared.Order.{Order}
 use Rattle.order.specs.declared.Order.the-variants.{Below, Same, Above}
-use Rattle.frame.specs.declared.Header.{Header}
-use Rattle.reading.specs.Listing.{tally}
-use Rattle.reading.specs.declared.Counted.{Counted}
-use Rattle.reading.specs.declared.Counted.the-variants.{Total, Stopped}
-use Rattle.rules.specs.Rules.{gitRules}
-use Rattle.strict.specs.Strict.{strictly, strictCount}
-use Rattle.bundle.specs.Bundle.{openOf}
-use Rattle.bundle.specs.declared.Opening.{Opening}
 use Rattle.bundle.specs.declared.Opening.the-variants as opening
 use Rattle.merge.specs.Merge.{byOrder}
-use Rattle.item.specs.Items.{Side, absent, Named, isFolder, Stored, missing, object, Folder, shut, holds, readStrictly, treeOf, folderOf, join, sameId, sameSide}
-use Rattle.walk.specs.Walk.{Lower, Out, refusedBy, nothing, put, andThen, change, leftOnly, rightOnly, both, rights, against, compareEntries, opened, compareFolders}
-use Rattle.walk.specs.Lent.{pathsOf, fitted}
-use Rattle.difference.specs.Whole.{storeOf, foldersOf, differences, rootsOf, walked, gated, found, answer}
+use Rattle.item.specs.Items.{Side, Named, isFolder, Folder, shut, holds, sameSide}
+use Rattle.walk.specs.Walk.{Lower, Out, nothing, put, andThen, change, both, rights, against, compareEntries, opened, compareFolders}
 use Rattle.call.proofs.Laws.{each-pick}
 
 -- a folder that opens, or is shut with such a verdict

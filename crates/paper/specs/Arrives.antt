@@ -1,9 +1,9 @@
 -- The check in pieces, over every outcome that the contracts of `start`, `feed` and `finish` allow, and over those of the strict reader.
 -- `proofs/Arrives.antt` proves it. Assumes nothing.
-use Prim.Native.Nat.{ℕ, _≤_, _<_}
+use Prim.Native.Nat.{ℕ, _≤_}
 use mathlib.Core.Path.{_≡_}
 use mathlib.Core.List.{List, [], _∷_}
-use mathlib.Core.Logic.{_⊎_, _↔_}
+use mathlib.Core.Logic.{_↔_}
 use lib.ListN.{length, take}
 use denote.Ref.{now}
 use Rattle.ground.specs.Verdict.{verdict, refused, mostBytes, mostRecords}
@@ -16,7 +16,6 @@ use Rattle.arriving.specs.Feed.{together}
 use Rattle.arriving.specs.Whole.{checkOf}
 use Rattle.arriving.specs.Sixteen.{MeetsLong}
 use Rattle.arriving.specs.Claims.{joined, Rooms}
-use Rattle.arriving.specs.declared.Marks.{Marks}
 use Rattle.arriving.specs.declared.Check.{Check}
 use Rattle.piece_ends.proofs as pieceEnds
 use Rattle.pieces.proofs as pieces

@@ -22,7 +22,7 @@ use Rattle.border_commit_write.proofs as bcw
 use Rattle.border_bundle.proofs as bb
 use Rattle.border_pieces.proofs as bp
 use Rattle.sarpukten.proofs as c
-use Rattle.call.specs.Call.{Call, call, Input, Outcome, Said, Deed}
+use Rattle.call.specs.Call.{Call, call, Said, Deed}
 use Rattle.call.specs.Deeds.{stores, hands}
 
 -- number, place and part come first

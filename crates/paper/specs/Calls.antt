@@ -1,5 +1,4 @@
 -- The public calls of every layer, each by its own contract, and what the answers of those that refuse say. Assumes nothing.
-use Prim.Native.Nat.{ℕ}
 use mathlib.Core.List.{List, [], _∷_}
 use denote.Ref.{now}
 use Rattle.ground.specs.Verdict.{fine}
@@ -8,6 +7,7 @@ use Rattle.reading.specs.declared.Counted.{Counted}
 use Rattle.reading.specs.declared.Counted.the-variants.{Total, Stopped}
 use Rattle.ground.proofs as ground
 use Rattle.scan.proofs as scan
+use Rattle.free_of.proofs as free_of
 use Rattle.output.proofs as output
 use Rattle.mode_text.proofs as mode-text
 use Rattle.mode_table.proofs as modes
@@ -101,9 +101,9 @@ scans =
     ∷ call scan.find_byte.Kinds.ps scan.find_byte.Kinds.r scan.find_byte.Reads.Asked scan.find_byte.Reads.Post
     ∷ call scan.find_nul.Kinds.ps scan.find_nul.Kinds.r scan.find_nul.Reads.Asked scan.find_nul.Reads.Post
     ∷ call scan.count_to.Kinds.ps scan.count_to.Kinds.r scan.count_to.Reads.Asked scan.count_to.Reads.Post
-    ∷ call scan.count_far.Kinds.ps scan.count_far.Kinds.r scan.count_far.Reads.Asked scan.count_far.Reads.Post
     ∷ call scan.common_start.Kinds.ps scan.common_start.Kinds.r scan.common_start.Reads.Asked scan.common_start.Reads.Post
     ∷ call scan.same_bytes.Kinds.ps scan.same_bytes.Kinds.r scan.same_bytes.Reads.Asked scan.same_bytes.Reads.Post
+    ∷ call free_of.is_free.Kinds.ps free_of.is_free.Kinds.r free_of.is_free.Reads.Asked free_of.is_free.Reads.Post
     ∷ []
 
 -- ---- output

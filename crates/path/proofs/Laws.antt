@@ -34,7 +34,7 @@ use Rattle.bundle.specs.declared.Opening.the-variants as opening
 use Rattle.bundle.proofs.Laws.{open-within}
 use Rattle.bundle.proofs.Objects.{ids-of, standing, first-object, first-inside, open-head}
 use Rattle.component.specs.Component.{pieces, components, filled, isPath}
-use Rattle.component.specs.Named.{Found, there, nowhere, entriesRead, firstNamed, firstIn}
+use Rattle.component.specs.Named.{there, nowhere, entriesRead, firstNamed, firstIn}
 use Rattle.component.specs.declared.Named.{Named}
 use Rattle.component.specs.declared.Named.the-variants.{Entry, NoEntry}
 use Rattle.component.proofs.Laws.{pieces-last, pieces-more, pieces-some, seen, first-named, first-within}

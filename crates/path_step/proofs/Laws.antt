@@ -3,11 +3,10 @@ use Prim.Native.Nat.{ℕ, _+_, _-_, _≤_}
 use native.Mathlib.Omega.{arith}
 use mathlib.Core.Path.{_≡_, ap, sym, _∙_}
 use mathlib.Core.List.{List}
-use lib.Dec.{eqb}
 use lib.ListN.{length, drop, length-drop}
 use lib.Seq.{length-take-le}
 use borrow.Author.Tests.{eq-eqb, ne-eqb}
-use Rattle.ground.specs.Basics.{pick, part}
+use Rattle.ground.specs.Basics.{part}
 use Rattle.entry.specs.declared.EntryRecord.{EntryRecord}
 use Rattle.frame.specs.Place.{placeOf}
 use Rattle.frame.specs.declared.Frame.{Frame}

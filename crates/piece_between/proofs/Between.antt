@@ -7,7 +7,6 @@ use mathlib.Core.List.{List}
 use lib.Dec.{eqb, ltb, leb}
 use lib.ListN.{replicate}
 use borrow.Author.Tests.{eq-eqb, ne-eqb, eqb-true, ltb-true, lt-ltb, le-ltb, leb-true, leb-false, le-leb, lt-leb}
-use Rattle.ground.specs.Basics.{pick}
 use Rattle.ground.specs.Verdict.{verdict, fine, mostBytes}
 use Rattle.ground.specs.declared.Verdict.{Verdict}
 use Rattle.ground.proofs.Laws.{and-left, and-right}
@@ -17,7 +16,7 @@ use Rattle.arriving.specs.declared.Line.{Line}
 use Rattle.arriving.specs.declared.Phase.{Phase}
 use Rattle.arriving.specs.declared.Phase.the-variants.{Head, Name, Id}
 use Rattle.arriving.specs.declared.Marks.{Marks}
-use Rattle.piece_between.specs.Between.{isNext, isFine, isAfter, isFirst, isBetween, headAfter, marksAfter, ranOf}
+use Rattle.piece_between.specs.Between.{isNext, isFine, isAfter, isFirst, isBetween, headAfter, ranOf}
 use Rattle.piece_run.specs.declared.Run.{Run}
 
 -- ---- the ways through the tests

@@ -4,10 +4,10 @@ use native.Mathlib.Omega.{arith}
 use mathlib.Core.Path.{_≡_, refl, ap, sym, _∙_}
 use mathlib.Core.Bool.{Bool, true, false}
 use mathlib.Core.List.{List}
-use lib.Dec.{eqb, ltb}
+use lib.Dec.{eqb}
 use lib.ListN.{length, take, drop, length-take}
 use lib.Seq.{sets}
-use borrow.Author.Tests.{eq-eqb, ne-eqb, eqb-true, eqb-false, lt-ltb, le-ltb}
+use borrow.Author.Tests.{eq-eqb, ne-eqb, eqb-false, lt-ltb, le-ltb}
 use Rattle.ground.specs.Basics.{pick, part}
 use Rattle.ground.specs.Scan.{commonStart}
 use Rattle.ground.specs.Verdict.{mostRecords}
@@ -24,7 +24,7 @@ use Rattle.arriving.specs.declared.Last.{Last}
 use Rattle.piece_seen.specs.Whole.{seenAt}
 use Rattle.piece_seen.specs.declared.Seen.{Seen}
 use Rattle.piece_seen.proofs.Whole.{lies, lies-within}
-use Rattle.piece_run.specs.Runs.{Going, going, heldAfter, runAfter, placedIn, openIn, takenIn, moreBy, oneMore, allFrom, allOf}
+use Rattle.piece_run.specs.Runs.{Going, going, heldAfter, runAfter, placedIn, takenIn, moreBy, oneMore, allFrom, allOf}
 use Rattle.piece_run.specs.declared.Run.{Run}
 
 -- ---- a name that is placed

@@ -11,7 +11,6 @@ use Rattle.doubles.specs.Stack.{placeOf, marksOf}
 use Rattle.doubles.specs.declared.Placed.{Placed}
 use Rattle.doubles.specs.declared.Placed.the-variants.{Fine, NotAfter, Double}
 use Rattle.arriving.specs.Feed.{mostHeld}
-use Rattle.arriving.specs.declared.Last.{Last}
 use Rattle.piece_seen.specs.Whole.{seenAt}
 use Rattle.piece_seen.specs.declared.Seen.{Seen}
 use Rattle.piece_run.specs.declared.Run.{Run}

@@ -1,14 +1,14 @@
 -- The ways through the leaves that take bytes which need no step of their own. Assumes nothing.
 use Prim.Native.Nat.{ℕ, _+_, _-_, _≤_, _<_, min}
 use native.Mathlib.Omega.{arith}
-use mathlib.Core.Path.{_≡_, refl, ap, sym, _∙_}
-use mathlib.Core.Bool.{Bool, true, false, _&&_}
+use mathlib.Core.Path.{_≡_, refl, ap, _∙_}
+use mathlib.Core.Bool.{true, false, _&&_}
 use mathlib.Core.List.{List}
 use lib.Dec.{eqb, leb}
 use lib.ListN.{length, drop, length-take, length-drop}
 use lib.Seq.{sets}
 use borrow.Author.Tests.{eq-eqb, ne-eqb, le-leb, lt-leb}
-use Rattle.ground.specs.Basics.{pick, part}
+use Rattle.ground.specs.Basics.{part}
 use Rattle.ground.specs.Verdict.{mostBytes, mostRecords}
 use Rattle.arriving.specs.Feed.{placedAt}
 use Rattle.arriving.specs.declared.Line.{Line}

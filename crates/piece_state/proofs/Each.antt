@@ -21,7 +21,7 @@ use Rattle.arriving.specs.declared.Phase.the-variants.{Head, Name, Id}
 use Rattle.arriving.specs.declared.Marks.{Marks}
 use Rattle.arriving.specs.declared.Check.{Check}
 use Rattle.arriving.specs.Feed.{mostHeld, together, refuse, placedAt, nameMarks, isOver, judged, placing, nextEntry, placed, closed, idMarks, bodyIn, body, bodies}
-use Rattle.arriving.specs.Feed.{begun, begin, headStep, turnIn, overMode, overIn, over, stepOf, feedOf}
+use Rattle.arriving.specs.Feed.{begun, begin, headStep, turnIn, overMode, overIn, over, byteStep, feedOf}
 
 -- the refusals that a byte may settle
 pub data Settles : Verdict → Type 0 where
@@ -120,8 +120,8 @@ module _ (P : Marks → Type 0) (refuses : (m : Marks) (v : Verdict) → Settles
   unfolding over
   each-over c p = each-overIn (c .marks) (c .marks .phase) p
 
-  each-step : (c : Check) (b : ℕ) → Has c → Has (stepOf c b)
-  unfolding stepOf
+  each-step : (c : Check) (b : ℕ) → Has c → Has (byteStep c b)
+  unfolding byteStep
   each-step c b p =
       each-of Has (eqb (c .marks .verdict .number) 0) (each-of Has (leb mostBytes (c .marks .at)) (each-over c p) (each-turn c b (c .marks .phase) p)) p
 
@@ -129,7 +129,7 @@ module _ (P : Marks → Type 0) (refuses : (m : Marks) (v : Verdict) → Settles
   pub each-fed : (c : Check) (s : List ℕ) → P (c .marks) → P (feedOf c s .marks)
   unfolding feedOf
   each-fed c [] p = p
-  each-fed c (b ∷ s) p = each-fed (stepOf c b) s (each-step c b p)
+  each-fed c (b ∷ s) p = each-fed (byteStep c b) s (each-step c b p)
 
 -- the rule set stays
 pub rules-stay : (c : Check) (s : List ℕ) → feedOf c s .marks .rules ≡ c .marks .rules

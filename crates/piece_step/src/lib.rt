@@ -3,7 +3,7 @@ ghost use mathlib.Core.Path.{_≡_};
 ghost use Prim.Native.Nat.{_-_, _<_, _≤_};
 ghost use lib.ListN.{drop};
 ghost use Rattle.mode.specs.Read.{readMode};
-ghost use Rattle.arriving.specs.Feed.{together, bodies, begun, begin, headStep, stepOf};
+ghost use Rattle.arriving.specs.Feed.{together, bodies, begun, begin, headStep, byteStep};
 use arriving::Line;
 use arriving::Marks;
 use arriving::Phase;
@@ -118,7 +118,7 @@ fn head_byte(held: &mut [u8; 4096], ends: &mut [u32; 4097], m: Marks, k: usize, 
 
 // A byte: after a refusal nothing changes.
 pub fn step(held: &mut [u8; 4096], ends: &mut [u32; 4097], m: Marks, b: u8) -> Marks
-    ensures { λ r. ⌜ together (now (held .exit)) (now (ends .exit)) r ≡ stepOf (together (now (held .entry)) (now (ends .entry)) m) b ⌝ }
+    ensures { λ r. ⌜ together (now (held .exit)) (now (ends .exit)) r ≡ byteStep (together (now (held .entry)) (now (ends .entry)) m) b ⌝ }
 {
     if m.verdict.number != 0 {
         return m;

@@ -16,13 +16,13 @@ use Rattle.mode.specs.Read.{readMode}
 use Rattle.mode.specs.declared.ModeRead.the-variants.{Mode}
 use Rattle.mode.specs.declared.EntryMode.{EntryMode}
 use Rattle.mode.proofs.Laws.{read-next}
-use Rattle.order.specs.Order.{nameOrder}
+use Rattle.order.specs.Order.{isBelow, nameOrder}
 use Rattle.order.specs.declared.Order.{Order}
 use Rattle.order.specs.declared.Order.the-variants.{Below, Same, Above}
 use Rattle.doubles.specs.Stack.{openOf, ifBelow, placeOf, marksOf}
 use Rattle.doubles.specs.declared.Placed.{Placed}
 use Rattle.doubles.specs.declared.Placed.the-variants.{Fine, NotAfter, Double}
-use Rattle.rules.specs.Rules.{orElse, isText, modesOf, bareNumber, isBelow}
+use Rattle.rules.specs.Rules.{orElse, isText, modesOf, bareNumber}
 use Rattle.arriving.specs.Feed.{mostHeld, together, fresh, isOver, judged, leavesNone, placing, endsNext, placed, closed, closedEnds, feedOf}
 use Rattle.arriving.specs.declared.Last.{Last}
 use Rattle.arriving.specs.declared.Line.{Line}

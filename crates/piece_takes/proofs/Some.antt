@@ -9,8 +9,8 @@ use mathlib.Core.List.{List}
 use lib.Dec.{eqb, leb}
 use lib.ListN.{length, getD, set, take, drop}
 use lib.Seq.{sets, drop-cons}
-use borrow.Author.Tests.{eqb-true, eqb-false, leb-true, leb-false}
-use Rattle.ground.specs.Basics.{pick, part}
+use borrow.Author.Tests.{eqb-true, eqb-false, leb-false}
+use Rattle.ground.specs.Basics.{pick}
 use Rattle.ground.specs.Verdict.{mostBytes, mostRecords}
 use Rattle.arriving.specs.Feed.{mostHeld, together, placedAt, feedOf}
 use Rattle.arriving.specs.Bulk.{Took}

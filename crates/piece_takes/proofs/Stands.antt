@@ -27,7 +27,7 @@ use Rattle.arriving.specs.declared.Phase.the-variants.{Name}
 use Rattle.arriving.specs.declared.Marks.{Marks}
 use Rattle.arriving.specs.declared.Check.{Check}
 use Rattle.arriving.proofs.Bulk.{name-begin, name-again}
-use Rattle.piece_name.specs.Names.{differsOf, sharedOf, levelOf, standOf, nameMore, nameSome}
+use Rattle.piece_name.specs.Names.{differsOf, levelOf, standOf, nameMore, nameSome}
 use Rattle.piece_name.specs.declared.Stood.{Stood}
 use Rattle.piece_name.proofs.Names.{stands}
 use Rattle.piece_some.specs.Bytes.{namePart}

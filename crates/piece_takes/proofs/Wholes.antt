@@ -5,10 +5,10 @@ use native.Mathlib.Omega.{arith}
 use mathlib.Core.Path.{_≡_, refl, ap, sym, _∙_}
 use mathlib.Core.Bool.{Bool, true, false}
 use mathlib.Core.List.{List, [], _∷_}
-use lib.Dec.{eqb, leb}
+use lib.Dec.{eqb}
 use lib.ListN.{length, getD, take, drop, replicate, length-take, length-drop}
 use lib.Seq.{sets, length-sets, drop-drop, take-take}
-use borrow.Author.Tests.{eq-eqb, ne-eqb, eqb-true, eqb-false, leb-true}
+use borrow.Author.Tests.{eq-eqb, ne-eqb, eqb-true, eqb-false}
 use Rattle.ground.specs.Basics.{pick, part}
 use Rattle.ground.specs.Scan.{countTo, placeFrom, commonStart}
 use Rattle.ground.specs.Verdict.{verdict, fine, mostBytes, mostRecords}
@@ -20,20 +20,19 @@ use Rattle.mode.specs.declared.ModeRead.the-variants.{Mode, Bad}
 use Rattle.mode.specs.declared.EntryMode.{EntryMode}
 use Rattle.mode.proofs.Laws.{eight-decide, read-next}
 use Rattle.mode_code.specs.Code.{codeAt, quickAt}
-use Rattle.mode_code.proofs.Laws.{quick-is-code, code-mode, code-inside}
+use Rattle.mode_code.proofs.Laws.{quick-is-code, code-mode}
 use Rattle.order.specs.Order.{nameOrder}
 use Rattle.order.specs.declared.Order.{Order}
 use Rattle.order.specs.declared.Order.the-variants.{Below, Same, Above}
-use Rattle.doubles.specs.Stack.{openAt, marksAt, isDouble, ifBelow, openOf, placeOf, marksOf}
+use Rattle.doubles.specs.Stack.{openAt, marksAt, isDouble, ifBelow, placeOf, marksOf}
 use Rattle.doubles.specs.declared.Placed.{Placed}
 use Rattle.doubles.specs.declared.Placed.the-variants.{Fine, NotAfter, Double}
 use Rattle.rules.specs.Rules.{isText, modesOf, bareNumber}
 use Rattle.rules.proofs.Laws.{name-empty, number-bad}
 use Rattle.strict.specs.Strict.{textOf}
 use Rattle.strict.proofs.Judging.{mode-quick}
-use Rattle.arriving.specs.Feed.{mostHeld, together, fresh, feedOf, stepOf}
+use Rattle.arriving.specs.Feed.{mostHeld, together, fresh, feedOf, byteStep}
 use Rattle.arriving.specs.Bulk.{Took}
-use Rattle.arriving.specs.declared.Last.{Last}
 use Rattle.arriving.specs.declared.Phase.{Phase}
 use Rattle.arriving.specs.declared.Phase.the-variants.{Head}
 use Rattle.arriving.specs.declared.Marks.{Marks}
@@ -488,6 +487,6 @@ pub turn-more : (i a b c all : ℕ) → i < all → i ≤ a → a ≤ b → b �
 turn-more i a b c all p q r s t f = elim (decLt b all) [ yes w ↦ let u = f w in omega arith | no w ↦ omega arith ]
 
 pub took-step : (held ends : List ℕ) (m : Marks) (s : List ℕ) (i : ℕ) → i < length s → (after left : List ℕ) (x : Marks)
-    → together after left x ≡ stepOf (together held ends m) (getD s i 0) → Took held ends m s i after left (record { marks = x; next = i + 1 })
+    → together after left x ≡ byteStep (together held ends m) (getD s i 0) → Took held ends m s i after left (record { marks = x; next = i + 1 })
 took-step held ends m s i w after left x e =
     record { same = feed-turn (together held ends m) s i w (together after left x) e; from = omega arith; within = omega arith }

@@ -23,7 +23,7 @@ use Rattle.probe.specs.declared.Query.{Query}
 use Rattle.probe.specs.declared.Probe.{Probe}
 use Rattle.lookup.specs.Halving.{Met, bad, met, absent, mid, turn, searchFrom}
 use Rattle.lookup.specs.Lookup.{compareEntry, nth, compareAt, lookupIn}
-use Rattle.probe.specs.Probe.{aimedOf, stoppedOf, startOf, movedOf, ready, stepOf, answerOf}
+use Rattle.probe.specs.Probe.{aimedOf, stoppedOf, startOf, movedOf, ready, probeStep, answerOf}
 use Rattle.lookup.proofs.Laws.{mid-low, mid-high, search-end, search-more, met-bad, met-good, lookup-shut, lookup-open}
 
 -- ---- the steps, by what they meet
@@ -39,25 +39,25 @@ module _ (object name n : ℕ) (q : Query) (bytes : ℕ) (longer : bytes ≡ max
 
 module _ (object name : List ℕ) (q : Query) (p : Probe) (e : EntryRecord) where
   -- nothing is left to compare, or the count is full
-  pub step-past : p .high ≤ p .at → stepOf object name q p e ≡ p
-  unfolding stepOf ready
+  pub step-past : p .high ≤ p .at → probeStep object name q p e ≡ p
+  unfolding probeStep ready
   step-past h = simp (le-ltb (p .at) (p .high) h)
 
-  pub step-full : p .at < p .high → mostRecords ≤ p .looked .compared → stepOf object name q p e ≡ p
-  unfolding stepOf ready
+  pub step-full : p .at < p .high → mostRecords ≤ p .looked .compared → probeStep object name q p e ≡ p
+  unfolding probeStep ready
   step-full h f = simp (lt-ltb (p .at) (p .high) h, le-ltb (p .looked .compared) mostRecords f)
 
-  pub step-met : p .at < p .high → p .looked .compared < mostRecords → stepOf object name q p e ≡ movedOf p (compareEntry (q .h) object name (q .folder) e)
-  unfolding stepOf ready
+  pub step-met : p .at < p .high → p .looked .compared < mostRecords → probeStep object name q p e ≡ movedOf p (compareEntry (q .h) object name (q .folder) e)
+  unfolding probeStep ready
   step-met h f = simp (lt-ltb (p .at) (p .high) h, lt-ltb (p .looked .compared) mostRecords f)
 
   module _ (h : p .at < p .high) (few : p .looked .compared < mostRecords) where
-    pub step-bad : wellFormed (q .h) (length object) e ≡ false → stepOf object name q p e ≡ stoppedOf (verdict 10 (p .at)) 0 0
+    pub step-bad : wellFormed (q .h) (length object) e ≡ false → probeStep object name q p e ≡ stoppedOf (verdict 10 (p .at)) 0 0
     step-bad w = step-met h few ∙ ap (movedOf p) (met-bad (q .h) object name (q .folder) e w)
 
     -- by what the leaves answer that compare the record
     pub step-told : wellFormed (q .h) (length object) e ≡ true → {sort : Bool} {r : Order} → sort ≡ folderOf e
-        → r ≡ nameOrder (nameOf object e) sort name (q .folder) → stepOf object name q p e ≡ movedOf p (met r)
+        → r ≡ nameOrder (nameOf object e) sort name (q .folder) → probeStep object name q p e ≡ movedOf p (met r)
     step-told w f k =
         step-met h few
         ∙ ap (movedOf p) (met-good (q .h) object name (q .folder) e w ∙ ap met (ap (λ (x : Bool). nameOrder (nameOf object e) x name (q .folder)) (sym f) ∙ sym k))
@@ -169,11 +169,11 @@ module _ (object name : List ℕ) (q : Query) (records : List EntryRecord) where
     going-inside = let l = g .live on in omega (arith, l .middle, mid-high (l .left), l .within)
 
     -- it is compared
-    going-met : (e : EntryRecord) → stepOf object name q p e ≡ movedOf p (compareEntry (q .h) object name (q .folder) e)
+    going-met : (e : EntryRecord) → probeStep object name q p e ≡ movedOf p (compareEntry (q .h) object name (q .folder) e)
     going-met e = let l = g .live on in step-met object name q p e (omega (arith, l .middle, mid-high (l .left))) (omega (arith, l .left, l .room))
 
     -- a step keeps on the way
-    pub going-on : (e : EntryRecord) → e ≡ nth records (p .at) → (p′ : Probe) → p′ ≡ stepOf object name q p e → Going object name q records p′
+    pub going-on : (e : EntryRecord) → e ≡ nth records (p .at) → (p′ : Probe) → p′ ≡ probeStep object name q p e → Going object name q records p′
     going-on e ee p′ ep =
         subst (Going object name q records)
         (sym (ep ∙ going-met e ∙ ap (λ (x : EntryRecord). movedOf p (compareEntry (q .h) object name (q .folder) x)) ee))
@@ -181,7 +181,7 @@ module _ (object name : List ℕ) (q : Query) (records : List EntryRecord) where
         (sure-moved how (length records) p (g .live on) (how (p .at))))
 
     -- and there are fewer records to choose from
-    pub going-less : (e : EntryRecord) (p′ : Probe) → p′ ≡ stepOf object name q p e → p′ .high - p′ .low < p .high - p .low
+    pub going-less : (e : EntryRecord) (p′ : Probe) → p′ ≡ probeStep object name q p e → p′ .high - p′ .low < p .high - p .low
     going-less e p′ ep =
         subst (λ (x : Probe). x .high - x .low < p .high - p .low) (sym (ep ∙ going-met e))
         (moved-less how (length records) p (g .live on) (compareEntry (q .h) object name (q .folder) e))

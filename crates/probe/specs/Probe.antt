@@ -44,8 +44,8 @@ unfoldable pub ready : Probe → Bool
 ready p = ltb (p .at) (p .high) && ltb (p .looked .compared) mostRecords
 
 -- one record compared
-unfoldable pub stepOf : List ℕ → List ℕ → Query → Probe → EntryRecord → Probe
-stepOf object name q p e = pick (ready p) (movedOf p (compareEntry (q .h) object name (q .folder) e)) p
+unfoldable pub probeStep : List ℕ → List ℕ → Query → Probe → EntryRecord → Probe
+probeStep object name q p e = pick (ready p) (movedOf p (compareEntry (q .h) object name (q .folder) e)) p
 
 -- the answer of a search that has ended
 unfoldable pub answerOf : Probe → Looked

@@ -11,7 +11,7 @@ ghost use mathlib.Core.Path.{_≡_};
 ghost use Prim.Native.Nat.{_<_};
 ghost use Rattle.ground.specs.Verdict.{mostRecords};
 ghost use Rattle.lookup.specs.Halving.{met};
-ghost use Rattle.probe.specs.Probe.{aimedOf, stoppedOf, startOf, movedOf, stepOf, answerOf};
+ghost use Rattle.probe.specs.Probe.{aimedOf, stoppedOf, startOf, movedOf, probeStep, answerOf};
 
 // What is sought beside its name: the length of ids, and whether it is a folder.
 pub struct Query {
@@ -103,7 +103,7 @@ fn moved(p: Probe, o: Order) -> Probe
 
 // One record compared: e is the record `at` of the search. A search that has ended, or whose count is full, stays as it is.
 pub fn step(object: &[u8], name: &[u8], q: Query, p: Probe, e: EntryRecord) -> Probe
-    ensures { λ r. ⌜ r ≡ stepOf (now (object .entry)) (now (name .entry)) q p e ⌝ }
+    ensures { λ r. ⌜ r ≡ probeStep (now (object .entry)) (now (name .entry)) q p e ⌝ }
 {
     let at = p.at;
     if p.high <= at {

@@ -4,6 +4,7 @@
 mod cases;
 mod commits;
 mod lent;
+mod pieces;
 mod requests;
 mod trees;
 
@@ -34,6 +35,7 @@ use libc::SEEK_SET;
 use libc::STDERR_FILENO;
 use libc::STDIN_FILENO;
 use libc::STDOUT_FILENO;
+use requests::compare_trees;
 use requests::mend_tree;
 use requests::request_call;
 use trees::list_call;
@@ -44,7 +46,7 @@ use trees::plain_call;
 const MOST_CASES: usize = 1048576;
 
 // The last call that there is; the counts of all cases stand in the place of the call after the most.
-const CALLS: usize = 28;
+const CALLS: usize = 31;
 
 const MOST_CALLS: usize = 63;
 
@@ -112,6 +114,9 @@ fn in_list(s: &[u8], g: &[usize], out: &mut [u8], p: &mut [usize]) -> [usize; AN
     if call == 27 {
         return mend_tree(s, g, out, &mut p[0..n]);
     }
+    if call == 30 {
+        return compare_trees(s, g, out, &mut p[0..n]);
+    }
     list_call(call, s, g, &mut p[0..n])
 }
 
@@ -147,7 +152,7 @@ fn answer(
     q: &mut [usize],
 ) -> [usize; ANSWERS] {
     match byte_at(s, 0) {
-        5 | 6 | 7 | 11 | 27 => in_list(s, g, out, p),
+        5 | 6 | 7 | 11 | 27 | 30 => in_list(s, g, out, p),
         17 => in_lists(s, g, p, q),
         21 => rewrite(s, g, out, p, q),
         _ => in_bytes(s, g, out),

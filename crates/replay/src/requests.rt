@@ -7,6 +7,7 @@ use crate::cases::c;
 use crate::cases::given;
 use crate::cases::h;
 use crate::cases::rules;
+use crate::pieces::check_in_pieces;
 use crate::trees::five;
 use crate::trees::four;
 use crate::trees::six;
@@ -68,6 +69,20 @@ fn export_tree(s: &[u8], g: &[usize], out: &mut [u8]) -> [usize; ANSWERS] {
     four(t)
 }
 
+// 29: a tree from its text.
+fn import_tree(s: &[u8], g: &[usize], out: &mut [u8]) -> [usize; ANSWERS] {
+    let mut t = [0usize; 4];
+    border_text::import_tree(a(s, g), h(g), rules(g), out, &mut t);
+    four(t)
+}
+
+// 30: two trees of a bundle, compared.
+pub fn compare_trees(s: &[u8], g: &[usize], out: &mut [u8], p: &mut [usize]) -> [usize; ANSWERS] {
+    let mut t = [0usize; 4];
+    border_difference::compare_trees(a(s, g), b(s, g), c(s, g), p, out, &mut t);
+    four(t)
+}
+
 pub fn request_call(call: u8, s: &[u8], g: &[usize], out: &mut [u8]) -> [usize; ANSWERS] {
     match call {
         22 => check_bundle(s, g),
@@ -75,6 +90,8 @@ pub fn request_call(call: u8, s: &[u8], g: &[usize], out: &mut [u8]) -> [usize; 
         24 => follow_path(s, g, out),
         25 => put_in_tree(s, g, out),
         26 => remove_from_tree(s, g, out),
-        _ => export_tree(s, g, out),
+        28 => export_tree(s, g, out),
+        29 => import_tree(s, g, out),
+        _ => check_in_pieces(s, g),
     }
 }

@@ -9,7 +9,7 @@ use lib.Dec.{eqb, leb}
 use borrow.Author.Tests.{eqb-true}
 use Rattle.ground.specs.Basics.{pick, ascii}
 use Rattle.ground.specs.Scan.{sameBytes, freeOf}
-use Rattle.ground.specs.Verdict.{verdict, mostBytes, mostRecords, idLength, sizeGate, gateOf}
+use Rattle.ground.specs.Verdict.{verdict, mostBytes, mostRecords, idLength, sizeGate, gateOf, isSet}
 use Rattle.ground.specs.declared.Verdict.{Verdict}
 use Rattle.ground.specs.declared.Gate.the-variants.{Open, Shut}
 use Rattle.ground.proofs.Laws.{and-left, and-right, gate-open}
@@ -22,7 +22,7 @@ use Rattle.mode_text.specs.Write.{trimmed, writeMode, modeText}
 use Rattle.mode_table.specs.declared.Written.{Written}
 use Rattle.mode_table.specs.declared.ModeFound.the-variants as found
 use Rattle.rules.specs.Rules.{isText, groupRow, modesOf, permitted, nameNumber, bareNumber}
-use Rattle.rules.specs.Gate.{isSet, ruleGate}
+use Rattle.rules.specs.Gate.{ruleGate}
 use Rattle.rules.specs.Code.{isGroup}
 pub use Rattle.names.proofs.Laws.{name-empty, number-bad}
 

@@ -1,15 +1,9 @@
 -- Whether a call with a rule set may begin (docs/FORMAT.md, "Bounds" and "Strict reading"). Assumes nothing.
 use Prim.Native.Nat.{ℕ}
-use mathlib.Core.Bool.{Bool, _||_}
-use lib.Dec.{eqb}
 use Rattle.ground.specs.Basics.{pick}
-use Rattle.ground.specs.Verdict.{verdict, idLength, sizeGate}
+use Rattle.ground.specs.Verdict.{verdict, idLength, isSet, sizeGate}
 use Rattle.ground.specs.declared.Gate.{Gate}
 use Rattle.ground.specs.declared.Gate.the-variants.{Shut}
-
--- there are two rule sets
-unfoldable pub isSet : ℕ → Bool
-isSet k = eqb k 1 || eqb k 2
 
 -- 1 where the id length is neither of the two, then 19 for another rule set, then 2
 unfoldable pub ruleGate : ℕ → ℕ → ℕ → ℕ → Gate

@@ -12,9 +12,7 @@ use Rattle.mode_text.specs.Write.{shown}
 use Rattle.mode_text.specs.Write.{short}
 use Rattle.mode_table.specs.declared.EntryKind.the-variants.{Blob}
 use Rattle.mode_table.specs.declared.Written.{Written}
-use Rattle.order.specs.Order.{nameOrder}
-use Rattle.order.specs.declared.Order.{Order}
-use Rattle.order.specs.declared.Order.the-variants.{Below, Same, Above}
+use Rattle.order.specs.Order.{isBelow, nameOrder}
 use Rattle.entry.specs.Entry.{Entry}
 use Rattle.doubles.specs.Doubles.{namedBefore}
 unfoldable pub use Rattle.names.specs.Names.{isPlain, isDotGit, bareNumber}
@@ -47,11 +45,6 @@ unfoldable pub nameNumber : List ℕ → ℕ
 nameNumber n = orElse (pick (permitted n) 0 6) (pick (isDotGit n) 18 0)
 
 -- ---- a place among the entries
-
-abbrev pub isBelow : Order → Bool
-isBelow Below = true
-isBelow Same = false
-isBelow Above = false
 
 -- one entry stands strictly before another in Git's order
 unfoldable pub standsBefore : Entry → Entry → Bool

@@ -26,7 +26,7 @@ unfolding placeFrom
 place-most x s at k h e = omega (arith, count-at x (drop at s) k (omega (arith, length-drop at s)) (getD-drop at s k 0 ∙ e))
 
 -- what counting goes over, and the count from there on
-count-over : (x k : ℕ) (s : List ℕ) → k ≤ countTo x s → countTo x s ≡ k + countTo x (drop k s)
+pub count-over : (x k : ℕ) (s : List ℕ) → k ≤ countTo x s → countTo x s ≡ k + countTo x (drop k s)
 count-over x zero s h = omega arith
 count-over x (suc k) [] h = absurd (omega arith)
 count-over x (suc k) (b ∷ bs) h = go (count-over x k bs) (eqb b x) h
@@ -39,6 +39,11 @@ count-over x (suc k) (b ∷ bs) h = go (count-over x k bs) (eqb b x) h
 place-over : (x : ℕ) (s : List ℕ) (i k : ℕ) → k ≤ countTo x (drop i s) → placeFrom x s i ≡ placeFrom x s (i + k)
 unfolding placeFrom
 place-over x s i k h = rw (← drop-drop k i s) (omega (arith, count-over x k (drop i s) h))
+
+-- none of n bytes is x, nor then of fewer
+pub place-part : (x : ℕ) (s : List ℕ) (i n k : ℕ) → placeFrom x s i ≡ placeFrom x s (i + n) → k ≤ n → placeFrom x s i ≡ placeFrom x s (i + k)
+unfolding placeFrom
+place-part x s i n k e h = place-over x s i k (omega (arith, e, place-from x s (i + n)))
 
 -- the first mark stands where the first x stands
 zeros-marks : (x : ℕ) (bs : List ℕ) → zeros (marksOf x bs) ≡ countTo x bs

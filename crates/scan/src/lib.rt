@@ -121,21 +121,31 @@ fn in_32(s: &[u8], at: usize) -> u8
     hit
 }
 
-// Past the blocks of thirty-two bytes that have no NUL: at one that has, or at fewer bytes.
+// The block of thirty-two bytes that has the next NUL at or after a place, or where the bytes end. The last block ends with them, and may
+// overlap the one before.
 fn skip(s: &[u8], from: usize) -> usize
-    requires { ⌜ from ≤ length (now s) ⌝ }
+    requires { ⌜ from + 32 ≤ length (now s) ⌝ }
     ensures inside { λ r. ⌜ r ≤ length (now (s .entry)) ⌝ }
     ensures same { λ r. ⌜ placeFrom 0 (now (s .entry)) from ≡ placeFrom 0 (now (s .entry)) r ⌝ }
-    ensures stops { λ r. ⌜ (r + 32 ≤ length (now (s .entry)) → placeFrom 0 (now (s .entry)) r < r + 32) ⌝ }
+    ensures stops { λ r. ⌜ (r < length (now (s .entry)) → (r + 32 ≤ length (now (s .entry))) × (placeFrom 0 (now (s .entry)) r < r + 32)) ⌝ }
 {
-    let mut i = from;
-    while 32 <= s.len() - i {
-        if in_32(s, i) != 0 {
-            return i;
+    let mut at = from;
+    let mut left = s.len() - from - 32;
+    loop {
+        if in_32(s, at) != 0 {
+            return at;
         }
-        i += 32;
+        if 32 <= left {
+            at += 32;
+            left -= 32;
+            continue;
+        }
+        if left == 0 {
+            return s.len();
+        }
+        at += left;
+        left = 0;
     }
-    i
 }
 
 // The first NUL of a block of thirty-two bytes that has one.
@@ -173,40 +183,10 @@ pub fn find_nul(s: &[u8], from: usize) -> usize
         return find_byte(s, from, 0);
     }
     let j = skip(s, from);
-    if s.len() - j < 32 {
-        return find_byte(s, j, 0);
+    if s.len() <= j {
+        return s.len();
     }
     nul_of_block(s, j)
-}
-
-// 0 where none of the thirty-two bytes from a place on is x. For NUL alone in_32 does it: shared, neither would be put in place.
-fn among_32(s: &[u8], at: usize, x: u8) -> u8
-    requires { ⌜ at + 32 ≤ length (now s) ⌝ }
-    ensures { λ r. ⌜ (r ≡ 0 → placeFrom x (now (s .entry)) at ≡ placeFrom x (now (s .entry)) (at + 32)) ⌝ }
-{
-    let mut hit: u8 = 0;
-    let mut k: usize = 0;
-    while k < 32 {
-        if s[at + k] == x {
-            hit = 1;
-        }
-        k += 1;
-    }
-    hit
-}
-
-// How many bytes stand before the first x, as count_to says it, for bytes that are many and have none.
-pub fn count_far(s: &[u8], x: u8) -> usize
-    ensures { λ r. ⌜ r ≡ countTo x (now (s .entry)) ⌝ }
-{
-    let mut i = 0;
-    while 32 <= s.len() - i {
-        if among_32(s, i, x) != 0 {
-            break;
-        }
-        i += 32;
-    }
-    find_byte(s, i, x)
 }
 
 // The shorter of two lengths.

@@ -1,24 +1,23 @@
 -- What an index proposes and the bundle confirms is the object that a walk would meet, since no id stands twice. Assumes nothing.
-use Prim.Native.Nat.{ℕ, zero, suc, _+_, _*_, _/_, _<_, _≤_}
+use Prim.Native.Nat.{ℕ, zero, suc, _*_, _/_}
 use mathlib.Core.Bool.{Bool, true, false, _||_}
-use mathlib.Core.Path.{_≡_, refl, ap, sym, subst, _∙_}
+use mathlib.Core.Path.{_≡_, refl, sym, _∙_}
 use mathlib.Core.Logic.{⊎-elim}
-use mathlib.Core.List.{List, [], _∷_, List·Memᴰ, List·Memᴰ·cases-cons, List·Memᴰ·not-nil}
+use mathlib.Core.List.{List, List·Memᴰ, List·Memᴰ·cases-cons, List·Memᴰ·not-nil}
 use native.Mathlib.Omega.{arith}
 use borrow.Author.Tests.{ltb-true}
 use lib.Dec.{eqb, ltb}
 use lib.ListN.{length, getD, drop}
 use Rattle.ground.specs.Basics.{pick}
 use Rattle.ground.specs.Scan.{sameBytes}
-use Rattle.ground.proofs.Laws.{same-true, same-refl}
+use Rattle.ground.proofs.Laws.{same-true}
 use Rattle.frame.specs.Frame.{headOf, frameAt, Frames, done, fault, frame, onward, frames, framesBy}
-use Rattle.frame.specs.Place.{idIn, firstOf, placeBy, placeOf}
+use Rattle.frame.specs.Place.{idIn, firstOf, placeOf}
 use Rattle.frame.specs.declared.Header.{Header}
 use Rattle.frame.specs.declared.Frame.{Frame}
 use Rattle.frame.specs.declared.Framed.{Framed}
 use Rattle.frame.specs.declared.Framed.the-variants.{Whole, Broken}
-use Rattle.frame.specs.declared.Placed.{Placed}
-use Rattle.frame.specs.declared.Placed.the-variants.{At, Absent}
+use Rattle.frame.specs.declared.Placed.the-variants.{At}
 use Rattle.frame.proofs.Laws.{frame-inside, place-good}
 use Rattle.twice.specs.Ids.{idsIn, among, repeats}
 use Rattle.indexing.specs.Indexing.{elementsIn}

@@ -3,7 +3,6 @@ use Prim.Native.Nat.{ℕ, _+_, _-_, _/_, _≤_, _<_, min}
 use mathlib.Core.Bool.{Bool, true, false}
 use mathlib.Core.Path.{_≡_, refl, ap, sym, _∙_}
 use mathlib.Core.List.{List}
-use native.Mathlib.Omega.{arith}
 use borrow.Author.Tests.{lt-ltb, le-ltb}
 use lib.Dec.{ltb}
 use lib.ListN.{length, getD, take, drop}
@@ -11,9 +10,8 @@ use Rattle.ground.specs.Basics.{pick}
 use Rattle.ground.specs.Scan.{sameBytes}
 use Rattle.order.specs.Order.{nameOrder}
 use Rattle.order.specs.declared.Order.{Order}
-use Rattle.frame.specs.Frame.{headOf, frameAt}
-use Rattle.frame.specs.Place.{idIn, placeBy, placeOf}
-use Rattle.frame.specs.declared.Head.{Head}
+use Rattle.frame.specs.Frame.{frameAt}
+use Rattle.frame.specs.Place.{idIn, placeOf}
 use Rattle.frame.specs.declared.Head.the-variants as head
 use Rattle.frame.specs.declared.Frame.{Frame}
 use Rattle.frame.specs.declared.Framed.{Framed}

@@ -29,7 +29,8 @@ use Rattle.doubles.specs.declared.Placed.the-variants.{Fine, NotAfter, Double}
 use Rattle.doubles.proofs.Theorem.{Ascends, nameBytes}
 use Rattle.doubles.proofs.Stacking.{marks-length}
 use Rattle.doubles.proofs.Placing.{Tracks, tracks-first, Told, told}
-use Rattle.rules.specs.Rules.{isText, judge, orElse, modesOf, nameNumber, bareNumber, isBelow, standsBefore, isAfter, afterNumber, gitRules}
+use Rattle.order.specs.Order.{isBelow}
+use Rattle.rules.specs.Rules.{isText, judge, orElse, modesOf, nameNumber, bareNumber, standsBefore, isAfter, afterNumber, gitRules}
 use Rattle.rules.proofs.Laws.{texts-five, number-free}
 use Rattle.strict.specs.Strict.{textOf}
 use Rattle.strict.specs.Code.{LastWithin, lastOf, entryNo, afterAt, marksAfter, Roomy}

@@ -4,7 +4,7 @@ use native.Mathlib.Omega.{arith}
 use mathlib.Core.Path.{_≡_, refl, ap, sym, _∙_}
 use mathlib.Core.Bool.{true}
 use mathlib.Core.List.{List, [], _∷_, map}
-use lib.ListN.{length, drop, length-take}
+use lib.ListN.{length, drop, replicate, length-take, length-replicate}
 use lib.Seq.{drop-drop}
 use Rattle.ground.specs.Scan.{countTo, freeOf}
 use Rattle.ground.specs.Verdict.{verdict, mostRecords}
@@ -49,6 +49,13 @@ pub record Reading (k h : ℕ) (s : List ℕ) (at n m : ℕ) (last : Last) (mark
   pub bytes : nameBytes (map (entryOf h s) seen) ≤ at
   pub within : at ≤ length s
   pub room : Roomy (length s) (length marks)
+
+-- a list of n zeros, n a variable, so that no proof computes a long one: its length, and that it is marks enough
+pub marks-of : (n : ℕ) → n ≡ length (replicate {A = ℕ} n 0)
+marks-of n = sym (length-replicate n 0)
+
+pub marks-enough : (n bytes : ℕ) → Roomy bytes n → Roomy bytes (length (replicate {A = ℕ} n 0))
+marks-enough n bytes r = rw (length-replicate {A = ℕ} n 0) r
 
 pub reading-start : (k h : ℕ) (s marks : List ℕ) → Roomy (length s) (length marks) → Reading k h s 0 0 0 Nothing marks
 unfolding nameBytes

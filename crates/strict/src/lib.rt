@@ -4,12 +4,13 @@ ghost use mathlib.Core.Bool.{true};
 ghost use Prim.Native.Nat.{_+_, _%_, _≤_};
 ghost use lib.ListN.{length, drop};
 ghost use Rattle.ground.specs.Scan.{freeOf};
-ghost use Rattle.ground.specs.Verdict.{mostBytes};
+ghost use Rattle.ground.specs.Verdict.{verdict, mostBytes};
 ghost use Rattle.entry.specs.Record.{nameOf};
 ghost use Rattle.entry.specs.Decode.{decode};
 ghost use Rattle.mode_code.specs.Code.{codeAt};
 ghost use Rattle.rules.specs.Rules.{isText, modesOf, gitRules};
 ghost use Rattle.reading.specs.Listing.{tally};
+ghost use Rattle.reading.specs.declared.Counted.the-variants.{Stopped};
 ghost use Rattle.strict.specs.Strict.{textOf, strictly, strictCount, strictAnswer, strictRecords};
 ghost use Rattle.strict.specs.Code.{Within, LastWithin, entryNo, afterAt, marksAfter, Roomy};
 use doubles::Placed;
@@ -129,52 +130,47 @@ fn entry_number(rules: u16, s: &[u8], at: usize, e: EntryRecord) -> usize
     MODE_TEXT
 }
 
+// Refused: by a number, at a place.
+fn stopped(number: usize, place: usize) -> Counted
+    ensures { λ r. ⌜ r ≡ Stopped (verdict number place) ⌝ }
+{
+    Counted::Stopped(Verdict {
+        number,
+        place,
+        ..FINE
+    })
+}
+
 // The first pass of the strict reader, with marks enough for the names that can be open at once.
 fn count_marked(rules: u16, s: &[u8], h: usize, marks: &mut [u32]) -> Counted
     requires { ⌜ Roomy (length (now s)) (length (now marks)) ⌝ }
     ensures { λ r. ⌜ r ≡ tally 0 (strictly (gitRules rules) h (now (s .entry))) ⌝ }
 {
-    let mut c = Cursor { at: 0 };
+    let mut at: usize = 0;
     let mut n: usize = 0;
     let mut held: usize = 0;
     let mut last = Last::Nothing;
-    while c.at < s.len() {
+    while at < s.len() {
         if MOST_RECORDS <= n {
-            return Counted::Stopped(Verdict {
-                number: BOUND,
-                ..FINE
-            });
+            return stopped(BOUND, 0);
         }
-        match decode_at(s, h, c.at) {
+        match decode_at(s, h, at) {
             Decoded::Whole(e, next) => {
-                let at = c.at;
                 let number = entry_number(rules, s, at, e);
                 if number != DONE {
-                    return Counted::Stopped(Verdict {
-                        number,
-                        place: at,
-                        ..FINE
-                    });
+                    return stopped(number, at);
                 }
                 match after_entry(s, marks, held, last, e) {
                     Placed::NotAfter => {
-                        return Counted::Stopped(Verdict {
-                            number: ORDER,
-                            place: at,
-                            ..FINE
-                        });
+                        return stopped(ORDER, at);
                     }
                     Placed::Double => {
-                        return Counted::Stopped(Verdict {
-                            number: SAME_NAME,
-                            place: at,
-                            ..FINE
-                        });
+                        return stopped(SAME_NAME, at);
                     }
                     Placed::Fine(k) => {
                         held = k;
                         last = Last::After(e);
-                        c = next;
+                        at = next.at;
                         n += 1;
                     }
                 }
@@ -252,10 +248,7 @@ pub fn strict_count(bytes: &[u8], h: usize, rules: u16) -> Counted
     ensures { λ r. ⌜ r ≡ strictCount rules h (now (bytes .entry)) ⌝ }
 {
     if MOST_BYTES < bytes.len() {
-        return Counted::Stopped(Verdict {
-            number: BOUND,
-            ..FINE
-        });
+        return stopped(BOUND, 0);
     }
     count_strict(rules, bytes, h)
 }

@@ -6,7 +6,7 @@ use mathlib.Core.Path.{_≡_, refl}
 use mathlib.Core.List.{List, [], _∷_, _++_, map}
 use lib.ListN.{length, drop, replicate}
 use Rattle.ground.specs.Basics.{ascii}
-use Rattle.ground.specs.Verdict.{verdict, idLength, sizeGate}
+use Rattle.ground.specs.Verdict.{verdict, idLength, sizeGate, isSet}
 use Rattle.ground.specs.declared.Gate.the-variants.{Shut}
 use Rattle.mode_text.specs.Read.{readText}
 use Rattle.mode.specs.Read.{octalFrom, hasSix, textLen, settle, restAt, readMode}
@@ -14,9 +14,8 @@ use Rattle.entry.specs.Record.{nameOf, idOf}
 use Rattle.entry.specs.Entry.{entryOf}
 use Rattle.entry.specs.Decode.{shortPart, decodeName, decodeMode, decode}
 use Rattle.reading.specs.Listing as reading
-use Rattle.rules.specs.Gate.{isSet}
 use Rattle.frame.specs.Frame.{fieldsAt, byRules, byVersion, headOf, isFrame, frameAt, onward, frames, whole, framesIn}
-use Rattle.frame.specs.Place.{idIn, firstOf, placeBy}
+use Rattle.frame.specs.Place.{idIn}
 use Rattle.twice.specs.Ids.{idsIn, among, repeats}
 use Rattle.bundle.specs.Bundle.{objectOf, bundleBy, objectWith, openBy, openFrom, told, checkOf}
 use Rattle.bundle.specs.declared.Checked.{Checked}

@@ -6,7 +6,7 @@ use mathlib.Core.Path.{_≡_, refl}
 use mathlib.Core.List.{List, [], _∷_, _++_, map}
 use lib.ListN.{replicate, take}
 use Rattle.ground.specs.Basics.{ascii}
-use Rattle.ground.specs.Verdict.{verdict, broken, counted, refused, idLength, sizeGate, stored}
+use Rattle.ground.specs.Verdict.{verdict, broken, counted, refused, idLength, sizeGate, stored, isSet}
 use Rattle.ground.specs.declared.Answer.{Answer}
 use Rattle.mode.specs.Mode.{valueOf, sortOf, isTree}
 use Rattle.mode_text.specs.Read.{readText}
@@ -19,7 +19,6 @@ use Rattle.entry.specs.Decode.{shortPart, decodeName, decodeMode, decode}
 use Rattle.doubles.specs.Doubles.{namedBefore}
 use Rattle.reading.specs.Listing.{follow, plain, recordsIn, tally}
 use Rattle.rules.specs.Rules.{isPlain, judge, permitted, isDotGit, nameNumber, standsBefore, isAfter, groupRow, afterNumber, gitRules}
-use Rattle.rules.specs.Gate.{isSet}
 use Rattle.strict.specs.Strict.{textOf, cut, strictCount}
 use Rattle.frame.specs.Frame.{fieldsAt, byRules, byVersion, headOf, isFrame, frameAt, onward, frames, whole}
 use Rattle.frame.specs.Place.{idIn, firstOf, placeBy}

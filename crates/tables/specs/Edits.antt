@@ -2,10 +2,10 @@
 use Prim.Native.Nat.{ℕ}
 use Prim.Native.String.{String}
 use mathlib.Core.Path.{_≡_, refl}
-use mathlib.Core.List.{List, [], _∷_, _++_, map}
-use lib.ListN.{length, replicate, take}
+use mathlib.Core.List.{List, [], _∷_, map}
+use lib.ListN.{replicate, take}
 use Rattle.ground.specs.Basics.{ascii}
-use Rattle.ground.specs.Verdict.{idLength, sizeGate, verdict, broken, counted, refused}
+use Rattle.ground.specs.Verdict.{idLength, sizeGate, verdict, broken, counted, refused, isSet}
 use Rattle.ground.specs.declared.Answer.{Answer}
 use Rattle.output.specs.Output.{gated, fitted}
 use Rattle.mode.specs.Mode.{valueOf, sortOf, isTree}
@@ -19,13 +19,13 @@ use Rattle.entry.specs.Entry.{entryBytes, asWritten, entryOf}
 use Rattle.entry.specs.Decode.{shortPart, decodeName, decodeMode, decode}
 use Rattle.doubles.specs.Doubles.{namedBefore}
 use Rattle.rules.specs.Rules.{judge, isPlain, permitted, isDotGit, nameNumber, standsBefore, isAfter, groupRow, afterNumber, gitRules}
-use Rattle.rules.specs.Gate.{isSet, ruleGate}
+use Rattle.rules.specs.Gate.{ruleGate}
 use Rattle.reading.specs.Listing.{follow, plain, recordsIn, tally}
 use Rattle.strict.specs.Strict.{textOf, cut}
 use Rattle.one_listing.specs.Sound.{isMode}
 use Rattle.edit_walk.specs.Walk.{newEntry}
 use Rattle.edit.specs.Table.{removeFrom, insert, putIn, isHeld, tableOf}
-use Rattle.edit.specs.Edit.{entriesIn, newNo, sizeOf, putting, removing, onCounted, putAnswer, removeAnswer}
+use Rattle.edit.specs.Edit.{newNo, sizeOf, putting, removing, onCounted, putAnswer, removeAnswer}
 use Rattle.examples.specs.Examples.{O}
 
 -- a call, and its answer

@@ -3,9 +3,9 @@ use Prim.Native.Nat.{ℕ}
 use Prim.Native.String.{String}
 use mathlib.Core.Path.{_≡_, refl}
 use mathlib.Core.List.{List, [], _∷_, _++_, map}
-use lib.ListN.{length, replicate}
+use lib.ListN.{replicate}
 use Rattle.ground.specs.Basics.{ascii}
-use Rattle.ground.specs.Verdict.{verdict, broken, counted, refused, idLength, sizeGate, stored}
+use Rattle.ground.specs.Verdict.{verdict, broken, counted, refused, idLength, sizeGate, stored, isSet}
 use Rattle.ground.specs.declared.Answer.{Answer}
 use Rattle.output.specs.Output.{fitted, gated}
 use Rattle.mode.specs.Mode.{valueOf, sortOf, isTree}
@@ -19,7 +19,7 @@ use Rattle.entry.specs.Decode.{shortPart, decodeName, decodeMode, decode}
 use Rattle.doubles.specs.Doubles.{namedBefore}
 use Rattle.reading.specs.Listing.{follow, plain, recordsIn, tally}
 use Rattle.rules.specs.Rules.{isPlain, judge, permitted, isDotGit, nameNumber, standsBefore, isAfter, groupRow, afterNumber, gitRules}
-use Rattle.rules.specs.Gate.{isSet, ruleGate}
+use Rattle.rules.specs.Gate.{ruleGate}
 use Rattle.strict.specs.Strict.{textOf, cut}
 use Rattle.hex.specs.Hex.{digitOf}
 use Rattle.hex_of_id.specs.Hex.{hexOf}

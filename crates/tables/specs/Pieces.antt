@@ -3,11 +3,10 @@
 use Prim.Native.Nat.{ℕ}
 use Prim.Native.String.{String}
 use mathlib.Core.Path.{_≡_, refl}
-use mathlib.Core.Bool.{false}
 use mathlib.Core.List.{List, [], _∷_, _++_, map}
 use lib.ListN.{length, replicate, take, drop}
 use Rattle.ground.specs.Basics.{ascii}
-use Rattle.ground.specs.Verdict.{idLength, sizeGate, verdict, broken, counted, refused, mostBytes, mostRecords}
+use Rattle.ground.specs.Verdict.{idLength, sizeGate, verdict, broken, counted, refused, mostBytes, mostRecords, isSet}
 use Rattle.ground.specs.declared.Answer.{Answer}
 use Rattle.mode.specs.Mode.{valueOf, sortOf, isTree}
 use Rattle.mode_text.specs.Read.{octalFrom, hasSix, textLen, settle, restAt, readText}
@@ -20,13 +19,13 @@ use Rattle.entry.specs.Decode.{shortPart}
 use Rattle.doubles.specs.Doubles.{topIs, namedBefore}
 use Rattle.doubles.specs.Stack.{stackOf, keptOf, openAt, marksAt, isDouble, openOf}
 use Rattle.rules.specs.Rules.{judge, isPlain, permitted, isDotGit, nameNumber, bareNumber, standsBefore, isAfter, groupRow, afterNumber, gitRules}
-use Rattle.rules.specs.Gate.{isSet, ruleGate}
+use Rattle.rules.specs.Gate.{ruleGate}
 use Rattle.reading.specs.Listing.{follow, tally}
 use Rattle.strict.specs.Strict.{textOf, cut}
 use Rattle.arriving.specs.declared.Marks.{Marks}
 use Rattle.arriving.specs.declared.Phase.the-variants.{Head}
 use Rattle.arriving.specs.Feed.{together, startOf, meet, nameMarks, nameHeld, judged, placed, closed, closedEnds, idMarks, idEnds, body, bodies, begin, headStep}
-use Rattle.arriving.specs.Feed.{over, stepOf, feedOf, finishOf}
+use Rattle.arriving.specs.Feed.{over, byteStep, feedOf, finishOf}
 use Rattle.arriving.specs.Whole.{heldName, heldMode, arriving, checkOf}
 use Rattle.arriving.specs.Claims.{inPieces, answer}
 use Rattle.examples.specs.Examples.{O}
@@ -123,7 +122,7 @@ rowsOfNames =
 pub pieces-hold : map (λ (r : Row). r .asked) rowsOfPieces ≡ map (λ (r : Row). r .answer) rowsOfPieces
 unfolding rowsOfPieces idLength sizeGate valueOf sortOf isTree octalFrom hasSix textLen settle restAt readText readMode rows byNumber next shortPart stackOf
     keptOf openAt marksAt isDouble openOf isPlain isDotGit bareNumber groupRow isSet ruleGate startOf meet nameMarks nameHeld judged placed closed closedEnds idMarks
-    idEnds body bodies begin headStep over stepOf feedOf finishOf inPieces topIs
+    idEnds body bodies begin headStep over byteStep feedOf finishOf inPieces topIs
 pieces-hold = refl
 
 pub names-hold : map (λ (r : Row). r .asked) rowsOfNames ≡ map (λ (r : Row). r .answer) rowsOfNames

@@ -19,11 +19,11 @@ use Rattle.ground.proofs.Laws.{equal, gate-open, id-made, sets-front}
 use Rattle.output.specs.Output.{fitted}
 use Rattle.output.proofs.Laws.{fitted-bad, fitted-short, fitted-fine, refused-both, done-both, gated-shut, gated-open}
 use Rattle.mode.specs.Mode.{isTree}
-use Rattle.order.specs.Order.{nameOrder}
+use Rattle.order.specs.Order.{isBelow, nameOrder}
 use Rattle.order.specs.declared.Order.{Order}
 use Rattle.order.specs.declared.Order.the-variants.{Below, Same, Above}
 use Rattle.entry.specs.Entry.{Entry, asWritten}
-use Rattle.rules.specs.Rules.{standsBefore, isBelow}
+use Rattle.rules.specs.Rules.{standsBefore}
 use Rattle.rules.specs.Gate.{ruleGate}
 use Rattle.rules.proofs.Laws.{rule-known, rule-open}
 use Rattle.keys.specs.Key.{slash, keyAt, belowBy, decide}

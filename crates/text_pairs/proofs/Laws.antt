@@ -11,11 +11,11 @@ use lib.Seq.{drop-cons}
 use borrow.Author.Tests.{eq-eqb, ne-eqb, lt-ltb, le-ltb}
 use Rattle.ground.specs.Basics.{pick}
 use Rattle.ground.specs.declared.Verdict.{Verdict}
-use Rattle.order.specs.Order.{orElse, byNumber, next, nameOrder}
+use Rattle.order.specs.Order.{thenBy, next, nameOrder}
 use Rattle.order.specs.declared.Order.{Order}
 use Rattle.order.specs.declared.Order.the-variants.{Below}
 use Rattle.order.proofs.Laws.{by-lt, by-eq}
-use Rattle.keys.specs.Key.{nameAt, slash, keyAt, belowBy, decide}
+use Rattle.keys.specs.Key.{nameAt, keyAt, belowBy, decide}
 use Rattle.keys.specs.Strict.{Strict}
 use Rattle.sorting.specs.Sort.{Ascends}
 use Rattle.sorting.proofs.Sorted.{ascends-pair, up-below, up-trans, up-then-below}
@@ -67,7 +67,7 @@ module _ (below : ℕ → ℕ → Bool) (strict : Strict below) (l : List ℕ) (
 short-below : (n : List ℕ) → nameOrder (n ++ []) false (n ++ 47 ∷ []) false ≡ Below
 unfolding nameOrder next
 short-below [] = by-lt (omega arith)
-short-below (x ∷ n) = ap (λ (o : Order). orElse o (nameOrder (n ++ []) false (n ++ 47 ∷ []) false)) (by-eq refl) ∙ short-below n
+short-below (x ∷ n) = ap (λ (o : Order). thenBy o (nameOrder (n ++ []) false (n ++ 47 ∷ []) false)) (by-eq refl) ∙ short-below n
 
 pub folder-over : (s : List ℕ) (x : ℕ) → x % 2 ≡ 0 → belowBy (keyAt s 9 0) x (x + 1) ≡ true
 unfolding belowBy keyAt nameAt

@@ -1,18 +1,18 @@
 -- The shape of a record that is not refused: digits, word, id and tab, with no tab before that one; a name; NUL. Assumes nothing.
-use Prim.Native.Nat.{ℕ, zero, suc, _+_, _-_, _*_, _<_, _≤_}
+use Prim.Native.Nat.{ℕ, suc, _+_, _-_, _*_, _<_, _≤_}
 use native.Mathlib.Omega.{arith}
 use native.Mathlib.Numerals.{add-one}
 use mathlib.Core.Path.{_≡_, refl, ap, sym, _∙_}
 use mathlib.Core.Logic.{_⊎_, inl, inr, ⊎-elim}
 use mathlib.Core.Bool.{Bool, true, false, false≢true, not, _&&_, _||_}
-use mathlib.Core.List.{List, [], _∷_, _++_, append-assoc}
+use mathlib.Core.List.{List, [], _∷_, _++_}
 use lib.Dec.{eqb, leb}
 use lib.ListN.{length, getD, take, drop, length-drop, take-append-drop, List·getD-eq-default}
 use lib.Seq.{drop-cons, drop-drop, take-add}
 use native.Mathlib.Decide.{decLt}
 use borrow.Author.Tests.{eqb-true, eqb-false, ne-eqb, le-leb, lt-leb, leb-true}
 use Rattle.ground.specs.Basics.{pick, ascii, part}
-use Rattle.ground.specs.Scan.{sameBytes, freeOf, countTo}
+use Rattle.ground.specs.Scan.{freeOf, countTo}
 use Rattle.ground.proofs.Laws.{and-left, and-right, same-true, count-is, free-count}
 use Rattle.hex.specs.Hex.{hexValue, isHex}
 use Rattle.rules.specs.Rules.{isText, modesOf, bareNumber}

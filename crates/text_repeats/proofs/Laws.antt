@@ -1,17 +1,16 @@
 -- Laws of walks over neighbours of a list. Assumes nothing.
-use Prim.Native.Nat.{ℕ, zero, suc, _+_, _-_, _/_, _%_, _<_, _≤_, min}
+use Prim.Native.Nat.{ℕ, suc, _+_, _-_, _/_, _%_, _<_, _≤_, min}
 use native.Mathlib.Omega.{arith}
 use mathlib.Core.Path.{_≡_, refl, ap, sym, _∙_}
 use mathlib.Core.Bool.{Bool, true, false, _&&_}
 use mathlib.Core.List.{List, [], _∷_}
-use lib.Dec.{eqb, ltb}
+use lib.Dec.{ltb}
 use lib.ListN.{length, getD, take, drop, length-drop}
 use lib.Seq.{drop-cons}
 use borrow.Author.Tests.{eq-eqb, ne-eqb, lt-ltb, le-ltb}
 use Rattle.ground.specs.Basics.{pick}
 use Rattle.ground.specs.Scan.{sameBytes, placeFrom}
 use Rattle.ground.specs.Verdict.{verdict, fine}
-use Rattle.ground.specs.declared.Verdict.{Verdict}
 use Rattle.keys.specs.Key.{pastMark, cutTo, nameAt}
 use Rattle.keys.proofs.Keys.{end-nul}
 use Rattle.text_repeats.specs.Least.{sameRecord, leastOf, leastNext, told}

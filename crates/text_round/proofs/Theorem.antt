@@ -1,25 +1,21 @@
 -- Where exporting is done, object and text say one sound listing. Assumes nothing.
-use Prim.Native.Nat.{ℕ, max}
+use Prim.Native.Nat.{max}
 use native.Mathlib.Omega.{arith}
 use mathlib.Core.Path.{_≡_, refl, ap, sym, _∙_}
-use mathlib.Core.List.{List, []}
+use mathlib.Core.List.{[]}
 use lib.ListN.{length}
-use Rattle.ground.specs.Verdict.{counted, refused, mostRecords}
+use Rattle.ground.specs.Verdict.{mostRecords}
 use Rattle.ground.specs.declared.Answer.{Answer}
 use Rattle.ground.specs.declared.Gate.{Gate}
 use Rattle.ground.specs.declared.Gate.the-variants.{Open, Shut}
 use Rattle.ground.proofs.Laws.{id-is, id-small}
-use Rattle.output.specs.Output.{fitted}
 use Rattle.output.proofs.Laws.{fitted-done}
-use Rattle.entry.specs.Entry.{Entry, entriesOf}
+use Rattle.entry.specs.Entry.{entriesOf}
 use Rattle.rules.specs.Rules.{gitRules}
 use Rattle.rules.specs.Gate.{ruleGate}
 use Rattle.reading.specs.Listing.{listing, recordsIn, tally}
-use Rattle.reading.specs.declared.Counted.{Counted}
-use Rattle.reading.specs.declared.Counted.the-variants.{Total, Stopped}
 use Rattle.strict.specs.Strict.{strictly}
 use Rattle.strict.proofs.Laws.{strict-refuses}
-use Rattle.one_listing.specs.Sound.{Sound, SoundListing}
 use Rattle.one_listing.proofs.Cutting.{uncut-sound}
 use Rattle.one_listing.proofs.Present.{git-ok, plainly}
 use Rattle.tree_export.specs.Export.{textIn, countedIn, exportAnswer}

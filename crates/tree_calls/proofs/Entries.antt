@@ -1,10 +1,8 @@
 -- The first demand of entries. Assumes nothing.
 use Prim.Native.Nat.{ℕ, _<_}
-use native.Mathlib.Omega.{arith}
 use mathlib.Core.Path.{_≡_, refl}
 use mathlib.Core.Bool.{true}
 use mathlib.Core.List.{List, [], _∷_}
-use mathlib.Core.Logic.{_⊎_, ⊎-elim}
 use lib.ListN.{length, drop}
 use Rattle.ground.specs.Verdict.{verdict, fine, broken, isPart}
 use Rattle.entry.specs.Decode.{decode, noEntry, stepOver, stepFrom, stepOf}
@@ -13,7 +11,7 @@ use Rattle.entry.specs.declared.Cursor.{Cursor}
 use Rattle.entry.specs.declared.Decoded.{Decoded}
 use Rattle.entry.specs.declared.Decoded.the-variants.{Whole, Broken}
 use Rattle.entry.specs.declared.Step.{Step}
-use Rattle.entry.proofs.Laws.{decode-three, step-end}
+use Rattle.entry.proofs.Laws.{decode-three}
 use Rattle.call.specs.Call.{none, _and_, Fits}
 use Rattle.tree_calls.specs.Calls.{ofStep, ofDecoded}
 use Rattle.tree_calls.specs.First.{OfEntries}

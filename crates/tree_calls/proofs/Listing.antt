@@ -1,11 +1,10 @@
 -- The first demand of the text of a listing. Assumes nothing.
 use Prim.Native.Nat.{ℕ}
-use mathlib.Core.Path.{_≡_, refl, ap, sym, subst}
+use mathlib.Core.Path.{_≡_, refl, sym, subst}
 use mathlib.Core.List.{List, [], _∷_}
 use lib.Dec.{leb}
 use lib.ListN.{length}
 use Rattle.ground.specs.Verdict.{verdict, idLength, mostRecords}
-use Rattle.ground.specs.declared.Verdict.{Verdict}
 use Rattle.reading.specs.Listing.{listing, tally}
 use Rattle.reading.specs.declared.Counted.{Counted}
 use Rattle.reading.specs.declared.Counted.the-variants.{Total, Stopped}

@@ -19,7 +19,7 @@ use Rattle.entry.specs.declared.EntryRecord.{EntryRecord}
 use Rattle.order.specs.declared.Order.the-variants.{Below, Same, Above}
 use Rattle.lookup.specs.Halving.{Met, bad, met, found, absent, declined, mid, searchFrom}
 use Rattle.lookup.specs.Lookup.{compareEntry, compareAt, behind, lookupIn, afterwards, anyIn}
-use Rattle.probe.specs.Probe.{aimedOf, stoppedOf, startOf, movedOf, ready, stepOf, answerOf}
+use Rattle.probe.specs.Probe.{aimedOf, stoppedOf, startOf, movedOf, ready, probeStep, answerOf}
 use Rattle.lookup.specs.declared.Looked.{Looked}
 use Rattle.probe.specs.declared.Query.{Query}
 use Rattle.probe.specs.declared.Probe.{Probe}
@@ -99,8 +99,8 @@ start-fits object name n q =
     Holds p = Fits (1 ∷ 2 ∷ 15 ∷ []) (ofLooked (p .looked))
 
 step-fits : (object name : List ℕ) (q : Query) (p : Probe) (e : EntryRecord) (handed : List ℕ) → Fits handed (ofLooked (p .looked))
-    → Fits (0 ∷ 10 ∷ 15 ∷ handed) (ofLooked (stepOf object name q p e .looked))
-unfolding stepOf stoppedOf
+    → Fits (0 ∷ 10 ∷ 15 ∷ handed) (ofLooked (probeStep object name q p e .looked))
+unfolding probeStep stoppedOf
 step-fits object name q p e handed f =
     each-pick (λ x. Fits (0 ∷ 10 ∷ 15 ∷ handed) (ofLooked (x .looked))) (ready p) (movedOf p (compareEntry (q .h) object name (q .folder) e)) p
     (go (compareEntry (q .h) object name (q .folder) e)) (added (0 ∷ 10 ∷ 15 ∷ []) f)

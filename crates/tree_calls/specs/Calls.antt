@@ -1,6 +1,5 @@
 -- The public calls on trees, each by its own contract, and what the answers of those that refuse say: entries, reading, lookup, writing, the text of a
 -- listing. Assumes nothing.
-use Prim.Native.Nat.{ℕ}
 use mathlib.Core.List.{List, [], _∷_}
 use denote.Ref.{now}
 use Rattle.ground.specs.Basics.{pick}

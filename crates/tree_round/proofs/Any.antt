@@ -3,7 +3,7 @@ use Prim.Native.Nat.{ℕ, zero, suc, _+_, _≤_, _<_}
 use native.Mathlib.Omega.{arith}
 use native.Mathlib.Nat.{not-suc-le-zero, le-of-suc-le-suc}
 use mathlib.Core.Path.{_≡_, refl, sym, ap, subst, _∙_}
-use mathlib.Core.Bool.{Bool, true, false, false≢true}
+use mathlib.Core.Bool.{Bool, true, false}
 use mathlib.Core.List.{List, [], _∷_, List·Memᴰ, List·Memᴰ·head, List·Memᴰ·tail}
 use mathlib.Core.Logic.{_⊎_, inl, inr, ⊎-elim}
 use lib.ListN.{length, getD}
@@ -24,14 +24,14 @@ use Rattle.lookup.specs.Lookup.{lookupIn, anyIn}
 use Rattle.lookup.specs.declared.Looked.{Looked}
 use Rattle.lookup.proofs.Laws.{any-first, any-second}
 use Rattle.lookup.proofs.Theorems.{lookup-answers, any-count}
-use Rattle.tree_round.specs.Demand.{returned, noEntry, Holds}
+use Rattle.tree_round.specs.Demand.{returned, emptyEntry, Holds}
 use Rattle.tree_round.specs.Any.{Bears, OnlyOne, FindsAny, MissesAny, FewAny}
 use Rattle.tree_round.proofs.Returned.{returned-is, accepted-sorted}
 use Rattle.tree_round.proofs.Finding.{allowed, finds, misses}
 
 -- ---- at most one
 
-member : (es : List Entry) (i : ℕ) → i < length es → List·Memᴰ (getD es i noEntry) es
+member : (es : List Entry) (i : ℕ) → i < length es → List·Memᴰ (getD es i emptyEntry) es
 member [] i l = absurd (not-suc-le-zero l)
 member (e ∷ es) zero l = List·Memᴰ·head refl
 member (e ∷ es) (suc i) l = List·Memᴰ·tail (member es i (le-of-suc-le-suc l))
@@ -39,8 +39,8 @@ member (e ∷ es) (suc i) l = List·Memᴰ·tail (member es i (le-of-suc-le-suc 
 one-at : (es : List Entry) → Distinct es → (name : List ℕ) (i j : ℕ) → Bears es name i → Bears es name j → i ≡ j
 one-at [] d name i j a b = absurd (not-suc-le-zero (a .inside))
 one-at (e ∷ es) d name zero zero a b = refl
-one-at (e ∷ es) d name zero (suc j) a b = absurd (d .0 (getD es j noEntry) (member es j (le-of-suc-le-suc (b .inside))) (a .named ∙ sym (b .named)))
-one-at (e ∷ es) d name (suc i) zero a b = absurd (d .0 (getD es i noEntry) (member es i (le-of-suc-le-suc (a .inside))) (b .named ∙ sym (a .named)))
+one-at (e ∷ es) d name zero (suc j) a b = absurd (d .0 (getD es j emptyEntry) (member es j (le-of-suc-le-suc (b .inside))) (a .named ∙ sym (b .named)))
+one-at (e ∷ es) d name (suc i) zero a b = absurd (d .0 (getD es i emptyEntry) (member es i (le-of-suc-le-suc (a .inside))) (b .named ∙ sym (a .named)))
 one-at (e ∷ es) d name (suc i) (suc j) a b =
     ap suc
     (one-at es (d .1) name i j
@@ -100,7 +100,7 @@ module _ (k h : ℕ) (s lent : List ℕ) (es : List Entry) (a : Accepts (gitRule
       (either false)
 
   -- an entry of that name has a sort
-  held : (i : ℕ) → Bears es name i → Holds es name (isTree (getD es i noEntry .mode)) i
+  held : (i : ℕ) → Bears es name i → Holds es name (isTree (getD es i emptyEntry .mode)) i
   held i b = record { inside = b .inside; named = b .named; sort = refl }
 
   bears : (i : ℕ) (folder : Bool) → Holds es name folder i → Bears es name i
@@ -110,7 +110,7 @@ module _ (k h : ℕ) (s lent : List ℕ) (es : List Entry) (a : Accepts (gitRule
   answer-bears i folder r = bears i folder (finds (gitRules k) (git-ok k) h s lent es a name short free folder i .0 (r .once))
 
   none-bears : Neither h s rs name → (i : ℕ) → Bears es name i → ⊥
-  none-bears n i b = go (isTree (getD es i noEntry .mode)) (held i b)
+  none-bears n i b = go (isTree (getD es i emptyEntry .mode)) (held i b)
     where
       go : (folder : Bool) → Holds es name folder i → ⊥
       go false t = misses (gitRules k) (git-ok k) h s lent es a name short free false .0 (n .file) i t

@@ -19,13 +19,13 @@ use Rattle.one_listing.specs.Demand.{Accepts}
 use Rattle.lookup.specs.Halving.{found, absent}
 use Rattle.lookup.specs.Lookup.{lookupIn, nth, Allowed, Stands}
 use Rattle.lookup.proofs.Theorems.{lookup-finds, lookup-misses}
-use Rattle.tree_round.specs.Demand.{returned, noEntry, Holds, Finds, Misses}
+use Rattle.tree_round.specs.Demand.{returned, emptyEntry, Holds, Finds, Misses}
 use Rattle.tree_round.proofs.Returned.{accepted, count-is, returned-is, entries-are, accepted-sorted}
 
 -- an entry of the listing is the entry that its record names
-entry-at : (h : ℕ) (s : List ℕ) (rs : List EntryRecord) (i : ℕ) → i < length rs → getD (entriesOf h s rs) i noEntry ≡ entryOf h s (nth rs i)
+entry-at : (h : ℕ) (s : List ℕ) (rs : List EntryRecord) (i : ℕ) → i < length rs → getD (entriesOf h s rs) i emptyEntry ≡ entryOf h s (nth rs i)
 entry-at h s rs i l =
-    getD-any (entriesOf h s rs) i noEntry (entryOf h s noRecord) (rw (length-map rs (entryOf h s)) l) ∙ List·getD-map (entryOf h s) rs i noRecord
+    getD-any (entriesOf h s rs) i emptyEntry (entryOf h s noRecord) (rw (length-map rs (entryOf h s)) l) ∙ List·getD-map (entryOf h s) rs i noRecord
 
 module _ (h : ℕ) (s : List ℕ) (rs : List EntryRecord) (name : List ℕ) (folder : Bool) (i : ℕ) where
   stands-holds : Stands s rs name folder i → Holds (entriesOf h s rs) name folder i

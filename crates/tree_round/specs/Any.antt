@@ -14,12 +14,12 @@ use Rattle.rules.specs.Rules.{gitRules}
 use Rattle.one_listing.specs.Demand.{Accepts}
 use Rattle.lookup.specs.Halving.{found, absent, mostComparisons}
 use Rattle.lookup.specs.Lookup.{anyIn}
-use Rattle.tree_round.specs.Demand.{returned, noEntry}
+use Rattle.tree_round.specs.Demand.{returned, emptyEntry}
 
 -- the entry at an index of a listing has this name, whatever its sort
 pub record Bears (es : List Entry) (name : List ℕ) (i : ℕ) : Type 0 where
   pub inside : i < length es
-  pub named : getD es i noEntry .name ≡ name
+  pub named : getD es i emptyEntry .name ≡ name
 
 -- In an accepted object at most one entry has a name.
 abbrev pub OnlyOne : Type 0

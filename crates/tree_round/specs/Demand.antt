@@ -27,13 +27,13 @@ abbrev pub returned : Rules → ℕ → List ℕ → List ℕ → ℕ → List �
 returned R h s lent n = take (n * width) (readRecords h s (strictly R h s) lent)
 
 -- the entry at an index of a listing has this name and this sort
-abbrev pub noEntry : Entry
-noEntry = record { mode = 0; name = []; id = [] }
+abbrev pub emptyEntry : Entry
+emptyEntry = record { mode = 0; name = []; id = [] }
 
 pub record Holds (es : List Entry) (name : List ℕ) (folder : Bool) (i : ℕ) : Type 0 where
   pub inside : i < length es
-  pub named : getD es i noEntry .name ≡ name
-  pub sort : isTree (getD es i noEntry .mode) ≡ folder
+  pub named : getD es i emptyEntry .name ≡ name
+  pub sort : isTree (getD es i emptyEntry .mode) ≡ folder
 
 -- The search for a name without a slash and for a sort, in an object that was accepted: an index is answered where the entry there has both, and only there.
 abbrev pub Finds : Rules → Type 0

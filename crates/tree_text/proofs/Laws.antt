@@ -3,7 +3,7 @@ use Prim.Native.Nat.{ℕ, _+_, _*_, _/_, _%_, _≤_}
 use native.Mathlib.Omega.{arith}
 use mathlib.Core.Path.{_≡_, refl, sym, ap, _∙_}
 use mathlib.Core.Bool.{Bool, true, false}
-use mathlib.Core.List.{List, [], _∷_, _++_}
+use mathlib.Core.List.{[], _∷_}
 use lib.Dec.{eqb}
 use lib.ListN.{length, take, length-append, length-replicate}
 use lib.Seq.{take-append-seam}
@@ -11,9 +11,8 @@ use Rattle.ground.specs.Basics.{pick, ascii}
 use Rattle.mode.specs.Mode.{topBits, valueOf, sortOf, isTree}
 use Rattle.entry.specs.Entry.{Entry}
 use Rattle.entry.proofs.Laws.{folder-low}
-use Rattle.hex_of_id.specs.Hex.{hexOf}
 use Rattle.hex_of_id.proofs.Laws.{hex-length}
-use Rattle.tree_text.specs.Text.{sortWord, frontText, frontOf, recordText, asText}
+use Rattle.tree_text.specs.Text.{sortWord, frontText, frontOf, recordText}
 use Rattle.tree_text.specs.declared.Front.{Front}
 
 -- a mode's sort is told by its low 16 bits

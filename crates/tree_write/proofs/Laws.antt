@@ -2,10 +2,11 @@
 use native.Mathlib.Nat.{add-zero}
 use native.Mathlib.Numerals.{add-one}
 use native.Mathlib.Omega.{arith}
-use Prim.Native.Nat.{ℕ, _+_, _-_, _≤_, _<_, max}
+use Prim.Native.Nat.{ℕ, _+_, _-_, _/_, _%_, _≤_, _<_, max}
 use mathlib.Core.Path.{_≡_, refl, ap, sym, _∙_}
 use mathlib.Core.Bool.{Bool, true, false, _&&_, not}
 use mathlib.Core.List.{List, [], _∷_, _++_}
+use mathlib.Core.Logic.{⊎-elim}
 use lib.Dec.{eqb}
 use lib.ListN.{length, getD, take, drop, length-append, length-take, length-drop, drop-of-length-le}
 use lib.Seq.{sets, drop-cons, append-snoc}
@@ -13,13 +14,13 @@ use borrow.Author.Tests.{eq-eqb, ne-eqb, eqb-true, eqb-false}
 use Rattle.ground.specs.Basics.{pick}
 use Rattle.ground.specs.Scan.{countTo, freeOf}
 use Rattle.ground.specs.Verdict.{verdict, counted, refused, gateOf, mostBytes, mostRecords}
-use Rattle.ground.proofs.Laws.{is-false, id-small, gate-open, sets-append, free-whole, whole-free}
+use Rattle.ground.proofs.Laws.{is-false, equal, id-small, gate-open, sets-append, free-whole, whole-free}
 use Rattle.ground.specs.declared.Verdict.{Verdict}
 use Rattle.ground.specs.declared.Answer.{Answer}
 use Rattle.ground.specs.declared.Gate.the-variants.{Open, Shut}
 use Rattle.output.specs.Output.{fitted}
 use Rattle.output.proofs.Laws.{gated-shut, gated-open}
-use Rattle.mode_text.specs.Write.{writeMode}
+use Rattle.mode_text.specs.Write.{sixDigits, trimmed, writeMode}
 use Rattle.mode_text.proofs.Laws.{mode-le}
 use Rattle.entry.specs.Record.{many, noRecord, recordsOf, wellFormed, nameOf, idOf}
 use Rattle.entry.specs.Entry.{entryBytes, asWritten, entryOf}
@@ -57,6 +58,32 @@ module _ (h : ℕ) (bytes : List ℕ) (e : EntryRecord) (w : wellFormed h (lengt
   size-le p q = omega (arith, well-parts h (length bytes) e w, mode-le (e .mode))
 
 -- ---- what refuses a record
+
+-- how long a mode's text is, by the tests of its number and of its two highest digits
+text-size : (m : ℕ) (p q r : Bool) → eqb m 0 ≡ p → eqb (getD (sixDigits m) 1 0) 52 ≡ q → eqb (getD (sixDigits m) 0 0) 48 ≡ r
+    → length (writeMode m) ≡ pick p 1 (pick q (pick r 5 6) 6)
+unfolding writeMode trimmed
+text-size m p q r a b c = rw (a, b, c) (go p q r)
+  where
+    go : (p q r : Bool) → length (pick p (48 ∷ []) (pick q (pick r (drop 1 (sixDigits m)) (48 ∷ drop 1 (sixDigits m))) (sixDigits m)))
+        ≡ pick p 1 (pick q (pick r 5 6) 6)
+    go true q r = refl
+    go false true true = refl
+    go false true false = refl
+    go false false r = refl
+
+pub text-one : (m : ℕ) → m ≡ 0 → length (writeMode m) ≡ 1
+text-one m e = text-size m true _ _ (eq-eqb m 0 e) refl refl
+
+pub text-five : (m : ℕ) → m / 4096 ≡ 4 → length (writeMode m) ≡ 5
+text-five m e = text-size m false true true (ne-eqb m 0 (λ z. omega arith)) (eq-eqb (48 + m / 4096 % 8) 52 (omega arith)) (eq-eqb (48 + m / 32768 % 8) 48 (omega arith))
+
+pub text-six : (m : ℕ) → m ≤ 65535 → (m ≡ 0 → ⊥) → (m / 4096 ≡ 4 → ⊥) → length (writeMode m) ≡ 6
+text-six m l z n =
+    ⊎-elim
+    (λ (q : m / 4096 % 8 ≡ 4). text-size m false true false (ne-eqb m 0 z) (eq-eqb (48 + m / 4096 % 8) 52 (omega arith)) (ne-eqb (48 + m / 32768 % 8) 48 (λ w. n (omega arith))))
+    (λ (q : m / 4096 % 8 ≡ 4 → ⊥). text-size m false false _ (ne-eqb m 0 z) (ne-eqb (48 + m / 4096 % 8) 52 (λ w. q (omega arith))) refl)
+    (equal (m / 4096 % 8) 4)
 
 module _ (h : ℕ) (bytes : List ℕ) (e : EntryRecord) where
   pub refusal-bad : (writing : Bool) → wellFormed h (length bytes) e ≡ false → refusal writing h bytes e ≡ 10

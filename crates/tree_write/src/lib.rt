@@ -58,13 +58,27 @@ fn mode_text(mode: usize) -> ShortText
     m.as_bytes()
 }
 
+// The length of that text.
+fn text_size(mode: usize) -> usize
+    requires { ⌜ mode ≤ 65535 ⌝ }
+    ensures size { λ r. ⌜ r ≡ length (writeMode mode) ⌝ }
+    ensures small { λ r. ⌜ r ≤ 6 ⌝ }
+{
+    if mode == 0 {
+        return 1;
+    }
+    if mode / 0o10000 == 4 {
+        return 5;
+    }
+    6
+}
+
 // The length of an entry's bytes.
 fn entry_size(h: usize, e: EntryRecord) -> usize
     requires { ⌜ (e .mode ≤ 65535) × (e .«name_start» ≤ e .«name_end») × (e .«name_end» ≤ mostBytes) × (h ≤ 32) ⌝ }
     ensures { λ r. ⌜ r ≡ entrySize h e ⌝ }
 {
-    let text = mode_text(e.mode);
-    let n = text.len;
+    let n = text_size(e.mode);
     let name = e.name_end - e.name_start;
     n + 1 + name + 1 + h
 }

@@ -2,7 +2,7 @@
 use Prim.Native.Nat.{ℕ, _*_, _/_, _%_, _≤_}
 use native.Mathlib.Omega.{arith}
 use mathlib.Core.Path.{_≡_, refl, ap, sym, _∙_}
-use mathlib.Core.Bool.{Bool, true, false}
+use mathlib.Core.Bool.{Bool}
 use mathlib.Core.List.{List, [], _∷_, append-nil, List·Memᴰ, List·Memᴰ·head, List·Memᴰ·tail, List·Memᴰ·not-nil, List·Memᴰ·cases-cons}
 use mathlib.Core.Logic.{⊎-elim}
 use lib.ListN.{length, take, drop}
@@ -11,7 +11,7 @@ use Rattle.ground.specs.Scan.{sameBytes}
 use Rattle.ground.specs.Verdict.{mostBytes}
 use Rattle.ground.proofs.Laws.{same-test, same-true, same-refl}
 use Rattle.sorting.specs.Sort.{sortBy}
-use Rattle.keys.specs.Key.{pastMark, cutTo, nameAt, folder, slash, keyAt, belowBy}
+use Rattle.keys.specs.Key.{pastMark, cutTo, nameAt, keyAt, belowBy}
 use Rattle.sorting.specs.Repeats as sorting
 use Rattle.sorting.proofs.Sorted.{sort-perm}
 use Rattle.sorting.proofs.Repeats.{perm-mem, touches-sorted}

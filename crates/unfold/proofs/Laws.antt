@@ -12,7 +12,7 @@ use Rattle.ground.specs.Verdict.{verdict, counted, refused, sizeGate}
 use Rattle.ground.specs.declared.Verdict.{Verdict}
 use Rattle.ground.specs.declared.Gate.the-variants.{Open, Shut}
 use Rattle.extra_header.specs.Extra.{foldedForm}
-use Rattle.header.specs.Record.{wellFormed, valueOf}
+use Rattle.header.specs.Record.{wellFormed, headerValue}
 use Rattle.header.specs.declared.HeaderRecord.{HeaderRecord}
 use Rattle.unfold.specs.Unfold.{hasForm, skips, plainFrom, plainOf, Plan, stores, refuses, roomPlan, valuePlan, gatePlan, unfoldPlan, answerOf, afterOf}
 
@@ -69,16 +69,16 @@ module _ (s : List ℕ) (x : HeaderRecord) (room : ℕ) where
     plan-record e = plan-open ∙ simp e
 
     module _ (w : wellFormed x (length s) ≡ true) where
-      pub plan-form : hasForm (x .mark) (valueOf s x) ≡ false → unfoldPlan s x room ≡ refuses (verdict 10 0)
+      pub plan-form : hasForm (x .mark) (headerValue s x) ≡ false → unfoldPlan s x room ≡ refuses (verdict 10 0)
       unfolding valuePlan
       plan-form e = plan-open ∙ rw (w, e)
 
-      module _ (f : hasForm (x .mark) (valueOf s x) ≡ true) (n : ℕ) (q : n ≡ length (plainOf (x .mark) (valueOf s x))) where
+      module _ (f : hasForm (x .mark) (headerValue s x) ≡ true) (n : ℕ) (q : n ≡ length (plainOf (x .mark) (headerValue s x))) where
         pub plan-short : room < n → unfoldPlan s x room ≡ refuses (verdict 8 n)
         unfolding valuePlan roomPlan
         plan-short e = plan-open ∙ rw (w, f, ← q, lt-leb n room e)
 
-        pub plan-stores : n ≤ room → unfoldPlan s x room ≡ stores (plainOf (x .mark) (valueOf s x))
+        pub plan-stores : n ≤ room → unfoldPlan s x room ≡ stores (plainOf (x .mark) (headerValue s x))
         unfolding valuePlan roomPlan
         plan-stores e = plan-open ∙ rw (w, f, ← q, le-leb n room e)
 

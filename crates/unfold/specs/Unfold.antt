@@ -11,7 +11,7 @@ use Rattle.ground.specs.declared.Answer.{Answer}
 use Rattle.ground.specs.declared.Gate.{Gate}
 use Rattle.ground.specs.declared.Gate.the-variants.{Open, Shut}
 use Rattle.extra_header.specs.Extra.{foldedForm}
-use Rattle.header.specs.Record.{wellFormed, valueOf}
+use Rattle.header.specs.Record.{wellFormed, headerValue}
 use Rattle.header.specs.declared.HeaderRecord.{HeaderRecord}
 
 -- a value with mark 1 is folded
@@ -43,7 +43,7 @@ roomPlan v room = pick (leb (length v) room) (stores v) (refuses (verdict 8 (len
 -- 10 for a record that is not well formed or a value without the form of its mark, then 8
 unfoldable pub valuePlan : List ℕ → HeaderRecord → ℕ → Plan
 valuePlan s x room =
-    pick (wellFormed x (length s) && hasForm (x .mark) (valueOf s x)) (roomPlan (plainOf (x .mark) (valueOf s x)) room) (refuses (verdict 10 0))
+    pick (wellFormed x (length s) && hasForm (x .mark) (headerValue s x)) (roomPlan (plainOf (x .mark) (headerValue s x)) room) (refuses (verdict 10 0))
 
 -- 2 before all else
 unfoldable pub gatePlan : Gate → Plan → Plan

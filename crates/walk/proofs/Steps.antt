@@ -25,7 +25,7 @@ use Rattle.entry.specs.declared.Decoded.the-variants.{Whole, Broken}
 use Rattle.entry.proofs.Laws.{decode-inside}
 use Rattle.reading.specs.Listing.{follow, plain, recordsIn}
 use Rattle.reading.proofs.Laws.{plain-some}
-use Rattle.merge.specs.Merge.{byOrder, Within, moved, aheadOf, aheadAt, sideOf, nameIn, idIn, changeOf, bothOf, stepOf, stepAt}
+use Rattle.merge.specs.Merge.{byOrder, Within, moved, aheadOf, aheadAt, sideOf, nameIn, idIn, changeOf, bothOf, mergeStep, stepAt}
 use Rattle.merge.specs.declared.Rest.{Rest}
 use Rattle.merge.specs.declared.Ahead.{Ahead}
 use Rattle.merge.specs.declared.Ahead.the-variants.{End, Entry}
@@ -150,8 +150,8 @@ module _ (below : Lower) (prefix : List ℕ) (h : ℕ) (s : List ℕ) (n : ℕ) 
 
   module _ (l r : Rest) where
     steps : (x y : Ahead) → entriesFrom h s l ≡ fromAhead h s x → entriesFrom h s r ≡ fromAhead h s y
-        → compareEntries below prefix (entriesFrom h s l) n (entriesFrom h s r) ≡ after below prefix h s n (stepOf h s l r x y)
-    unfolding fromAhead after stepOf compareEntries rights against folderOf
+        → compareEntries below prefix (entriesFrom h s l) n (entriesFrom h s r) ≡ after below prefix h s n (mergeStep h s l r x y)
+    unfolding fromAhead after mergeStep compareEntries rights against folderOf
     steps End End el er = rw (el, er)
     steps End (Entry b next) el er = rw (er, el)
     steps (Entry a next) End el er = rw (el, er)

@@ -2,7 +2,7 @@
 use borrow.Author.Needs.{needs}
 use Rattle.border_bundle.proofs.object_of.Statement.{statement}
 use Rattle.border_bundle.proofs.object_of.Tie as tie
-use mathlib.Core.Path.{sym, _∙_}
+use mathlib.Core.Path.{sym}
 use Rattle.border_bundle.proofs.Laws.{asked-shut, asked-absent, asked-at}
 
 longer-requires : tie.Need-longer-requires

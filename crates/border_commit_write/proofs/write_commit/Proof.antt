@@ -9,7 +9,7 @@ use Prim.Native.Nat.{ℕ}
 use mathlib.Core.List.{List}
 use Rattle.ground.specs.declared.Answer.{Answer}
 use Rattle.header.specs.declared.CommitParts.{CommitParts}
-use Rattle.commit_write.specs.Write.{commitAnswer, written}
+use Rattle.commit_write.specs.Write.{commitAnswer, partsWritten}
 use Rattle.border.proofs.Laws.{handed-with}
 
 parts-in-requires : tie.Need-parts-in-requires
@@ -31,7 +31,7 @@ returns c =
     let x = k .before .before .parts-in .ensures in
     let a = k .before .before .before .before .before .before .before .args in
     let answer : CommitParts → Answer = λ p. commitAnswer (a .h) (a .bytes .now) p (a .parents .now) (a .headers .now) (length (a .out .now)) in
-    let after : CommitParts → List ℕ = λ p. stored (answer p .verdict) (written (a .h) (a .bytes .now) p (a .parents .now) (a .headers .now)) (a .out .now) in
+    let after : CommitParts → List ℕ = λ p. stored (answer p .verdict) (partsWritten (a .h) (a .bytes .now) p (a .parents .now) (a .headers .now)) (a .out .now) in
     handed-with (c .hand .ensures) (e .0 ∙ ap answer x) (e .1 ∙ ap after x)
 
 pub write-commit-spec : {M : Type 1} → statement M

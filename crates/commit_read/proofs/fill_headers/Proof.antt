@@ -8,12 +8,12 @@ use native.Mathlib.Omega.{arith}
 use lib.ListN.{length}
 use Rattle.extra_header.proofs.Laws.{extra-next}
 use Rattle.commit_fields.specs.Headers.{heads, restHeads}
-use Rattle.commit_read.specs.Stored.{written}
+use Rattle.commit_read.specs.Stored.{headsStored}
 use Rattle.commit_fields.proofs.Laws.{heads-end, heads-more}
 use Rattle.commit_read.proofs.Laws.{written-end, written-more}
 
 abbrev Inv-loop : tie.InvT-loop
-Inv-loop s at out₀ p₀ n₀ out p n = (n ≤ p) × (length out ≡ length out₀) × (written out₀ 0 (heads s at) ≡ written out n (restHeads s p n))
+Inv-loop s at out₀ p₀ n₀ out p n = (n ≤ p) × (length out ≡ length out₀) × (headsStored out₀ 0 (heads s at) ≡ headsStored out n (restHeads s p n))
 
 abbrev μ-loop : tie.MeasureT-loop
 μ-loop s at out₀ p₀ n₀ out p n = length s - p

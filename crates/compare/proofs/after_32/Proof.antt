@@ -5,7 +5,7 @@ use Rattle.compare.proofs.after_32.Lts as lts
 use Rattle.compare.proofs.order_32.Reads as order-32-reads
 use borrow.Author.Needs.{needs}
 use Prim.Native.Nat.{_+_, _-_, _≤_}
-use mathlib.Core.Path.{_≡_, refl}
+use mathlib.Core.Path.{_≡_}
 use native.Mathlib.Omega.{arith}
 use lib.ListN.{take}
 use Rattle.compare.proofs.Laws.{ready-after, told-same, told-at, told-below, told-above}

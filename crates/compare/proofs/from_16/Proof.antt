@@ -6,7 +6,7 @@ use Rattle.compare.proofs.from_16.Lts as lts
 use Rattle.compare.proofs.order_16.Reads as order-16-reads
 use Prim.Native.Nat.{_+_, _-_}
 use native.Mathlib.Omega.{arith}
-use Rattle.compare.proofs.Laws.{ready-first, ready-after, told-same, told-at, told-below, told-above}
+use Rattle.compare.proofs.Laws.{ready-after, told-same, told-at, told-below, told-above}
 
 order-16-requires : tie.Need-order-16-requires
 order-16-requires c κs = search needs

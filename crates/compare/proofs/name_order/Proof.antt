@@ -6,7 +6,6 @@ use Rattle.compare.proofs.name_order.Lts as lts
 use Rattle.compare.proofs.by_first.Reads as by-first-reads
 use Rattle.compare.proofs.shorter.Reads as shorter-reads
 use Rattle.order.proofs.by_next.Reads as by-next-reads
-use native.Mathlib.Omega.{arith}
 use mathlib.Core.Path.{sym, _∙_}
 use Rattle.compare.proofs.Laws.{order-below, order-above, told-same, by-end}
 

@@ -7,7 +7,6 @@ use Prim.Native.Nat.{_+_, _-_, _≤_}
 use mathlib.Core.Path.{_≡_, refl}
 use native.Mathlib.Omega.{arith}
 use lib.ListN.{take}
-use Rattle.compare.specs.Told.{Told}
 use Rattle.compare.proofs.Laws.{byte-below, byte-above, byte-same, told-from}
 
 abbrev Inv-loop : tie.InvT-loop

@@ -2,7 +2,7 @@
 use borrow.Author.Needs.{needs}
 use Rattle.edit_remove.proofs.remove_counted.Statement.{statement}
 use Rattle.edit_remove.proofs.remove_counted.Tie as tie
-use mathlib.Core.Path.{sym, ap, _∙_}
+use mathlib.Core.Path.{ap, _∙_}
 use lib.Seq.{sets}
 use Rattle.entry.specs.Entry.{asWritten}
 use Rattle.edit_walk.specs.Walk.{newEntry}

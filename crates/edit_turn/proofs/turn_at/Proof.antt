@@ -2,7 +2,6 @@
 use borrow.Author.Needs.{needs}
 use Rattle.edit_turn.proofs.turn_at.Statement.{statement}
 use Rattle.edit_turn.proofs.turn_at.Tie as tie
-use mathlib.Core.Path.{sym, _∙_}
 use native.Mathlib.Omega.{arith}
 use Rattle.edit_turn.proofs.Laws.{turn-broken, turn-inside, turn-out, turn-over, turn-behind}
 

@@ -3,7 +3,7 @@ use borrow.Author.Needs.{needs}
 use Rattle.framed.proofs.is_below.Statement.{statement}
 use Rattle.framed.proofs.is_below.Tie as tie
 use mathlib.Core.Path.{sym, ap, _∙_}
-use Rattle.rules.specs.Rules.{isBelow}
+use Rattle.order.specs.Order.{isBelow}
 
 name-order-requires : tie.Need-name-order-requires
 name-order-requires c κs = search needs

@@ -5,9 +5,8 @@ use Rattle.hex.proofs.is_hex.Lts as lts
 use Rattle.hex.proofs.wide.Reads as wide-reads
 use borrow.Author.Needs.{needs}
 use Prim.Native.Nat.{_-_}
-use native.Mathlib.Omega.{arith}
 use mathlib.Core.Path.{_≡_, refl, ap, sym, _∙_}
-use lib.ListN.{length, drop, getD}
+use lib.ListN.{length, drop}
 use Rattle.hex.specs.Hex.{hexValue, isHex}
 use Rattle.hex.proofs.Laws.{table-is, hex-more, hex-not, hex-end}
 

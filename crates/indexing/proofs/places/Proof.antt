@@ -3,7 +3,7 @@ use Rattle.indexing.proofs.places.Statement.{statement}
 use Rattle.indexing.proofs.places.Tie as tie
 use borrow.Author.Needs.{needs}
 use native.Mathlib.Omega.{arith}
-use Prim.Native.Nat.{_+_, _≤_}
+use Prim.Native.Nat.{_+_}
 use mathlib.Core.Path.{_≡_, sym, _∙_}
 use lib.ListN.{length}
 use lib.Dec.{eqb}

@@ -3,11 +3,11 @@ use Prim.Native.Nat.{ℕ, _<_, _≤_}
 use borrow.Fn.Kinds.{In}
 use borrow.Fn.PlainCycle.{Measures, is, falls, and}
 use Rattle.ground.specs.Verdict.{mostRecords}
-use Rattle.mend.proofs.Whole.{made-of, room-for, no-more, most-le, over}
+use Rattle.mend.proofs.Whole.{over}
 use Rattle.mend.proofs.mend_large.Reads as mend-large
 use Rattle.mend.proofs.mend_large.Kinds as mend-large-kinds
 use Rattle.mend.proofs.+mend_large.Lts-mend_large as mend-large-lts
-use Rattle.mend.proofs.mend_with.Reads as mend-with-reads
+use Rattle.mend.proofs.mend_lent.Reads as mend-lent-reads
 use Rattle.mend.proofs.+mend_large.{statement}
 use Rattle.mend.proofs.+mend_large.Tie.{close}
 
@@ -21,7 +21,7 @@ abbrev mend-large-below : ℕ → In 3 mend-large-kinds.ps
 mend-large-below t = and 3 mend-large-kinds.ps (falls 3 mend-large-kinds.ps _<_ μ-mend-large t) mend-large.Pre
 
 abbrev claims : ℕ → mend-large-lts.Claims
-claims t = (mend-large-below t, mend-large.Post, mend-with-reads.Asked, mend-with-reads.Learnt)
+claims t = (mend-large-below t, mend-large.Post, mend-lent-reads.Asked, mend-lent-reads.Learnt)
 
 mend-large-requires : (t : ℕ) → mend-large-lts.Need-mend-large-requires (claims t) (mend-large-at t) mend-large.Post
 mend-large-requires t c κs =
@@ -43,31 +43,17 @@ returns t c =
     let root = c .before .before .before .before .before .before .before .before .before .before .before in
     absurd (over (root .args .count) (root .pre .1 .1 .1 .1) (c .before .before .before .before .before .before .before .if1 .taken))
 
-slice-aggregate-mend-with : (t : ℕ) → mend-large-lts.Need-slice-aggregate-mend-with (claims t) (mend-large-at t) mend-large.Post
-slice-aggregate-mend-with t c = made-of 1048576
-
-mend-with-requires : (t : ℕ) → mend-large-lts.Need-mend-with-requires (claims t) (mend-large-at t) mend-large.Post
-mend-with-requires t c κs =
-    let pre = c .before .before .before .before .before .before .before .pre .1 in (
-      pre .0,
-      (
-        pre .1 .0,
-        (
-          pre .1 .1 .0,
-          room-for 1048576 (c .before .before .before .before .before .before .before .args .count) (pre .1 .1 .1),
-          no-more 1048576 mostRecords most-le,
-        ),
-      ),
-    )
+mend-lent-requires : (t : ℕ) → mend-large-lts.Need-mend-lent-requires (claims t) (mend-large-at t) mend-large.Post
+mend-lent-requires t c κs = c .before .before .before .before .before .before .before .pre .1
 
 same-length-3 : (t : ℕ) → mend-large-lts.Need-same-length-3 (claims t) (mend-large-at t) mend-large.Post
-same-length-3 t c = c .before .before .before .before .before .mend-with .kept .1 .1 .1 .0
+same-length-3 t c = c .before .before .before .before .mend-lent .kept .1 .1 .1 .0
 
 same-length-4 : (t : ℕ) → mend-large-lts.Need-same-length-4 (claims t) (mend-large-at t) mend-large.Post
-same-length-4 t c = c .before .before .before .before .before .mend-with .kept .1 .1 .1 .1 .0
+same-length-4 t c = c .before .before .before .before .mend-lent .kept .1 .1 .1 .1 .0
 
 returns-2 : (t : ℕ) → mend-large-lts.Need-returns-2 (claims t) (mend-large-at t) mend-large.Post
-returns-2 t c = c .before .before .before .before .before .mend-with .ensures
+returns-2 t c = c .before .before .before .before .mend-lent .ensures
 
 pub +mend-large-spec : {M : Type 1} → statement M
 +mend-large-spec =
@@ -79,8 +65,7 @@ pub +mend-large-spec : {M : Type 1} → statement M
     (same-length t)
     (same-length-2 t)
     (returns t)
-    (slice-aggregate-mend-with t)
-    (mend-with-requires t)
+    (mend-lent-requires t)
     (same-length-3 t)
     (same-length-4 t)
     (returns-2 t)

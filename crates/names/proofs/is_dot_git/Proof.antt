@@ -2,7 +2,7 @@
 use borrow.Author.Needs.{needs}
 use Rattle.names.proofs.is_dot_git.Statement.{statement}
 use Rattle.names.proofs.is_dot_git.Tie as tie
-use mathlib.Core.Path.{sym, _∙_}
+use mathlib.Core.Path.{sym}
 use Rattle.names.proofs.Laws.{git-length, git-four}
 
 returns : tie.Need-returns

@@ -4,11 +4,11 @@ use Rattle.names.proofs.is_plain.Statement.{statement}
 use Rattle.names.proofs.is_plain.Tie as tie
 use Rattle.names.proofs.Laws.{plain-is, plain-long}
 
-count-far-requires : tie.Need-count-far-requires
-count-far-requires c κs = search needs
+is-free-requires : tie.Need-is-free-requires
+is-free-requires c κs = search needs
 
 returns : tie.Need-returns
-returns c = rw (c .before .count-far .ensures) (plain-long (c .before .before .before .args .name .now) (c .if1 .taken))
+returns c = rw (c .before .is-free .ensures) (plain-long (c .before .before .before .args .name .now) (c .if1 .taken))
 
 slice-aggregate-same-bytes : tie.Need-slice-aggregate-same-bytes
 slice-aggregate-same-bytes c = search needs
@@ -22,13 +22,13 @@ is-dots-requires c κs = search needs
 returns-2 : tie.Need-returns-2
 returns-2 c =
     let args = c .before .before .before .before .before .before .args in
-    rw (c .before .before .before .before .count-far .ensures, c .before .same-bytes .ensures, c .is-dots .ensures) (plain-is (args .name .now))
+    rw (c .before .before .before .before .is-free .ensures, c .before .same-bytes .ensures, c .is-dots .ensures) (plain-is (args .name .now))
 
 pub is-plain-spec : {M : Type 1} → statement M
 is-plain-spec =
     tie.close
     (tie.spec
-    count-far-requires
+    is-free-requires
     returns
     slice-aggregate-same-bytes
     same-bytes-requires

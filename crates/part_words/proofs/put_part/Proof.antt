@@ -2,7 +2,7 @@
 use borrow.Author.Needs.{needs}
 use Rattle.part_words.proofs.put_part.Statement.{statement}
 use Rattle.part_words.proofs.put_part.Tie as tie
-use mathlib.Core.Path.{_≡_, refl}
+use mathlib.Core.Path.{refl}
 use Rattle.part_words.specs.Words.{partWords}
 use Rattle.part_words.proofs.Laws.{part-words, part-other}
 

@@ -8,10 +8,7 @@ use Rattle.doubles.proofs.open_entry.Reads as open-entry-reads
 use Rattle.piece_marks.proofs.fresh.Reads as fresh-reads
 use Rattle.piece_body.proofs.leaves_none.Reads as leaves-none-reads
 use Rattle.piece_body.proofs.next_entry.Reads as next-entry-reads
-use mathlib.Core.Path.{_≡_, ap, sym, _∙_}
-use lib.ListN.{length}
-use Prim.Native.Nat.{min}
-use Rattle.doubles.specs.Stack.{marksAt, openOf}
+use mathlib.Core.Path.{_∙_}
 use Rattle.arriving.proofs.Laws.{closed-refused, closed-next, closed-double, closed-not}
 
 fresh-requires : tie.Need-fresh-requires

@@ -1,5 +1,4 @@
 -- `piece_body::leaves_none` meets its contract. Assumes nothing.
-use borrow.Author.Needs.{needs}
 use Rattle.piece_body.proofs.leaves_none.Statement.{statement}
 use Rattle.piece_body.proofs.leaves_none.Tie as tie
 use Rattle.piece_body.proofs.leaves_none.Reads as reads

@@ -8,7 +8,7 @@ use Rattle.piece_judge.proofs.meet.Reads as meet-reads
 use Rattle.piece_judge.proofs.sharing.Reads as sharing-reads
 use Rattle.piece_marks.proofs.fresh.Reads as fresh-reads
 use Rattle.piece_marks.proofs.placed_at.Reads as placed-at-reads
-use mathlib.Core.Path.{_≡_, ap, sym, _∙_}
+use mathlib.Core.Path.{_∙_}
 use Rattle.arriving.proofs.Laws.{name-nul, name-long, name-more}
 
 add-placed-at : tie.Need-add-placed-at

@@ -6,7 +6,7 @@ use Rattle.piece_ends.proofs.finish.Reads as reads
 use Rattle.piece_ends.proofs.finish.Lts as lts
 use Rattle.piece_ends.proofs.cut.Reads as cut-reads
 use Rattle.piece_ends.proofs.head_part.Reads as head-part-reads
-use mathlib.Core.Path.{ap, sym, _∙_}
+use mathlib.Core.Path.{_∙_}
 use Rattle.arriving.proofs.Laws.{finish-refused, finish-done, finish-head, finish-name, finish-id}
 
 returns : tie.Need-returns

@@ -7,7 +7,6 @@ use Rattle.piece_name.proofs.name_some.Lts as lts
 use Rattle.output.proofs.put.Reads as put-reads
 use Rattle.piece_name.proofs.name_bytes.Reads as name-bytes-reads
 use Rattle.piece_name.proofs.stand_after.Reads as stand-after-reads
-use native.Mathlib.Omega.{arith}
 use mathlib.Core.Path.{sym}
 use lib.Seq.{length-take-le}
 use Rattle.piece_name.proofs.Names.{line-full, held-full, more-fits, line-more, held-more}

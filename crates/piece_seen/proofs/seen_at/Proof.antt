@@ -10,7 +10,6 @@ use Rattle.names.proofs.name_number.Reads as name-number-reads
 use Rattle.scan.proofs.find_nul.Reads as find-nul-reads
 use Rattle.ground.proofs.Laws.{place-within, place-from}
 use Rattle.piece_seen.proofs.Whole.{no-code, code-fits, no-id, too-long, ill-named, well-named}
-use mathlib.Core.Path.{refl}
 use native.Mathlib.Omega.{arith}
 use Prim.Native.Nat.{_+_, _%_}
 

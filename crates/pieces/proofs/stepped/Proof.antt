@@ -6,7 +6,6 @@ use Rattle.pieces.proofs.stepped.Reads as reads
 use Rattle.pieces.proofs.stepped.Lts as lts
 use Rattle.piece_step.proofs.step.Reads as step-reads
 use Rattle.piece_takes.proofs.Wholes.{took-step}
-use Rattle.arriving.proofs.Bulk.{took-none}
 use native.Mathlib.Omega.{arith}
 
 returns : tie.Need-returns

@@ -5,7 +5,6 @@ use Rattle.pieces.proofs.whole.Tie as tie
 use Rattle.pieces.proofs.whole.Reads as reads
 use Rattle.pieces.proofs.whole.Lts as lts
 use mathlib.Core.Path.{sym, _∙_}
-use Rattle.arriving.proofs.Bulk.{took-none}
 
 sub-is-between : tie.Need-sub-is-between
 sub-is-between c = search needs

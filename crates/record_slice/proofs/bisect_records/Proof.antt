@@ -49,7 +49,7 @@ use Rattle.entry.specs.declared.EntryRecord.{EntryRecord}
 use Rattle.entry.proofs.EntryRecord as T
 use Rattle.entry.proofs.EntryRecord.Laws as T-laws
 use Rattle.lookup.specs.Lookup.{lookupIn}
-use Rattle.probe.specs.Probe.{startOf, stepOf, answerOf}
+use Rattle.probe.specs.Probe.{startOf, probeStep, answerOf}
 use Rattle.probe.specs.declared.Query.{Query}
 use Rattle.probe.specs.declared.Probe.{Probe}
 use Rattle.lookup.specs.declared.Looked.{Looked}
@@ -253,7 +253,7 @@ module _ {M : Type 1} (𝓤 : URA M) (H : Heap 𝓤) (A : Atoms 𝓤) (W : Given
       to-step = (((κ₁, (κ₃, tt)), (q₁, (q₃, tt)), tt, step-args, (slice object ∷ [], (slice name ∷ [], (qvals q, (pvals p, (vals e, tt)))))), tt)
 
       abbrev stepped : Probe → Type 0
-      stepped p′ = p′ ≡ stepOf (now object) (now name) q p e
+      stepped p′ = p′ ≡ probeStep (now object) (now name) q p e
 
       -- object and name are Copy: one of each goes to the callee, and one is kept
       goes-step : ent 𝓤 (⋆ 𝓤 H A (Toks ∷ ‵ OwnO ∷ ‵ OwnN ∷ [])) (sep 𝓤 (Step 𝓤 H A mem run .pre to-step) (sep 𝓤 (sem 𝓤 H A OwnO) (sem 𝓤 H A OwnN)))

@@ -8,7 +8,7 @@ abbrev Inv-loop : tie.InvT-loop
 Inv-loop g call₀ call = Unit {0}
 
 abbrev μ-loop : tie.MeasureT-loop
-μ-loop g call₀ call = 29 - call
+μ-loop g call₀ call = 32 - call
 
 loop-holds : tie.Need-loop-holds Inv-loop μ-loop
 loop-holds c = tt

@@ -2,7 +2,6 @@
 use borrow.Author.Needs.{needs}
 use Rattle.rules.proofs.is_group.Statement.{statement}
 use Rattle.rules.proofs.is_group.Tie as tie
-use mathlib.Core.Path.{_∙_}
 use Rattle.rules.proofs.Laws.{group-text}
 
 slice-aggregate-same-bytes : tie.Need-slice-aggregate-same-bytes

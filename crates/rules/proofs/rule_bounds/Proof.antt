@@ -3,7 +3,7 @@ use borrow.Author.Needs.{needs}
 use Rattle.rules.proofs.rule_bounds.Statement.{statement}
 use Rattle.rules.proofs.rule_bounds.Tie as tie
 use mathlib.Core.Path.{sym, _∙_}
-use Rattle.rules.specs.Gate.{isSet}
+use Rattle.ground.specs.Verdict.{isSet}
 use Rattle.rules.proofs.Laws.{set-is, rule-known, rule-other, rule-id}
 
 bounds-requires : tie.Need-bounds-requires

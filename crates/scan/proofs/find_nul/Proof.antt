@@ -2,7 +2,7 @@
 use borrow.Author.Needs.{needs}
 use Rattle.scan.proofs.find_nul.Statement.{statement}
 use Rattle.scan.proofs.find_nul.Tie as tie
-use mathlib.Core.Path.{sym}
+use mathlib.Core.Path.{sym, _∙_}
 use native.Mathlib.Omega.{arith}
 use Rattle.ground.proofs.Laws.{place-end}
 
@@ -21,17 +21,11 @@ returns-2 c = search needs
 skip-requires : tie.Need-skip-requires
 skip-requires c κs = search needs
 
-sub-if3 : tie.Need-sub-if3
-sub-if3 c = search needs
-
-find-byte-requires-2 : tie.Need-find-byte-requires-2
-find-byte-requires-2 c κs = search needs
-
 returns-3 : tie.Need-returns-3
-returns-3 c = search needs
+returns-3 c = omega (arith, c .before .skip .ensures .1 .0 ∙ place-end 0 _ _ (c .if3 .taken))
 
 nul-of-block-requires : tie.Need-nul-of-block-requires
-nul-of-block-requires c κs = (omega arith, c .before .skip .ensures .1 .1 (omega arith))
+nul-of-block-requires c κs = c .before .skip .ensures .1 .1 (omega arith)
 
 returns-4 : tie.Need-returns-4
 returns-4 c = search needs
@@ -45,8 +39,6 @@ find-nul-spec =
     find-byte-requires
     returns-2
     skip-requires
-    sub-if3
-    find-byte-requires-2
     returns-3
     nul-of-block-requires
     returns-4)

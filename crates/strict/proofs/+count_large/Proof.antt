@@ -1,9 +1,9 @@
 -- `strict::count_large` meets its contract: it calls itself only on a way that its `requires` shuts. Assumes nothing.
-use borrow.Author.Needs.{needs}
 use Prim.Native.Nat.{ℕ, _<_}
 use native.Mathlib.Omega.{arith}
 use borrow.Fn.Kinds.{In}
 use borrow.Fn.PlainCycle.{Measures, is, falls, and}
+use Rattle.strict.proofs.Strictly.{marks-of, marks-enough}
 use Rattle.strict.proofs.count_large.Reads as count-large
 use Rattle.strict.proofs.count_large.Kinds as count-large-kinds
 use Rattle.strict.proofs.+count_large.Lts-count_large as count-large-lts
@@ -30,13 +30,15 @@ returns : (t : ℕ) → count-large-lts.Need-returns (claims t) (count-large-at 
 returns t c = absurd (omega arith)
 
 slice-aggregate-count-marked : (t : ℕ) → count-large-lts.Need-slice-aggregate-count-marked (claims t) (count-large-at t) count-large.Post
-slice-aggregate-count-marked t c = search needs
+slice-aggregate-count-marked t c = marks-of 46341
 
 count-marked-requires : (t : ℕ) → count-large-lts.Need-count-marked-requires (claims t) (count-large-at t) count-large.Post
-count-marked-requires t c κs = search needs
+count-marked-requires t c κs =
+    let pre = c .before .before .before .pre .1 in
+    marks-enough 46341 _ (omega arith, omega arith)
 
 returns-2 : (t : ℕ) → count-large-lts.Need-returns-2 (claims t) (count-large-at t) count-large.Post
-returns-2 t c = search needs
+returns-2 t c = c .before .count-marked .ensures
 
 pub +count-large-spec : {M : Type 1} → statement M
 +count-large-spec =

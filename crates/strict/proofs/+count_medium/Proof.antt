@@ -1,9 +1,9 @@
 -- `strict::count_medium` meets its contract: it calls itself only on a way that its `requires` shuts. Assumes nothing.
-use borrow.Author.Needs.{needs}
 use Prim.Native.Nat.{ℕ, _<_}
 use native.Mathlib.Omega.{arith}
 use borrow.Fn.Kinds.{In}
 use borrow.Fn.PlainCycle.{Measures, is, falls, and}
+use Rattle.strict.proofs.Strictly.{marks-of, marks-enough}
 use Rattle.strict.proofs.count_medium.Reads as count-medium
 use Rattle.strict.proofs.count_medium.Kinds as count-medium-kinds
 use Rattle.strict.proofs.+count_medium.Lts-count_medium as count-medium-lts
@@ -30,13 +30,15 @@ returns : (t : ℕ) → count-medium-lts.Need-returns (claims t) (count-medium-a
 returns t c = absurd (omega arith)
 
 slice-aggregate-count-marked : (t : ℕ) → count-medium-lts.Need-slice-aggregate-count-marked (claims t) (count-medium-at t) count-medium.Post
-slice-aggregate-count-marked t c = search needs
+slice-aggregate-count-marked t c = marks-of 4096
 
 count-marked-requires : (t : ℕ) → count-medium-lts.Need-count-marked-requires (claims t) (count-medium-at t) count-medium.Post
-count-marked-requires t c κs = search needs
+count-marked-requires t c κs =
+    let pre = c .before .before .before .pre .1 in
+    marks-enough 4096 _ (omega arith, omega arith)
 
 returns-2 : (t : ℕ) → count-medium-lts.Need-returns-2 (claims t) (count-medium-at t) count-medium.Post
-returns-2 t c = search needs
+returns-2 t c = c .before .count-marked .ensures
 
 pub +count-medium-spec : {M : Type 1} → statement M
 +count-medium-spec =

@@ -11,15 +11,18 @@ use Rattle.strict.proofs.Strictly.{Reading, reading-start, reading-end,
 use Rattle.strict.proofs.Strictly.{reading-kept, decoded-within, decoded-free, decoded-code}
 
 abbrev Inv-loop : tie.InvT-loop
-Inv-loop rules s h marks₀ c₀ n₀ held₀ last₀ marks c n held last = Reading rules h s (c .at) n held last marks × (length marks ≡ length marks₀)
+Inv-loop rules s h marks₀ at₀ n₀ held₀ last₀ marks at n held last = Reading rules h s at n held last marks × (length marks ≡ length marks₀)
 
 abbrev μ-loop : tie.MeasureT-loop
-μ-loop rules s h marks₀ c₀ n₀ held₀ last₀ marks c n held last = mostRecords - n
+μ-loop rules s h marks₀ at₀ n₀ held₀ last₀ marks at n held last = mostRecords - n
 
 loop-holds : tie.Need-loop-holds Inv-loop μ-loop
 loop-holds c =
     let pre = c .before .before .pre in
     (reading-start _ _ _ _ pre, refl)
+
+stopped-requires : tie.Need-stopped-requires Inv-loop μ-loop
+stopped-requires c κs = search needs
 
 same-length : tie.Need-same-length Inv-loop μ-loop
 same-length c =
@@ -29,7 +32,7 @@ same-length c =
 returns : tie.Need-returns Inv-loop μ-loop
 returns c =
     let loop = c .before .before .before .loop in
-    reading-full _ _ _ _ _ _ _ _ (loop .inv .0) (c .before .if1 .taken) (c .if2 .taken)
+    c .stopped .ensures ∙ reading-full _ _ _ _ _ _ _ _ (loop .inv .0) (c .before .before .loop-test .taken) (c .before .if1 .taken)
 
 decode-at-requires : tie.Need-decode-at-requires Inv-loop μ-loop
 decode-at-requires c κs = search needs
@@ -43,6 +46,9 @@ entry-number-requires c κs =
     let d = sym (decode-at .ensures) ∙ c .before .e .given .1 in
     (decoded-within _ _ _ _ _ d, (decoded-free _ _ _ _ _ d, decoded-code _ _ _ _ _ d))
 
+stopped-requires-2 : tie.Need-stopped-requires-2 Inv-loop μ-loop
+stopped-requires-2 c κs = search needs
+
 same-length-2 : tie.Need-same-length-2 Inv-loop μ-loop
 same-length-2 c =
     let loop = c .before .before .before .before .before .before .before .before .before .loop in
@@ -50,65 +56,71 @@ same-length-2 c =
 
 returns-2 : tie.Need-returns-2 Inv-loop μ-loop
 returns-2 c =
-    let e = c .before .before .before .e in
-    let decode-at = c .before .before .before .before .before .decode-at in
-    let if2 = c .before .before .before .before .before .before .if2 in
+    let e = c .before .before .before .before .e in
+    let decode-at = c .before .before .before .before .before .before .decode-at in
     let if1 = c .before .before .before .before .before .before .before .if1 in
+    let loop-test = c .before .before .before .before .before .before .before .before .loop-test in
     let loop = c .before .before .before .before .before .before .before .before .before .loop in
-    reading-refused _ _ _ _ _ _ _ _ (loop .inv .0) (if1 .taken) (if2 .left) _ _ _ (sym (decode-at .ensures) ∙ e .given .1)
-    (c .before .entry-number .ensures) (c .if3 .taken)
+    c .stopped2 .ensures ∙ reading-refused _ _ _ _ _ _ _ _ (loop .inv .0) (loop-test .taken) (if1 .left) _ _ _ (sym (decode-at .ensures) ∙ e .given .1)
+    (c .before .before .entry-number .ensures) (c .before .if2 .taken)
 
 after-entry-requires : tie.Need-after-entry-requires Inv-loop μ-loop
 after-entry-requires c κs =
     let e = c .before .before .before .before .e in
     let decode-at = c .before .before .before .before .before .before .decode-at in
-    let loop = c .before .before .before .before .before .before .before .before .before .before .loop in
+    let loop = c .before .before .before .before .before .before .before .before .before .loop in
     let w = decoded-within _ _ _ _ _ (sym (decode-at .ensures) ∙ e .given .1) in
     (loop .inv .0 .inside, (w .1, w .2))
 
 enum-told : tie.Need-enum-told Inv-loop μ-loop
 enum-told c = search needs
 
+stopped-requires-3 : tie.Need-stopped-requires-3 Inv-loop μ-loop
+stopped-requires-3 c κs = search needs
+
 same-length-3 : tie.Need-same-length-3 Inv-loop μ-loop
 same-length-3 c =
-    let after-entry = c .before .before .before .before .after-entry in
+    let after-entry = c .before .before .before .before .before .after-entry in
     let loop = c .before .before .before .before .before .before .before .before .before .before .before .before .before .before .before .loop in
     after-same _ _ _ _ _ (after-entry .ensures .1) (loop .inv .1)
 
 returns-3 : tie.Need-returns-3 Inv-loop μ-loop
 returns-3 c =
-    let after-entry = c .before .before .before .before .after-entry in
-    let if3 = c .before .before .before .before .before .before .if3 in
-    let entry-number = c .before .before .before .before .before .before .before .entry-number in
-    let e = c .before .before .before .before .before .before .before .before .before .e in
-    let decode-at = c .before .before .before .before .before .before .before .before .before .before .before .decode-at in
-    let if2 = c .before .before .before .before .before .before .before .before .before .before .before .before .if2 in
+    let after-entry = c .before .before .before .before .before .after-entry in
+    let if2 = c .before .before .before .before .before .before .before .if2 in
+    let entry-number = c .before .before .before .before .before .before .before .before .entry-number in
+    let e = c .before .before .before .before .before .before .before .before .before .before .e in
+    let decode-at = c .before .before .before .before .before .before .before .before .before .before .before .before .decode-at in
     let if1 = c .before .before .before .before .before .before .before .before .before .before .before .before .before .if1 in
+    let loop-test = c .before .before .before .before .before .before .before .before .before .before .before .before .before .before .loop-test in
     let loop = c .before .before .before .before .before .before .before .before .before .before .before .before .before .before .before .loop in
-    reading-low _ _ _ _ _ _ _ _ (loop .inv .0) (if1 .taken) (if2 .left) _ _ _ (sym (decode-at .ensures) ∙ e .given .1)
-    (entry-number .ensures) (if3 .left) _ (after-entry .ensures .0) (c .enum-told .given .1)
+    c .stopped3 .ensures ∙ reading-low _ _ _ _ _ _ _ _ (loop .inv .0) (loop-test .taken) (if1 .left) _ _ _ (sym (decode-at .ensures) ∙ e .given .1)
+    (entry-number .ensures) (if2 .left) _ (after-entry .ensures .0) (c .before .enum-told .given .1)
 
 enum-told-2 : tie.Need-enum-told-2 Inv-loop μ-loop
 enum-told-2 c = search needs
 
+stopped-requires-4 : tie.Need-stopped-requires-4 Inv-loop μ-loop
+stopped-requires-4 c κs = search needs
+
 same-length-4 : tie.Need-same-length-4 Inv-loop μ-loop
 same-length-4 c =
-    let after-entry = c .before .before .before .before .after-entry in
+    let after-entry = c .before .before .before .before .before .after-entry in
     let loop = c .before .before .before .before .before .before .before .before .before .before .before .before .before .before .before .loop in
     after-same _ _ _ _ _ (after-entry .ensures .1) (loop .inv .1)
 
 returns-4 : tie.Need-returns-4 Inv-loop μ-loop
 returns-4 c =
-    let after-entry = c .before .before .before .before .after-entry in
-    let if3 = c .before .before .before .before .before .before .if3 in
-    let entry-number = c .before .before .before .before .before .before .before .entry-number in
-    let e = c .before .before .before .before .before .before .before .before .before .e in
-    let decode-at = c .before .before .before .before .before .before .before .before .before .before .before .decode-at in
-    let if2 = c .before .before .before .before .before .before .before .before .before .before .before .before .if2 in
+    let after-entry = c .before .before .before .before .before .after-entry in
+    let if2 = c .before .before .before .before .before .before .before .if2 in
+    let entry-number = c .before .before .before .before .before .before .before .before .entry-number in
+    let e = c .before .before .before .before .before .before .before .before .before .before .e in
+    let decode-at = c .before .before .before .before .before .before .before .before .before .before .before .before .decode-at in
     let if1 = c .before .before .before .before .before .before .before .before .before .before .before .before .before .if1 in
+    let loop-test = c .before .before .before .before .before .before .before .before .before .before .before .before .before .before .loop-test in
     let loop = c .before .before .before .before .before .before .before .before .before .before .before .before .before .before .before .loop in
-    reading-double _ _ _ _ _ _ _ _ (loop .inv .0) (if1 .taken) (if2 .left) _ _ _ (sym (decode-at .ensures) ∙ e .given .1)
-    (entry-number .ensures) (if3 .left) _ (after-entry .ensures .0) (c .enum-told2 .given .1)
+    c .stopped4 .ensures ∙ reading-double _ _ _ _ _ _ _ _ (loop .inv .0) (loop-test .taken) (if1 .left) _ _ _ (sym (decode-at .ensures) ∙ e .given .1)
+    (entry-number .ensures) (if2 .left) _ (after-entry .ensures .0) (c .before .enum-told2 .given .1)
 
 enum-known-k : tie.Need-enum-known-k Inv-loop μ-loop
 enum-known-k c = search needs
@@ -122,15 +134,15 @@ loop-less c = search needs
 loop-again : tie.Need-loop-again Inv-loop μ-loop
 loop-again c =
     let after-entry = c .before .before .before .before .before .after-entry in
-    let if3 = c .before .before .before .before .before .before .before .if3 in
+    let if2 = c .before .before .before .before .before .before .before .if2 in
     let entry-number = c .before .before .before .before .before .before .before .before .entry-number in
     let e = c .before .before .before .before .before .before .before .before .before .before .e in
     let decode-at = c .before .before .before .before .before .before .before .before .before .before .before .before .decode-at in
-    let if2 = c .before .before .before .before .before .before .before .before .before .before .before .before .before .if2 in
-    let if1 = c .before .before .before .before .before .before .before .before .before .before .before .before .before .before .if1 in
-    let loop = c .before .before .before .before .before .before .before .before .before .before .before .before .before .before .before .before .loop in (
-      reading-kept _ _ _ _ _ _ _ _ (loop .inv .0) (if1 .taken) (if2 .left) _ _ _ (sym (decode-at .ensures) ∙ e .given .1)
-          (entry-number .ensures) (if3 .left) _ (after-entry .ensures .0) _ (c .before .k .given .1) _ (after-entry .ensures .1),
+    let if1 = c .before .before .before .before .before .before .before .before .before .before .before .before .before .if1 in
+    let loop-test = c .before .before .before .before .before .before .before .before .before .before .before .before .before .before .loop-test in
+    let loop = c .before .before .before .before .before .before .before .before .before .before .before .before .before .before .before .loop in (
+      reading-kept _ _ _ _ _ _ _ _ (loop .inv .0) (loop-test .taken) (if1 .left) _ _ _ (sym (decode-at .ensures) ∙ e .given .1)
+          (entry-number .ensures) (if2 .left) _ (after-entry .ensures .0) _ (c .before .k .given .1) _ (after-entry .ensures .1),
       after-same _ _ _ _ _ (after-entry .ensures .1) (loop .inv .1),
     )
 
@@ -139,26 +151,26 @@ enum-known-v c = search needs
 
 same-length-5 : tie.Need-same-length-5 Inv-loop μ-loop
 same-length-5 c =
-    let loop = c .before .before .before .before .before .before .before .loop in
+    let loop = c .before .before .before .before .before .before .loop in
     loop .inv .1
 
 returns-5 : tie.Need-returns-5 Inv-loop μ-loop
 returns-5 c =
     let decode-at = c .before .before .before .decode-at in
-    let if2 = c .before .before .before .before .if2 in
-    let if1 = c .before .before .before .before .before .if1 in
-    let loop = c .before .before .before .before .before .before .before .loop in
-    reading-broken _ _ _ _ _ _ _ _ (loop .inv .0) (if1 .taken) (if2 .left) (sym (decode-at .ensures) ∙ c .before .v .given .1)
+    let if1 = c .before .before .before .before .if1 in
+    let loop-test = c .before .before .before .before .before .loop-test in
+    let loop = c .before .before .before .before .before .before .loop in
+    reading-broken _ _ _ _ _ _ _ _ (loop .inv .0) (loop-test .taken) (if1 .left) (sym (decode-at .ensures) ∙ c .before .v .given .1)
 
 same-length-6 : tie.Need-same-length-6 Inv-loop μ-loop
 same-length-6 c =
-    let loop = c .before .before .loop in
+    let loop = c .before .loop in
     loop .inv .1
 
 returns-6 : tie.Need-returns-6 Inv-loop μ-loop
 returns-6 c =
-    let loop = c .before .before .loop in
-    reading-end _ _ _ _ _ _ _ _ (loop .inv .0) (c .if1 .left)
+    let loop = c .before .loop in
+    reading-end _ _ _ _ _ _ _ _ (loop .inv .0) (c .loop-test .left)
 
 pub count-marked-spec : {M : Type 1} → statement M
 count-marked-spec =
@@ -167,18 +179,22 @@ count-marked-spec =
     Inv-loop
     μ-loop
     loop-holds
+    stopped-requires
     same-length
     returns
     decode-at-requires
     enum-known-e
     entry-number-requires
+    stopped-requires-2
     same-length-2
     returns-2
     after-entry-requires
     enum-told
+    stopped-requires-3
     same-length-3
     returns-3
     enum-told-2
+    stopped-requires-4
     same-length-4
     returns-4
     enum-known-k

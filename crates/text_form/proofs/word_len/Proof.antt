@@ -2,7 +2,7 @@
 use borrow.Author.Needs.{needs}
 use Rattle.text_form.proofs.word_len.Statement.{statement}
 use Rattle.text_form.proofs.word_len.Tie as tie
-use mathlib.Core.Path.{sym, _∙_}
+use mathlib.Core.Path.{sym}
 use Rattle.ground.specs.Basics.{ascii}
 use Rattle.text_form.proofs.Laws.{begun, word-blob, word-tree, word-commit, word-none}
 

@@ -2,9 +2,7 @@
 use borrow.Author.Needs.{needs}
 use Rattle.text_pairs.proofs.file_place.Statement.{statement}
 use Rattle.text_pairs.proofs.file_place.Tie as tie
-use native.Mathlib.Omega.{arith}
-use mathlib.Core.Path.{_≡_, sym, ap, _∙_}
-use mathlib.Core.Bool.{true}
+use mathlib.Core.Path.{sym, _∙_}
 use Rattle.keys.specs.Key.{keyAt, belowBy}
 use Rattle.keys.proofs.Keys.{key-strict}
 use Rattle.text_pairs.proofs.Laws.{count-first, count-next, above}

@@ -2,10 +2,8 @@
 use borrow.Author.Needs.{needs}
 use Rattle.text_pairs.proofs.judge_list.Statement.{statement}
 use Rattle.text_pairs.proofs.judge_list.Tie as tie
-use mathlib.Core.Path.{sym, _∙_}
 use Rattle.keys.specs.Key.{keyAt, belowBy}
 use Rattle.keys.proofs.Keys.{key-strict}
-use Rattle.sorting.specs.Sort.{Ascends}
 use Rattle.sorting.proofs.Sorted.{sort-ascends}
 use Rattle.text_pairs.proofs.Laws.{judged-order, judged-pair}
 

@@ -3,7 +3,6 @@ use borrow.Author.Needs.{needs}
 use Rattle.text_pairs.proofs.least_pair.Statement.{statement}
 use Rattle.text_pairs.proofs.least_pair.Tie as tie
 use Prim.Native.Nat.{_-_}
-use native.Mathlib.Omega.{arith}
 use mathlib.Core.Path.{_≡_, refl, sym, _∙_}
 use lib.ListN.{length, drop}
 use Rattle.keys.specs.Key.{keyAt, belowBy}

@@ -2,7 +2,6 @@
 use borrow.Author.Needs.{needs}
 use Rattle.text_pairs.proofs.pair_here.Statement.{statement}
 use Rattle.text_pairs.proofs.pair_here.Tie as tie
-use native.Mathlib.Omega.{arith}
 use Rattle.keys.specs.Key.{keyAt, belowBy}
 use Rattle.text_repeats.specs.Least.{sameRecord}
 use Rattle.text_pairs.proofs.Laws.{with-file, with-less, with-more, folder-file}

@@ -5,8 +5,8 @@ use Rattle.tree_write.proofs.entry_size.Tie as tie
 use Rattle.tree_write.specs.Write.{entrySize}
 use native.Mathlib.Omega.{arith}
 
-mode-text-requires : tie.Need-mode-text-requires
-mode-text-requires c κs = search needs
+text-size-requires : tie.Need-text-size-requires
+text-size-requires c κs = search needs
 
 sub-name : tie.Need-sub-name
 sub-name c = search needs
@@ -31,7 +31,7 @@ pub entry-size-spec : {M : Type 1} → statement M
 entry-size-spec =
     tie.close
     (tie.spec
-    mode-text-requires
+    text-size-requires
     sub-name
     add-result
     add-result-2

@@ -1,5 +1,5 @@
 -- `twice::twice_large` meets its contract: it calls itself only on a way that its `requires` shuts. Assumes nothing.
-use Prim.Native.Nat.{ℕ, _<_, _≤_}
+use Prim.Native.Nat.{ℕ, _≤_, _<_}
 use native.Mathlib.Omega.{arith}
 use mathlib.Core.Path.{sym, subst}
 use lib.ListN.{length-replicate}

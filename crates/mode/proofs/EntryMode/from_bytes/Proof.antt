@@ -21,9 +21,6 @@ alone-requires c κs = search needs
 enum-known-v : tie.Need-enum-known-v
 enum-known-v c = search needs
 
-refused-requires : tie.Need-refused-requires
-refused-requires c κs = search needs
-
 returns : tie.Need-returns
 returns c =
     let sizes = c .before .before .before .before .sizes in
@@ -31,8 +28,8 @@ returns c =
 
 returns-2 : tie.Need-returns-2
 returns-2 c =
-    let sizes = c .before .before .before .before .sizes in
-    c .refused .ensures ∙ sym (alone-shut _ _ (sym (sizes .ensures) ∙ c .before .before .v .given .1))
+    let sizes = c .before .before .before .sizes in
+    sym (alone-shut _ _ (sym (sizes .ensures) ∙ c .before .v .given .1))
 
 pub from-bytes-spec : {M : Type 1} → statement M
 from-bytes-spec =
@@ -43,6 +40,5 @@ from-bytes-spec =
     extract-at-requires
     alone-requires
     enum-known-v
-    refused-requires
     returns
     returns-2)

@@ -1,23 +1,23 @@
--- `scan::among_32` meets its contract. Assumes nothing.
-use Rattle.scan.proofs.among_32.Statement.{statement}
-use Rattle.scan.proofs.among_32.Tie as tie
-use Prim.Native.Nat.{_-_, _+_, _≤_}
-use mathlib.Core.Path.{_≡_, sym, _∙_}
+-- `free_of::among_32` meets its contract. Assumes nothing.
+use Rattle.free_of.proofs.among_32.Statement.{statement}
+use Rattle.free_of.proofs.among_32.Tie as tie
+use Prim.Native.Nat.{_-_, _+_, _<_, _≤_}
+use mathlib.Core.Path.{_≡_, refl, sym, _∙_}
 use mathlib.Core.Logic.{⊎-elim}
 use native.Mathlib.Nat.{add-zero}
 use native.Mathlib.Omega.{arith}
 use borrow.Author.Needs.{needs}
 use Rattle.ground.specs.Scan.{placeFrom}
-use Rattle.scan.proofs.Laws.{place-step}
+use Rattle.scan.proofs.Laws.{place-step, place-most}
 
 abbrev Inv-loop : tie.InvT-loop
-Inv-loop s at x hit₀ k₀ hit k = (k ≤ 32) × (hit ≡ 0 → placeFrom x s at ≡ placeFrom x s (at + k))
+Inv-loop s at x hit₀ k₀ hit k = (k ≤ 32) × (hit ≡ 0 → placeFrom x s at ≡ placeFrom x s (at + k)) × ((hit ≡ 0 → ⊥) → placeFrom x s at < at + k)
 
 abbrev μ-loop : tie.MeasureT-loop
 μ-loop s at x hit₀ k₀ hit k = 32 - k
 
 loop-holds : tie.Need-loop-holds Inv-loop μ-loop
-loop-holds c = (omega arith, λ z. rw add-zero)
+loop-holds c = (omega arith, λ z. rw add-zero, λ n. absurd (n refl))
 
 add-if1 : tie.Need-add-if1 Inv-loop μ-loop
 add-if1 c = search needs
@@ -33,15 +33,17 @@ loop-less c = search needs
 
 loop-again : tie.Need-loop-again Inv-loop μ-loop
 loop-again c =
-    let loop = c .before .before .before .loop in (
+    let loop = c .before .before .before .loop in
+    let args = c .before .before .before .before .args in (
       omega arith,
       ⊎-elim (λ w z. absurd (omega (arith, sym (w .1) ∙ z))) (λ w z. place-step _ _ _ _ (omega arith) (w .0 .left) (loop .inv .1 (sym (w .1) ∙ z))) (c .if1 .came),
+      ⊎-elim (λ w n. omega (arith, place-most _ (args .s .now) (args .at) (loop .k) (omega arith) (w .0 .taken))) (λ w n. omega (arith, loop .inv .2 (λ z. n (w .1 ∙ z)))) (c .if1 .came),
     )
 
 returns : tie.Need-returns Inv-loop μ-loop
 returns c =
     let e : c .before .loop .k ≡ 32 = omega arith in
-    λ z. rw (← e) (c .before .loop .inv .1 z)
+    (λ z. rw (← e) (c .before .loop .inv .1 z), λ n. rw (← e) (c .before .loop .inv .2 n))
 
 pub among-32-spec : {M : Type 1} → statement M
 among-32-spec =
