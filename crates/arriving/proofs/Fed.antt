@@ -10,7 +10,7 @@ use lib.Dec.{eqb, ltb}
 use lib.ListN.{length, getD, set, take, drop, replicate, length-take, length-drop, length-set, take-append-drop, drop-of-length-le}
 use lib.Seq.{sets, length-sets, drop-cons, drop-drop, take-take, take-all, take-append-seam}
 use borrow.Author.Tests.{eq-eqb, ne-eqb, lt-ltb, le-ltb, le-leb, lt-leb, ltb-true, ltb-false}
-use Rattle.ground.specs.Basics.{pick, part}
+use Rattle.ground.specs.Basics.{pick}
 use Rattle.ground.specs.Scan.{countTo, commonStart}
 use Rattle.ground.specs.Verdict.{verdict, broken, fine, refused, mostBytes, mostRecords, idLength, sizeGate, isSet}
 use Rattle.ground.specs.declared.Verdict.{Verdict}

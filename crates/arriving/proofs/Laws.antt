@@ -3,7 +3,7 @@ use Prim.Native.Nat.{ℕ, zero, suc, _+_, _-_, _≤_, _<_, min}
 use native.Mathlib.Numerals.{add-one}
 use native.Mathlib.Omega.{arith}
 use mathlib.Core.Path.{_≡_, refl, ap, sym, _∙_}
-use mathlib.Core.Bool.{Bool, true, false, _&&_}
+use mathlib.Core.Bool.{Bool, true, false}
 use mathlib.Core.List.{List, [], _∷_}
 use lib.Dec.{eqb, ltb, leb}
 use lib.ListN.{length, getD, set, take, drop, length-drop, drop-of-length-le}
@@ -18,7 +18,6 @@ use Rattle.mode.specs.Read.{readMode, readModeAt, moved}
 use Rattle.mode.specs.declared.ModeRead.{ModeRead}
 use Rattle.mode.specs.declared.ModeRead.the-variants.{Mode, Bad}
 use Rattle.mode.specs.declared.EntryMode.{EntryMode}
-use Rattle.mode.proofs.Laws.{read-next}
 use Rattle.order.specs.Order.{next}
 use Rattle.entry.specs.Decode.{shortPart}
 use Rattle.doubles.specs.declared.Placed.{Placed}
@@ -34,7 +33,7 @@ use Rattle.arriving.specs.declared.Phase.{Phase}
 use Rattle.arriving.specs.declared.Phase.the-variants.{Head, Name, Id}
 use Rattle.arriving.specs.declared.Marks.{Marks}
 use Rattle.arriving.specs.declared.Check.{Check}
-use Rattle.arriving.specs.Feed.{together, refuse, meet, sharing, nameMarks, nameHeld, longer, isOver, judged, leavesNone, placing, endsNext, nextEntry, placed, closed, closedEnds, idMarks, idEnds, body, bodies, begun, begin, headStep, overIn, over, turnIn, byteStep, feedOf, fresh, startOf, headPart, endIn, finishOf, mostHeld, bodyIn}
+use Rattle.arriving.specs.Feed.{together, refuse, meet, sharing, nameMarks, nameHeld, longer, isOver, judged, leavesNone, placing, endsNext, nextEntry, placed, closed, closedEnds, idMarks, idEnds, body, bodies, headStep, overIn, over, turnIn, byteStep, feedOf, fresh, startOf, headPart, endIn, finishOf, mostHeld, bodyIn}
 
 -- ---- how a name stands
 
@@ -341,32 +340,6 @@ read-cut head k n r q l e = sym (read-zero (take n head) r (sym e)) ∙ ap readM
     go : (v : Bool) → ltb k 8 ≡ v → take n head ≡ take k head
     go true x = let y = ltb-true k 8 x in let w : n ≡ k = omega arith in rw w
     go false x = let y = ltb-false k 8 x in take-all n head (omega arith) ∙ sym (take-all k head (omega arith))
-
-module _ (held ends : List ℕ) (m : Marks) (head : List ℕ) where
-  pub begin-bad : readModeAt head 0 ≡ Bad → together held ends (refuse m (broken (m .first) 1)) ≡ begin (together held ends m) head (readMode head)
-  unfolding begin
-  begin-bad e = rw (read-zero head Bad e)
-
-  pub begin-mode : (k : EntryMode) (n : ℕ) (c : Check) → readModeAt head 0 ≡ Mode k n → c ≡ bodies (together held ends (begun m head (k .internal) n)) (drop n head) → c ≡ begin (together held ends m) head (readMode head)
-  unfolding begin
-  begin-mode k n c e q = rw (read-zero head (Mode k n) e) q
-
-  pub mode-within : (k : EntryMode) (n : ℕ) → length head ≡ 8 → readModeAt head 0 ≡ Mode k n → (0 < n) × (n ≤ 8)
-  mode-within k n l e = let q = read-next head (k .internal) n (read-zero head (Mode k n) e) in (q .0, omega arith)
-
-module _ (held ends : List ℕ) (m : Marks) (k b : ℕ) (full : Bool) (q : full ≡ (eqb k 0 && leb mostRecords (m .count))) where
-  pub head-full : full ≡ true → together held ends (refuse m (verdict 2 0)) ≡ headStep (together held ends m) k b
-  unfolding headStep
-  head-full e = rw (sym q, e)
-
-  module _ (e : full ≡ false) where
-    pub head-more : k < 7 → together held ends (def.moved m (set (m .head) k b) (Head (k + 1))) ≡ headStep (together held ends m) k b
-    unfolding headStep
-    head-more l = rw (sym q, e, lt-ltb k 7 l)
-
-    pub head-eighth : 7 ≤ k → (c : Check) → c ≡ begin (together held ends m) (set (m .head) 7 b) (readMode (set (m .head) 7 b)) → c ≡ headStep (together held ends m) k b
-    unfolding headStep
-    head-eighth l c p = rw (sym q, e, le-ltb k 7 l) p
 
 -- ---- a byte past the bound
 

@@ -7,7 +7,6 @@ use mathlib.Core.Logic.{_⊎_, inl, inr}
 use lib.ListN.{length, take, drop, length-take, length-drop, take-append-drop}
 use Rattle.ground.specs.Verdict.{verdict, refused, mostBytes}
 use Rattle.ground.specs.declared.Answer.{Answer}
-use Rattle.entry.specs.Record.{many}
 use Rattle.arriving.specs.Feed.{together, startOf, feedOf, endOf}
 use Rattle.arriving.specs.Whole.{checkOf}
 use Rattle.arriving.specs.Claims.{inPieces, joined, Rooms, answer, PieceLaws}

@@ -19,7 +19,7 @@ use Rattle.entry.specs.declared.Decoded.{Decoded}
 use Rattle.entry.specs.declared.Decoded.the-variants.{Whole, Broken}
 use Rattle.rules.specs.Rules.{Rules, gitRules}
 use Rattle.rules.specs.Gate.{ruleGate}
-use Rattle.reading.specs.Listing.{Listing, done, stop, entry, follow, tally}
+use Rattle.reading.specs.Listing.{Listing, done, stop, follow, tally}
 use Rattle.reading.specs.declared.Counted.{Counted}
 use Rattle.reading.specs.declared.Counted.the-variants.{Total, Stopped}
 use Rattle.strict.specs.Strict.{cut}

@@ -10,7 +10,7 @@ use Rattle.frame.specs.Place.{placeOf}
 use Rattle.frame.specs.declared.Placed.{Placed}
 use Rattle.frame.specs.declared.Placed.the-variants.{At, Absent}
 use Rattle.bundle.specs.declared.Checked.{Checked}
-use Rattle.path.specs.declared.Followed.{Followed}
+use Rattle.path_walk.specs.declared.Followed.{Followed}
 use Rattle.border.specs.Border.{verdictNumbers}
 use Rattle.border_bundle.specs.declared.Object.{Object}
 

@@ -8,11 +8,10 @@ use lib.Dec.{eqb, ltb}
 use borrow.Author.Tests.{ltb-true, eqb-false}
 use native.Mathlib.Omega.{arith}
 use Rattle.ground.specs.Basics.{pick}
-use Rattle.arriving.specs.Feed.{together, startOf, feedOf}
-use Rattle.arriving.specs.declared.Marks.{Marks}
+use Rattle.arriving.specs.Feed.{together, startOf}
 use Rattle.arriving.specs.declared.Check.{Check}
 use Rattle.arriving.proofs.Steps.{feed-stopped}
-use Rattle.piece_state.specs.State.{setSaid, marksNumbers, marksSaid}
+use Rattle.piece_state.specs.State.{setSaid, marksNumbers}
 use Rattle.piece_state.proofs.Laws.{marks-back}
 use Rattle.piece_state.proofs.Each.{rules-stay}
 use Rattle.border_pieces.specs.Border.{stateOf, fedOf, fedNumbers}

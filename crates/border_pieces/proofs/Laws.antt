@@ -1,6 +1,6 @@
--- What the proofs of the calls cite: a lent state with a piece more, refused before or not. Assumes nothing.
+-- What the proof of the call cites: a lent state with a piece more, refused before or not. Assumes nothing.
 use Prim.Native.Nat.{ℕ}
-use mathlib.Core.Path.{_≡_, refl, ap, sym, _∙_}
+use mathlib.Core.Path.{_≡_, ap, sym, _∙_}
 use mathlib.Core.Bool.{Bool}
 use mathlib.Core.List.{List}
 use lib.ListN.{getD}
@@ -19,11 +19,6 @@ Fed held ends marks first piece number held' ends' marks' first' =
     let d = fedOf held ends marks first piece in
     (number ≡ d .marks .verdict .number)
     × ((held' ≡ d .held) × ((ends' ≡ d .ends) × ((marks' ≡ fedNumbers held ends marks first piece) × (first' ≡ d .marks .head))))
-
--- begun
-pub begun : {m n : Marks} {marks first : List ℕ} → m ≡ n → marks ≡ marksNumbers m → first ≡ m .head
-    → (m .verdict .number ≡ n .verdict .number) × ((marks ≡ marksNumbers n) × (first ≡ n .head))
-begun e p q = (ap (λ (m : Marks). m .verdict .number) e, (p ∙ ap marksNumbers e, q ∙ ap (λ (m : Marks). m .head) e))
 
 -- after a refusal everything stays
 pub fed-refused : (held ends marks first piece : List ℕ) → (getD marks 0 0 ≡ 0 → ⊥) → Fed held ends marks first piece (getD marks 0 0) held ends marks first

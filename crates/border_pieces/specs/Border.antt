@@ -1,11 +1,10 @@
--- The check in pieces over a state that a caller lends: what it stands for, with a piece more and at the end. Assumes nothing.
+-- The check in pieces over a state that a caller lends: what it stands for, and with a piece more. Assumes nothing.
 use Prim.Native.Nat.{ℕ}
 use mathlib.Core.List.{List}
 use lib.ListN.{getD}
 use lib.Dec.{eqb}
 use Rattle.ground.specs.Basics.{pick}
-use Rattle.ground.specs.declared.Answer.{Answer}
-use Rattle.arriving.specs.Feed.{together, feedOf, finishOf}
+use Rattle.arriving.specs.Feed.{together, feedOf}
 use Rattle.arriving.specs.declared.Check.{Check}
 use Rattle.piece_state.specs.State.{marksNumbers, marksSaid}
 
@@ -20,7 +19,3 @@ fedOf held ends marks first piece = feedOf (stateOf held ends marks first) piece
 -- the numbers of its marks; after a refusal they stay as they are lent
 abbrev pub fedNumbers : List ℕ → List ℕ → List ℕ → List ℕ → List ℕ → List ℕ
 fedNumbers held ends marks first piece = pick (eqb (getD marks 0 0) 0) (marksNumbers (fedOf held ends marks first piece .marks)) marks
-
--- the answer at the end
-abbrev pub endSaid : List ℕ → List ℕ → Answer
-endSaid marks first = finishOf (marksSaid marks first)

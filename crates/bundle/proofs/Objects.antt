@@ -1,25 +1,20 @@
 -- Laws of a bundle as a list of objects, for the layers above. Assumes nothing.
-use Prim.Native.Nat.{ℕ, zero, suc, _≤_}
+use Prim.Native.Nat.{ℕ}
 use native.Mathlib.Omega.{arith}
 use mathlib.Core.Path.{_≡_, refl, ap, sym, _∙_}
 use mathlib.Core.Bool.{Bool, true, false}
 use mathlib.Core.List.{List, _∷_, map}
 use lib.Dec.{eqb}
-use lib.ListN.{length, drop}
 use Rattle.ground.specs.Basics.{pick}
 use Rattle.ground.specs.Scan.{sameBytes}
 use Rattle.ground.specs.Verdict.{verdict}
-use Rattle.frame.specs.Frame.{headOf, frameAt, Frames, done, fault, frame, onward, frames, framesBy, framesIn, whole}
+use Rattle.frame.specs.Frame.{headOf, Frames, done, fault, frame, framesBy, framesIn, whole}
 use Rattle.frame.specs.Place.{idIn, firstOf, placeBy, placeOf}
 use Rattle.frame.specs.declared.Header.{Header}
 use Rattle.frame.specs.declared.Head.{Head}
 use Rattle.frame.specs.declared.Head.the-variants.{Good, Bad}
-use Rattle.frame.specs.declared.Frame.{Frame}
-use Rattle.frame.specs.declared.Framed.{Framed}
-use Rattle.frame.specs.declared.Framed.the-variants.{Whole, Broken}
 use Rattle.frame.specs.declared.Placed.{Placed}
 use Rattle.frame.specs.declared.Placed.the-variants.{At, Absent}
-use Rattle.frame.proofs.Laws.{frame-inside}
 use Rattle.twice.specs.Ids.{idsIn, repeats}
 use Rattle.bundle.specs.Bundle.{Object, objectOf, good, bad, bundleBy, bundleOf, idsOf, Sought, present, absent, objectWith, openBy}
 use Rattle.bundle.specs.declared.Opening.the-variants.{Open, Shut}
@@ -65,30 +60,6 @@ place-object s id h os e = go (headOf s) e
     go (Good k) e = made k (whole (framesBy s k)) e
     go Bad e = let z : _≡_ {A = ℕ} 0 1 = cc in absurd (omega arith)
 
--- an object that was found lies inside the bundle
-pub first-inside : (h : ℕ) (s id : List ℕ) (n at : ℕ) (f : Frame) → firstOf h s id (frames h s n at) ≡ At f → (f .start ≤ f .end) × (f .end ≤ length s)
-unfolding firstOf frames onward
-first-inside h s id zero at f e = go (eqb at (length s)) e
-  where
-    go : (v : Bool) → firstOf h s id (pick v done fault) ≡ At f → (f .start ≤ f .end) × (f .end ≤ length s)
-    go true e = let z : _≡_ {A = ℕ} 0 1 = cc in absurd (omega arith)
-    go false e = let z : _≡_ {A = ℕ} 0 1 = cc in absurd (omega arith)
-first-inside h s id (suc n) at f e = go (λ (b : ℕ) q. first-inside h s id n b f q) (frameAt h at (drop at s)) refl e
-  where
-    here : (g : Frame) → frameAt h at (drop at s) ≡ Whole g → (firstOf h s id (frames h s n (g .end)) ≡ At f → (f .start ≤ f .end) × (f .end ≤ length s))
-        → (v : Bool) → pick v (At g) (firstOf h s id (frames h s n (g .end))) ≡ At f → (f .start ≤ f .end) × (f .end ≤ length s)
-    here g p ih true e =
-        let i = frame-inside h at s g p in
-        let r : g ≡ f = cc in
-        let w : (g .start ≤ g .end) × (g .end ≤ length s) = (i .forward, i .ends) in
-        rw r at w
-    here g p ih false e = ih e
-
-    go : ((b : ℕ) → firstOf h s id (frames h s n b) ≡ At f → (f .start ≤ f .end) × (f .end ≤ length s)) → (r : Framed) → frameAt h at (drop at s) ≡ r
-        → firstOf h s id (onward (frames h s n) r) ≡ At f → (f .start ≤ f .end) × (f .end ≤ length s)
-    go ih (Whole g) p e = here g p (ih (g .end)) (sameBytes (idIn h s g) id) e
-    go ih Broken p e = let z : _≡_ {A = ℕ} 0 1 = cc in absurd (omega arith)
-
 -- a bundle that was opened has the header that was read
 pub open-head : (s : List ℕ) (n : ℕ) (d : Head) (k : Header) → openBy s n d ≡ Open k → d ≡ Good k
 unfolding openBy
@@ -100,12 +71,3 @@ open-head s n (Good j) k e = go (eqb n (j .h)) (whole (framesBy s j)) (repeats (
     go true false c e = let z : _≡_ {A = ℕ} 0 1 = cc in absurd (omega arith)
     go false b c e = let z : _≡_ {A = ℕ} 0 1 = cc in absurd (omega arith)
 open-head s n Bad k e = let z : _≡_ {A = ℕ} 0 1 = cc in absurd (omega arith)
-
--- an object that was found lies inside the bundle
-pub place-inside : (s id : List ℕ) (f : Frame) → placeOf s id ≡ At f → (f .start ≤ f .end) × (f .end ≤ length s)
-unfolding placeBy
-place-inside s id f e = placed (headOf s) e
-  where
-    placed : (d : Head) → placeBy s id d ≡ At f → (f .start ≤ f .end) × (f .end ≤ length s)
-    placed (Good k) q = first-inside (k .h) s id (k .count) (k .from) f q
-    placed Bad q = let z : _≡_ {A = ℕ} 0 1 = cc in absurd (omega arith)

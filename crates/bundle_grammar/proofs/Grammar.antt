@@ -217,7 +217,8 @@ as-four (a ∷ b ∷ c ∷ d ∷ []) e y =
     let yb : b < 256 = y 1 in
     let yc : c < 256 = y 2 in
     let yd : d < 256 = y 3 in (
-      byte-first 3 a _ ya ∙ ap (λ (r : List ℕ). a ∷ r) (byte-first 2 b _ yb ∙ ap (λ (r : List ℕ). b ∷ r) (byte-first 1 c _ yc ∙ ap (λ (r : List ℕ). c ∷ r) (byte-first 0 d 0 yd))),
+      byte-first 3 a _ ya ∙ ap (λ (r : List ℕ). a ∷ r) (byte-first 2 b _ yb ∙ ap (λ (r : List ℕ). b ∷ r)
+          (byte-first 1 c _ yc ∙ ap (λ (r : List ℕ). c ∷ r) (byte-first 0 d 0 yd))),
       omega arith,
     )
 as-four (a ∷ b ∷ c ∷ d ∷ x ∷ r) e y = absurd (omega arith)

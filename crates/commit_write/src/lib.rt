@@ -7,7 +7,7 @@ ghost use Prim.Native.Nat.{_+_, _-_, _*_, _/_, _<_, _≤_};
 ghost use lib.ListN.{length};
 ghost use lib.Seq.{sets};
 ghost use Rattle.ground.specs.Basics.{part};
-ghost use Rattle.ground.specs.Verdict.{mostBytes, mostRecords, stored};
+ghost use Rattle.ground.specs.Verdict.{mostBytes, stored};
 ghost use Rattle.header.specs.Record.{width};
 ghost use Rattle.grammar.specs.Grammar.{line, parentsBytes, encodingBytes};
 ghost use Rattle.grammar.specs.Named.{idNamed, headerNamed};

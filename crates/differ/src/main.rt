@@ -259,17 +259,9 @@ fn work(all: &mut [u8], items: &mut [usize], paths: &mut [u8]) {
     differ(part(all, 0, n), items, paths);
 }
 
-fn with_paths(all: &mut [u8], items: &mut [usize]) {
-    let mut paths = [0u8; 600000];
-    work(all, items, &mut paths);
-}
-
-fn with_items(all: &mut [u8]) {
-    let mut items = [0usize; 60000];
-    with_paths(all, &mut items);
-}
-
 fn main() {
     let mut all = [0u8; 2400000];
-    with_items(&mut all);
+    let mut items = [0usize; 60000];
+    let mut paths = [0u8; 600000];
+    work(&mut all, &mut items, &mut paths);
 }

@@ -17,11 +17,11 @@ use Rattle.reading.specs.declared.Counted.the-variants.{Total, Stopped}
 use Rattle.strict.specs.Strict.{strictCount}
 use Rattle.seeking.specs.Index.{IsIndex}
 use Rattle.opening.specs.Opening.{openCounted, openPlaced, openBy, openAt}
-use Rattle.opening.specs.declared.Opened.the-variants.{Shut, Entries}
+use Rattle.opening.specs.declared.Opened.the-variants.{Shut}
 use Rattle.opening.proofs.Laws.{strict-exact, open-indexed}
 use Rattle.item.specs.Items.{Folder, shut, readStrictly, treeOf, folderOf}
 use Rattle.walk.specs.Walk.{levels, compareFolders}
-use Rattle.walk.specs.Code.{entriesFrom, folderAt, foldersIn, walkIn}
+use Rattle.walk.specs.Code.{entriesFrom, folderAt, walkIn}
 use Rattle.walk.proofs.Steps.{plain-zero}
 use Rattle.difference.specs.Whole.{storedAt, storeOf, foldersOf, differences}
 

@@ -1,7 +1,7 @@
 -- What is known of a bundle that was opened for two roots, and of one that was not. Assumes nothing.
 use Prim.Native.Nat.{ℕ, _≤_, _<_}
 use mathlib.Core.Bool.{Bool, true, false, _&&_}
-use mathlib.Core.Path.{_≡_, refl, ap, sym, subst, _∙_}
+use mathlib.Core.Path.{_≡_, refl, sym, subst, _∙_}
 use mathlib.Core.List.{List, []}
 use native.Mathlib.Omega.{arith}
 use borrow.Author.Tests.{eq-eqb, ne-eqb}
@@ -10,7 +10,6 @@ use lib.ListN.{length}
 use Rattle.ground.specs.Basics.{pick}
 use Rattle.ground.specs.Verdict.{verdict, sizeGate, mostBytes, mostRecords}
 use Rattle.ground.specs.declared.Verdict.{Verdict}
-use Rattle.ground.specs.declared.Gate.{Gate}
 use Rattle.ground.specs.declared.Gate.the-variants as gate
 use Rattle.frame.specs.Frame.{headOf, framesBy, whole}
 use Rattle.frame.specs.declared.Header.{Header}

@@ -15,7 +15,7 @@ use Rattle.order.specs.declared.Order.{Order}
 use Rattle.order.specs.declared.Order.the-variants.{Below, Same, Above}
 use Rattle.order.proofs.Laws.{order-self, order-same}
 use Rattle.entry.specs.Entry.{Entry}
-use Rattle.item.specs.Items.{Side, absent, Named, isFolder, Item, Folder, shut, holds, join, sameId, sameSide, entryOf}
+use Rattle.item.specs.Items.{Side, absent, Named, isFolder, Item, Folder, holds, join, sameId, sameSide, entryOf}
 use Rattle.walk.specs.Walk.{Out, nothing, put, andThen, Lower, change, leftOnly, rightOnly, both, rights, against, compareEntries, opened, compareFolders, Done}
 use Rattle.merge.specs.Merge.{byOrder}
 use Rattle.differing.specs.Differing.{Slashless, EmptyExactly, EqualUnopened}

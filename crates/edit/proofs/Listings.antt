@@ -17,7 +17,7 @@ use Rattle.entry.specs.declared.EntryRecord.{EntryRecord}
 use Rattle.entry.specs.declared.Decoded.{Decoded}
 use Rattle.entry.specs.declared.Decoded.the-variants.{Whole, Broken}
 use Rattle.rules.specs.Rules.{gitRules, standsBefore}
-use Rattle.reading.specs.Listing.{done, entry, follow, plain, listing, recordsIn, tally}
+use Rattle.reading.specs.Listing.{entry, follow, plain, listing, recordsIn, tally}
 use Rattle.reading.specs.declared.Counted.the-variants.{Total}
 use Rattle.reading.proofs.Laws.{plain-none, tally-length}
 use Rattle.strict.specs.Strict.{strictly}

@@ -1,5 +1,5 @@
 -- Laws of a bundle's framing, and of where an object stands. Assumes nothing.
-use Prim.Native.Nat.{ℕ, suc, _+_, _-_, _*_, _<_, _≤_}
+use Prim.Native.Nat.{ℕ, zero, suc, _+_, _-_, _*_, _<_, _≤_}
 use native.Mathlib.Omega.{arith}
 use native.Mathlib.Numerals.{add-one}
 use mathlib.Core.Path.{_≡_, refl, ap, sym, _∙_}
@@ -15,11 +15,12 @@ use Rattle.ground.specs.Scan.{sameBytes}
 use Rattle.ground.specs.Verdict.{idLength, mostRecords, isSet}
 use Rattle.ground.proofs.Laws.{and-left, and-right, id-is, id-made}
 use Rattle.frame.specs.Frame.{little, fieldsAt, byRules, byVersion, headOf, sizeOf, isFrame, frameOf, frameAt, Frames, done, fault, frame, onward, frames, framesBy, whole}
-use Rattle.frame.specs.Place.{idIn, firstOf, placeBy}
+use Rattle.frame.specs.Place.{idIn, firstOf, placeBy, placeOf}
 use Rattle.frame.specs.declared.Header.{Header}
 use Rattle.frame.specs.declared.Head.{Head}
 use Rattle.frame.specs.declared.Head.the-variants.{Good, Bad}
 use Rattle.frame.specs.declared.Frame.{Frame}
+use Rattle.frame.specs.declared.Framed.{Framed}
 use Rattle.frame.specs.declared.Framed.the-variants.{Whole, Broken}
 use Rattle.frame.specs.declared.Placed.the-variants.{At, Absent}
 
@@ -35,14 +36,12 @@ module _ (s : List ℕ) (i : ℕ) where
   pub little-two : i + 2 ≤ length s → (a b : ℕ) → a ≡ getD s i 0 → b ≡ getD s (i + 1) 0 → a + b * 256 ≡ little (take 2 (drop i s))
   little-two p a b x y = rw (two-bytes p, ← x, ← y) (omega arith)
 
-pub little-four : (s : List ℕ) (i : ℕ) → i + 4 ≤ length s → (a b c d : ℕ) → a ≡ getD s i 0 → b ≡ getD s (i + 1) 0 → c ≡ getD s (i + 2) 0 → d ≡ getD s (i + 3) 0
-    → a + b * 256 + c * 65536 + d * 16777216 ≡ little (take 4 (drop i s))
-little-four s i p a b c d x y z w =
-    let p2 : i + 2 + 2 ≤ length s = omega arith in
-    let k : i + 2 + 1 ≡ i + 3 = omega arith in
-    let e : take 4 (drop i s) ≡ a ∷ b ∷ c ∷ d ∷ [] =
-    take-add 2 2 (drop i s) ∙ rw (two-bytes s i (omega arith), drop-drop 2 i s, two-bytes s (i + 2) p2, k, ← x, ← y, ← z, ← w) in
-    rw e (omega arith)
+pub little-four : (s : List ℕ) (i : ℕ) → i + 4 ≤ length s → (low high : ℕ) → low ≡ little (take 2 (drop i s)) → high ≡ little (take 2 (drop (i + 2) s))
+    → low + high * 65536 ≡ little (take 4 (drop i s))
+little-four s i p low high x y =
+    let q : i + 2 ≤ length s = omega arith in
+    let r : i + 2 + 2 ≤ length s = omega arith in
+    rw (x, y, take-add 2 2 (drop i s), drop-drop 2 i s, two-bytes s i q, two-bytes s (i + 2) r) (omega arith)
 
 -- ---- the header
 
@@ -82,18 +81,30 @@ module _ (s : List ℕ) where
     unfolding headOf byVersion
     head-other a b = rw (g, ← w, ne-eqb v 1 a, ne-eqb v 2 b)
 
-    module _ (e : v ≡ 2) (r : ℕ) (q : r ≡ little (take 2 (drop 5 s))) where
-      pub head-first : r ≡ 1 → headOf s ≡ fieldsAt 1 7 s
-      unfolding headOf byVersion byRules isSet
-      head-first t = rw (g, ← w, e, ← q, t)
+    pub head-two : v ≡ 2 → headOf s ≡ byRules (little (take 2 (drop 5 s))) s
+    unfolding headOf byVersion
+    head-two e = rw (g, ← w, e)
 
-      pub head-second : r ≡ 2 → headOf s ≡ fieldsAt 2 7 s
-      unfolding headOf byVersion byRules isSet
-      head-second t = rw (g, ← w, e, ← q, t)
+  pub rules-short : length s < 12 → byRules (little (take 2 (drop 5 s))) s ≡ Bad
+  unfolding byRules
+  rules-short p = go (isSet (little (take 2 (drop 5 s))))
+    where
+      go : (b : Bool) → pick b (fieldsAt (little (take 2 (drop 5 s))) 7 s) Bad ≡ Bad
+      go true = fields-short (little (take 2 (drop 5 s))) 7 s (omega arith)
+      go false = refl
 
-      pub head-set : (r ≡ 1 → ⊥) → (r ≡ 2 → ⊥) → headOf s ≡ Bad
-      unfolding headOf byVersion byRules isSet
-      head-set a b = rw (g, ← w, e, ← q, ne-eqb r 1 a, ne-eqb r 2 b)
+  module _ (r : ℕ) (q : r ≡ little (take 2 (drop 5 s))) where
+    pub rules-first : r ≡ 1 → byRules (little (take 2 (drop 5 s))) s ≡ fieldsAt 1 7 s
+    unfolding byRules isSet
+    rules-first t = rw (← q, t)
+
+    pub rules-second : r ≡ 2 → byRules (little (take 2 (drop 5 s))) s ≡ fieldsAt 2 7 s
+    unfolding byRules isSet
+    rules-second t = rw (← q, t)
+
+    pub rules-other : (r ≡ 1 → ⊥) → (r ≡ 2 → ⊥) → byRules (little (take 2 (drop 5 s))) s ≡ Bad
+    unfolding byRules isSet
+    rules-other a b = rw (← q, ne-eqb r 1 a, ne-eqb r 2 b)
 
 -- every way to read a header ends in its fields, at 5 or at 7
 each-head : (s : List ℕ) (Q : Head → Type 0) → Q Bad → Q (fieldsAt 2 5 s) → ((r : ℕ) → isSet r ≡ true → Q (fieldsAt r 7 s)) → Q (headOf s)
@@ -273,3 +284,35 @@ place-good s id d k e = rw e
 pub place-bad : (s id : List ℕ) (d : Head) → d ≡ Bad → placeBy s id d ≡ Absent
 unfolding placeBy
 place-bad s id d e = rw e
+
+-- an object that was found lies inside the bundle
+pub first-inside : (h : ℕ) (s id : List ℕ) (n at : ℕ) (f : Frame) → firstOf h s id (frames h s n at) ≡ At f → (f .start ≤ f .end) × (f .end ≤ length s)
+unfolding firstOf frames onward
+first-inside h s id zero at f e = go (eqb at (length s)) e
+  where
+    go : (v : Bool) → firstOf h s id (pick v done fault) ≡ At f → (f .start ≤ f .end) × (f .end ≤ length s)
+    go true e = let z : _≡_ {A = ℕ} 0 1 = cc in absurd (omega arith)
+    go false e = let z : _≡_ {A = ℕ} 0 1 = cc in absurd (omega arith)
+first-inside h s id (suc n) at f e = go (λ (b : ℕ) q. first-inside h s id n b f q) (frameAt h at (drop at s)) refl e
+  where
+    here : (g : Frame) → frameAt h at (drop at s) ≡ Whole g → (firstOf h s id (frames h s n (g .end)) ≡ At f → (f .start ≤ f .end) × (f .end ≤ length s))
+        → (v : Bool) → pick v (At g) (firstOf h s id (frames h s n (g .end))) ≡ At f → (f .start ≤ f .end) × (f .end ≤ length s)
+    here g p ih true e =
+        let i = frame-inside h at s g p in
+        let r : g ≡ f = cc in
+        let w : (g .start ≤ g .end) × (g .end ≤ length s) = (i .forward, i .ends) in
+        rw r at w
+    here g p ih false e = ih e
+
+    go : ((b : ℕ) → firstOf h s id (frames h s n b) ≡ At f → (f .start ≤ f .end) × (f .end ≤ length s)) → (r : Framed) → frameAt h at (drop at s) ≡ r
+        → firstOf h s id (onward (frames h s n) r) ≡ At f → (f .start ≤ f .end) × (f .end ≤ length s)
+    go ih (Whole g) p e = here g p (ih (g .end)) (sameBytes (idIn h s g) id) e
+    go ih Broken p e = let z : _≡_ {A = ℕ} 0 1 = cc in absurd (omega arith)
+
+pub place-inside : (s id : List ℕ) (f : Frame) → placeOf s id ≡ At f → (f .start ≤ f .end) × (f .end ≤ length s)
+unfolding placeBy
+place-inside s id f e = placed (headOf s) e
+  where
+    placed : (d : Head) → placeBy s id d ≡ At f → (f .start ≤ f .end) × (f .end ≤ length s)
+    placed (Good k) q = first-inside (k .h) s id (k .count) (k .from) f q
+    placed Bad q = let z : _≡_ {A = ℕ} 0 1 = cc in absurd (omega arith)

@@ -2,7 +2,7 @@
 ghost use mathlib.Core.Path.{_≡_};
 ghost use Prim.Native.Nat.{_+_, _≤_, _<_};
 ghost use lib.ListN.{length, take, drop};
-ghost use Rattle.frame.specs.Frame.{little, fieldsAt, headOf, frameAt};
+ghost use Rattle.frame.specs.Frame.{little, fieldsAt, byRules, headOf, frameAt};
 use ground::MOST_RECORDS;
 use scan::same_bytes;
 
@@ -43,21 +43,14 @@ pub enum Placed {
     Absent,
 }
 
-// A byte as a number.
-fn wide(x: u8) -> usize
-    ensures same { λ r. ⌜ r ≡ x ⌝ }
-    ensures small { λ r. ⌜ r < 256 ⌝ }
-{
-    x as usize
-}
-
 // The number that two bytes say, the lower first.
 fn two_at(s: &[u8], i: usize) -> usize
     requires { ⌜ i + 2 ≤ length (now s) ⌝ }
-    ensures { λ r. ⌜ r ≡ little (take 2 (drop i (now (s .entry)))) ⌝ }
+    ensures made { λ r. ⌜ r ≡ little (take 2 (drop i (now (s .entry)))) ⌝ }
+    ensures small { λ r. ⌜ r < 65536 ⌝ }
 {
-    let a = wide(s[i]);
-    let b = wide(s[i + 1]);
+    let a = s[i] as usize;
+    let b = s[i + 1] as usize;
     a + b * 256
 }
 
@@ -67,22 +60,17 @@ fn four_at(s: &[u8], i: usize) -> usize
     ensures made { λ r. ⌜ r ≡ little (take 4 (drop i (now (s .entry)))) ⌝ }
     ensures small { λ r. ⌜ r < 4294967296 ⌝ }
 {
-    let a = wide(s[i]);
-    let b = wide(s[i + 1]);
-    let c = wide(s[i + 2]);
-    let d = wide(s[i + 3]);
-    a + b * 256 + c * 65536 + d * 16777216
+    let low = two_at(s, i);
+    let high = two_at(s, i + 2);
+    low + high * 65536
 }
 
 // The header's last fields, from a place on: H and the number of objects.
 fn fields_at(s: &[u8], rules: u16, at: usize) -> Head
-    requires { ⌜ at ≤ length (now s) ⌝ }
+    requires { ⌜ at + 5 ≤ length (now s) ⌝ }
     ensures { λ r. ⌜ r ≡ fieldsAt rules at (now (s .entry)) ⌝ }
 {
-    if s.len() - at < 5 {
-        return Head::Bad;
-    }
-    let h = wide(s[at]);
+    let h = s[at] as usize;
     let count = four_at(s, at + 1);
     let from = at + 5;
     if MOST_RECORDS < count {
@@ -107,6 +95,23 @@ fn fields_at(s: &[u8], rules: u16, at: usize) -> Head
     Head::Bad
 }
 
+// The header of version 2, past the version: its rule set, and the last fields.
+fn ruled(s: &[u8]) -> Head
+    ensures { λ r. ⌜ r ≡ byRules (little (take 2 (drop 5 (now (s .entry))))) (now (s .entry)) ⌝ }
+{
+    if s.len() < 12 {
+        return Head::Bad;
+    }
+    let rules = two_at(s, 5);
+    if rules == 1 {
+        return fields_at(s, 1, 7);
+    }
+    if rules == 2 {
+        return fields_at(s, 2, 7);
+    }
+    Head::Bad
+}
+
 // What a bundle begins with: version 1, which means rule set 2, or version 2, which carries its rule set.
 pub fn read_header(s: &[u8]) -> Head
     ensures { λ r. ⌜ r ≡ headOf (now (s .entry)) ⌝ }
@@ -120,34 +125,19 @@ pub fn read_header(s: &[u8]) -> Head
             return fields_at(s, 2, 5);
         }
         if version == 2 {
-            let rules = two_at(s, 5);
-            if rules == 1 {
-                return fields_at(s, 1, 7);
-            }
-            if rules == 2 {
-                return fields_at(s, 2, 7);
-            }
+            return ruled(s);
         }
     }
     Head::Bad
 }
 
-// The object at a place: id, kind, length, bytes.
-pub fn frame_at(s: &[u8], h: usize, at: usize) -> Framed
+// The object at a place with room for its id, its kind and its length.
+fn frame_in(s: &[u8], h: usize, at: usize) -> Framed
+    requires { ⌜ at + h + 5 ≤ length (now s) ⌝ }
     ensures { λ r. ⌜ r ≡ frameAt h at (drop at (now (s .entry))) ⌝ }
 {
-    if s.len() < at {
-        return Framed::Broken;
-    }
-    let left = s.len() - at;
-    if left < h {
-        return Framed::Broken;
-    }
-    if left - h < 5 {
-        return Framed::Broken;
-    }
     let mark = at + h;
-    let kind = wide(s[mark]);
+    let kind = s[mark] as usize;
     if kind < 1 {
         return Framed::Broken;
     }
@@ -166,4 +156,20 @@ pub fn frame_at(s: &[u8], h: usize, at: usize) -> Framed
         start,
         end,
     })
+}
+
+// The object at a place: id, kind, length, bytes.
+pub fn frame_at(s: &[u8], h: usize, at: usize) -> Framed
+    ensures { λ r. ⌜ r ≡ frameAt h at (drop at (now (s .entry))) ⌝ }
+{
+    if s.len() < at {
+        return Framed::Broken;
+    }
+    if s.len() - at < h {
+        return Framed::Broken;
+    }
+    if s.len() - at - h < 5 {
+        return Framed::Broken;
+    }
+    frame_in(s, h, at)
 }

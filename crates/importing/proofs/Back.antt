@@ -1,20 +1,19 @@
--- The text of a sound listing is imported to the listing as written, so that export and then import give the same object. Assumes nothing.
+-- An object that was exported is a sound listing as written, and the text of a sound listing is imported to the listing as written. Assumes nothing.
 use Prim.Native.Nat.{ℕ, zero, suc, _+_, _-_, _<_, _≤_, max}
 use native.Mathlib.Omega.{arith}
 use mathlib.Core.Path.{_≡_, refl, ap, sym, _∙_}
 use mathlib.Core.Logic.{_⊎_, ⊎-elim}
 use mathlib.Core.Bool.{Bool, false}
 use mathlib.Core.List.{List, [], _∷_, _++_, List·Memᴰ, List·Memᴰ·head, List·Memᴰ·tail, List·Memᴰ·cases-cons, List·Memᴰ·not-nil}
-use lib.ListN.{length, take, drop, length-map}
-use lib.Seq.{take-at}
+use lib.ListN.{length, drop, length-map}
 use borrow.Author.Tests.{eq-eqb}
 use Rattle.ground.specs.Scan.{sameBytes}
-use Rattle.ground.specs.Verdict.{verdict, fine, counted, mostBytes, mostRecords, stored}
+use Rattle.ground.specs.Verdict.{verdict, fine, counted, mostBytes, mostRecords}
 use Rattle.ground.specs.declared.Verdict.{Verdict}
 use Rattle.ground.specs.declared.Answer.{Answer}
 use Rattle.ground.specs.declared.Gate.{Gate}
 use Rattle.ground.specs.declared.Gate.the-variants.{Open, Shut}
-use Rattle.ground.proofs.Laws.{is-false, same-true, id-small, gate-open, gate-fine, stored-done}
+use Rattle.ground.proofs.Laws.{is-false, same-true, id-small, gate-open, gate-fine}
 use Rattle.output.specs.Output.{fitted}
 use Rattle.output.proofs.Laws.{fitted-done, fitted-fine}
 use Rattle.mode.specs.Mode.{isTree}
@@ -42,9 +41,9 @@ use Rattle.tree_export.specs.Export.{textIn, countedIn, exportAnswer}
 use Rattle.tree_export.proofs.Laws.{export-shut, export-open, counted-length, counted-total}
 use Rattle.text_record.specs.Record.{textNumber, entryIn, sizeIn}
 use Rattle.text_import.specs.Import.{Texts, done, stop, one, readFrom, texts, entriesIn, ending}
-use Rattle.text_import.specs.Import.{isSame, compareSame, nameSame, anyBefore, repeated, orThen, importVerdict, imported, importAnswer, importOutput}
+use Rattle.text_import.specs.Import.{isSame, compareSame, nameSame, anyBefore, repeated, orThen, importVerdict, imported, importAnswer}
 use Rattle.text_import.proofs.Whole.{import-open, counted-fine}
-use Rattle.importing.specs.Back.{ExportRun, ImportRun, SameObject}
+use Rattle.importing.specs.Back.{ExportDone, ExportSays, SameObject}
 use Rattle.importing.proofs.Sorted.{Apart}
 use Rattle.importing.proofs.Record.{record-back, record-some}
 
@@ -192,11 +191,12 @@ record Exported (k h : ℕ) (s : List ℕ) (room : ℕ) : Type 0 where
   sound : SoundListing k h (entriesOf h s (recordsIn (listing h s)))
   object : s ≡ asWritten (entriesOf h s (recordsIn (listing h s)))
   few : length (entriesOf h s (recordsIn (listing h s))) ≤ mostRecords
-  size : exportAnswer k h s room .count ≡ length (textIn h s)
+  size : exportAnswer k h s room ≡ counted (length (textIn h s))
   fits : length (textIn h s) ≤ room
   bound : room ≤ mostBytes
 
-exported : (k h : ℕ) (s : List ℕ) (room : ℕ) → exportAnswer k h s room .verdict .number ≡ 0 → Exported k h s room
+exported : (k h : ℕ) (s : List ℕ) (room : ℕ) → ExportDone k h s room → Exported k h s room
+unfolding countedIn
 exported k h s room z = go (ruleGate k h (max (length s) room) 0) refl
   where
     go : (g : Gate) → ruleGate k h (max (length s) room) 0 ≡ g → Exported k h s room
@@ -219,7 +219,7 @@ exported k h s room z = go (ruleGate k h (max (length s) room) 0) refl
           sound = plainly k h (entriesOf h s (recordsIn (listing h s))) .1 (u .0);
           object = u .1;
           few = omega (arith, length-map (recordsIn (listing h s)) (entryOf h s), plain-few h mostRecords 0 s);
-          size = ap (λ (a : Answer). a .count) (o ∙ d .2) ∙ c;
+          size = o ∙ d .2 ∙ ap (countedIn h s) (t .1);
           fits = omega (arith, c, d .1);
           bound = omega (arith, b .1);
         }
@@ -240,28 +240,10 @@ module _ (k h : ℕ) (s : List ℕ) (room : ℕ) (f : Bytes s) (w : Exported k h
       ∙ ap (fitted back) (counted-fine (texts k h (textIn h s)) (ap (λ (x : Verdict). x .number) v) ∙ ap (λ (l : List ℕ). counted (length l)) same-bytes)
       ∙ fitted-fine back (counted (length s)) refl p
 
--- the answers of the runs and what they leave, by the definitions
-export-is : (k h : ℕ) (s out : List ℕ) (r : Answer) (after : List ℕ) → ExportRun k h s out r after
-    → (r ≡ exportAnswer k h s (length out)) × (after ≡ stored (exportAnswer k h s (length out) .verdict) (textIn h s) out)
-export-is k h s out r after c = rw (← c .first, ← c .second, ← c .third, ← c .fourth, ← c .left) (c .kept)
-
-import-is : (k h : ℕ) (s out : List ℕ) (r : Answer) (after : List ℕ) → ImportRun k h s out r after
-    → (r ≡ importAnswer k h s (length out)) × (after ≡ importOutput k h s out)
-import-is k h s out r after c = rw (← c .first, ← c .second, ← c .third, ← c .fourth, ← c .left) (c .kept)
+pub export-says : ExportSays
+export-says k h s room z =
+    let w = exported k h s room z in
+    (record { entries = entriesOf h s (recordsIn (listing h s)); sound = w .sound; object = w .object; records = refl }, w .size)
 
 pub same-object : SameObject
-same-object k h s out written lent after r q f x z y p l =
-    let e = export-is k h s out r written x in
-    let d : exportAnswer k h s (length out) .verdict .number ≡ 0 = sym (ap (λ (a : Answer). a .verdict .number) (e .0)) ∙ z in
-    let w = exported k h s (length out) d in
-    let n : r .count ≡ length (textIn h s) = ap (λ (a : Answer). a .count) (e .0) ∙ w .size in
-    let t : take (r .count) written ≡ textIn h s =
-    ap (take (r .count)) (e .1 ∙ stored-done (exportAnswer k h s (length out) .verdict) (textIn h s) out d)
-    ∙ take-at (textIn h s) (drop (length (textIn h s)) out) (r .count) (sym n) in
-    let i = import-is k h (take (r .count) written) lent q after y in
-    let a = same-answer k h s (length out) f w (length lent) p l in (
-      i .0 ∙ ap (λ (b : List ℕ). importAnswer k h b (length lent)) t ∙ a,
-      i .1 ∙ ap (λ (b : List ℕ). importOutput k h b lent) t
-          ∙ ap (λ (x : Answer). stored (x .verdict) (imported (texts k h (textIn h s))) lent) a
-          ∙ ap (λ (b : List ℕ). stored fine b lent) (same-bytes k h s (length out) f w) ∙ stored-done fine s lent refl,
-    )
+same-object k h s room back f z p q = let w = exported k h s room z in (same-answer k h s room f w back p q, same-bytes k h s room f w)

@@ -31,7 +31,7 @@ use Rattle.text_import.specs.Import.{Texts, stop, one, readFrom, texts, entries
 use Rattle.text_import.specs.Import.{compareSame, nameSame, repeated, orThen, importVerdict}
 use Rattle.importing.specs.Importing.{given, importedListing}
 use Rattle.importing.specs.Back.{SameText}
-use Rattle.importing.proofs.Theorem.{front-known, whole, importing}
+use Rattle.importing.proofs.Theorem.{front-known, whole}
 use Rattle.importing.proofs.Record.{front-read, joined}
 use Rattle.importing.proofs.Back.{ascends}
 
@@ -163,4 +163,4 @@ unfolding importedListing
 same-text k h s room d =
     let w = whole k h s room d in
     let l = text-laid k h (w .id) mostRecords 0 s (ending-fine (texts k h s) (w .fine)) in
-    (l, λ a. importing .exported k h s room d ∙ ap asText (sort-done standsBefore (given k h s) (ascends (given k h s) a)) ∙ sym l)
+    (l, λ a. l ∙ ap asText (sym (sort-done standsBefore (given k h s) (ascends (given k h s) a))))

@@ -14,20 +14,24 @@ use Rattle.ground.specs.Verdict.{counted, refused, mostBytes, mostRecords}
 use Rattle.ground.specs.declared.Answer.{Answer}
 use Rattle.ground.specs.declared.Gate.{Gate}
 use Rattle.ground.specs.declared.Gate.the-variants.{Open, Shut}
-use Rattle.ground.proofs.Laws.{same-refl, gate-open}
-use Rattle.output.proofs.Laws.{fitted-done}
+use Rattle.ground.proofs.Laws.{same-refl, gate-open, gate-fine}
+use Rattle.output.specs.Output.{fitted}
+use Rattle.output.proofs.Laws.{fitted-done, fitted-fine}
 use Rattle.mode_table.specs.Table.{rows}
 use Rattle.entry.specs.Record.{many}
 use Rattle.entry.specs.Entry.{asWritten, entriesOf}
 use Rattle.rules.specs.Rules.{modesOf, groupRow, isDotGit, gitRules, standsBefore}
 use Rattle.rules.specs.Gate.{ruleGate}
 use Rattle.rules.proofs.Laws.{permitted-parts, number-free, rule-known, rule-open}
-use Rattle.reading.specs.Listing.{Listing, recordsIn}
-use Rattle.strict.proofs.Laws.{strict-refuses}
+use Rattle.reading.specs.Listing.{Listing, recordsIn, tally}
+use Rattle.reading.specs.declared.Counted.{Counted}
+use Rattle.reading.specs.declared.Counted.the-variants.{Total}
+use Rattle.strict.specs.Strict.{strictly}
+use Rattle.strict.proofs.Laws.{strict-refuses, strict-plain}
 use Rattle.one_listing.specs.Sound.{Five, Sound, SoundEntry, EachSound, SoundListing}
 use Rattle.one_listing.specs.Demand.{Accepts}
-use Rattle.one_listing.proofs.Back.{read-written, names-listed}
-use Rattle.one_listing.proofs.Cutting.{sound-writable, sound-again}
+use Rattle.one_listing.proofs.Back.{listed}
+use Rattle.one_listing.proofs.Theorem.{listed-total, sound-listed}
 use Rattle.one_listing.proofs.Settling.{set-settles}
 use Rattle.one_listing.proofs.Present.{git-ok, plainly, git-one-listing}
 use Rattle.sorting.specs.Sort.{Perm}
@@ -37,7 +41,8 @@ use Rattle.mend_kept.proofs.Sorts.{name-free}
 use Rattle.id_of_hex.proofs.Laws.{bytes-length}
 use Rattle.tree_text.specs.Text.{frontText, asText}
 use Rattle.text_form.specs.Form.{begins, nameFrom}
-use Rattle.tree_export.specs.Export.{textIn}
+use Rattle.tree_export.specs.Export.{textIn, countedIn, exportAnswer}
+use Rattle.tree_export.proofs.Laws.{export-open}
 use Rattle.text_record.specs.Record.{frontMode, nameIn, idIn, textNumber, entryIn}
 use Rattle.text_record.proofs.Shape.{shape}
 use Rattle.text_import.specs.Import.{Texts, done, stop, one, texts, entriesIn, ending, compareSame, nameSame, repeated, importVerdict, imported, countedOf, importAnswer}
@@ -132,10 +137,11 @@ two-fine t = go (eqb (ending t .number) 0) refl (eqb (repeated 7 compareSame [] 
     go false p v q e = absurd (eqb-false (ending t .number) 0 p e)
 
 pub record Known (k h : ℕ) (s : List ℕ) (room : ℕ) : Type 0 where
+  pub set : (k ≡ 1) ⊎ (k ≡ 2)
   pub id : (h ≡ 20) ⊎ (h ≡ 32)
   bound : room ≤ mostBytes
   fits : length (imported (texts k h s)) ≤ room
-  count : importAnswer k h s room .count ≡ length (imported (texts k h s))
+  count : importAnswer k h s room ≡ counted (length (imported (texts k h s)))
   pub fine : importVerdict (texts k h s) .number ≡ 0
 
 pub whole : (k h : ℕ) (s : List ℕ) (room : ℕ) → Done k h s room → Known k h s room
@@ -148,14 +154,16 @@ whole k h s room d = go (ruleGate k h (max (length s) room) 0) refl
     go Open q =
         let o = import-open k h s room (max (length s) room) refl q in
         let f = fitted-done room (countedOf (texts k h s)) (sym (ap (λ (a : Answer). a .verdict .number) o) ∙ d) in
-        let b = gate-open h (max (length s) room) 0 (sym (rule-known k h (max (length s) room) 0 (rule-open k h (max (length s) room) 0 q)) ∙ q) in
+        let r = rule-open k h (max (length s) room) 0 q in
+        let b = gate-open h (max (length s) room) 0 (sym (rule-known k h (max (length s) room) 0 r) ∙ q) in
         let z = verdict-fine (texts k h s) (f .0) in
         let c = counted-fine (texts k h s) z in
         record {
+          set = r;
           id = b .0;
           bound = omega (arith, b .1);
           fits = omega (arith, f .1, ap (λ (a : Answer). a .count) c);
-          count = ap (λ (a : Answer). a .count) (o ∙ f .2 ∙ c);
+          count = o ∙ f .2 ∙ c;
           fine = z;
         }
 
@@ -189,19 +197,41 @@ module _ (k h : ℕ) (s : List ℕ) (room : ℕ) (d : Done k h s room) where
       let w = whole k h s room d in
       git-one-listing k h (imported (texts k h s)) lent (importedListing k h s) (w .id) (omega (arith, w .fits, w .bound)) m .1 (by-rules, l, written)
 
+  -- the strict reader, and so the plain one, reads the object as its listing
+  read-again : (strictly (gitRules k) h (asWritten (importedListing k h s)) ≡ listed 0 (importedListing k h s))
+      × (entriesOf h (asWritten (importedListing k h s)) (recordsIn (listed 0 (importedListing k h s))) ≡ importedListing k h s)
+  read-again = sound-listed (gitRules k) (git-ok k) h (importedListing k h s) by-rules few
+
+  total : tally 0 (strictly (gitRules k) h (imported (texts k h s))) ≡ Total (length (importedListing k h s))
+  total =
+      let z : 0 + length (importedListing k h s) ≡ length (importedListing k h s) = omega arith in
+      ap (λ (l : List ℕ). tally 0 (strictly (gitRules k) h l)) written ∙ ap (tally 0) (read-again .0) ∙ listed-total 0 0 (importedListing k h s) ∙ ap Total z
+
   out-again : textIn h (imported (texts k h s)) ≡ asText (importedListing k h s)
   out-again =
-      let a = sound-writable (gitRules k) (git-ok k) h [] (importedListing k h s) by-rules in
-      ap (textIn h) written
-      ∙ ap (λ (l : Listing). asText (entriesOf h (asWritten (importedListing k h s)) (recordsIn l))) (read-written h mostRecords 0 (importedListing k h s) a few)
-      ∙ ap asText (names-listed h [] (importedListing k h s) a ∙ sound-again (gitRules k) (git-ok k) h [] (importedListing k h s) by-rules)
+      let p = strict-plain (gitRules k) h (imported (texts k h s)) (length (importedListing k h s)) total in
+      ap (λ (l : Listing). asText (entriesOf h (imported (texts k h s)) (recordsIn l))) (sym p)
+      ∙ ap (λ (l : List ℕ). asText (entriesOf h l (recordsIn (strictly (gitRules k) h l)))) written
+      ∙ ap (λ (l : Listing). asText (entriesOf h (asWritten (importedListing k h s)) (recordsIn l))) (read-again .0) ∙ ap asText (read-again .1)
+
+  answer-again : (back : ℕ) → length (asText (importedListing k h s)) ≤ back → back ≤ mostBytes
+      → exportAnswer k h (imported (texts k h s)) back ≡ counted (length (asText (importedListing k h s)))
+  unfolding countedIn
+  answer-again back p q =
+      let w = whole k h s room d in
+      let o : List ℕ = imported (texts k h s) in
+      let g = rule-known k h (max (length (imported (texts k h s))) back) 0 (w .set)
+      ∙ gate-fine h (max (length (imported (texts k h s))) back) 0 (w .id) (omega (arith, w .fits, w .bound, q)) (omega arith) in
+      export-open k h (imported (texts k h s)) back (max (length (imported (texts k h s))) back) refl g
+      ∙ ap (λ (c : Counted). fitted back (countedIn h o c)) total ∙ ap (λ (l : List ℕ). fitted back (counted (length l))) out-again
+      ∙ fitted-fine back (counted (length (asText (importedListing k h s)))) refl p
 
 pub importing : Importing
 importing = record {
   says = λ k h s room d. (sound k h s room d, written k h s room d, perm k h s room d);
-  counts = λ k h s room d. let w = whole k h s room d in (w .count, w .fits);
+  counts = λ k h s room d. whole k h s room d .count;
   accepted = λ k h s room lent d l m. accepts k h s room d lent l m;
-  exported = λ k h s room d. out-again k h s room d;
+  exported = λ k h s room back d p q. (out-again k h s room d, answer-again k h s room d back p q);
   same-set = λ k h s t room space d e f.
       let p = perm k h s room d in
       let q = perm k h t space e in

@@ -26,7 +26,7 @@ use Rattle.component.specs.declared.Named.{Named}
 use Rattle.component.specs.declared.Named.the-variants.{Entry, NoEntry}
 use Rattle.component.proofs.Laws.{seen, first-named, first-within}
 use Rattle.path.specs.Path.{inObject, stepTo, onto, walkAlong, refusedWith, answered, followAlong, followIn, followFrom, follow}
-use Rattle.path.specs.declared.Followed.{Followed}
+use Rattle.path_walk.specs.declared.Followed.{Followed}
 use Rattle.isolation.proofs.Checked.{checked}
 use Rattle.isolation.specs.Isolation.{Meets, first, later, Lacks, Holds, Agree, neither, both, Called, Isolation}
 

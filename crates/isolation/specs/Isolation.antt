@@ -15,7 +15,7 @@ use Rattle.bundle.specs.Bundle.{Object, good, bundleOf, idsOf}
 use Rattle.component.specs.Component.{components}
 use Rattle.component.specs.Named.{there}
 use Rattle.path.specs.Path.{stepTo}
-use Rattle.path.specs.declared.Followed.{Followed}
+use Rattle.path_walk.specs.declared.Followed.{Followed}
 use Rattle.path.proofs.follow_path.Kinds as kinds
 use Rattle.path.proofs.follow_path.Reads as reads
 use Rattle.bundle.specs.declared.Checked.{Checked}

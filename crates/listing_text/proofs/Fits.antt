@@ -1,9 +1,9 @@
 -- How long a text can be: `text-fits`. Assumes nothing.
 use Prim.Native.Nat.{ℕ, zero, suc, _+_, _-_, _*_, _≤_}
 use native.Mathlib.Omega.{arith}
-use mathlib.Core.Path.{_≡_, refl, ap, _∙_}
+use mathlib.Core.Path.{_≡_, refl, ap}
 use mathlib.Core.Bool.{Bool, true, false}
-use mathlib.Core.List.{List, [], _∷_, _++_}
+use mathlib.Core.List.{List, [], _∷_}
 use lib.Dec.{leb}
 use lib.ListN.{length, drop, length-append, length-take, length-drop}
 use borrow.Author.Tests.{leb-true}
@@ -22,10 +22,9 @@ use Rattle.entry.proofs.Laws.{decode-parts}
 use Rattle.reading.specs.Listing.{follow, plain, listing, recordsIn, tally}
 use Rattle.reading.specs.declared.Counted.{Counted}
 use Rattle.reading.specs.declared.Counted.the-variants.{Total, Stopped}
-use Rattle.loose_header.specs.Header.{decimal}
 use Rattle.loose_header.proofs.Digits.{decimal-most}
 use Rattle.hex_of_id.proofs.Laws.{hex-length}
-use Rattle.listing_text.specs.Text.{space, lf, modeWords, line, lines, head, refusal, longest, toldOf, textOf, text}
+use Rattle.listing_text.specs.Text.{line, lines, head, refusal, longest, toldOf, textOf, text}
 use Rattle.listing_text.proofs.Laws.{mode-most, id-le}
 
 name-long : (s : List ℕ) (e : EntryRecord) → length (nameOf s e) ≤ e .«name_end» - e .«name_start»

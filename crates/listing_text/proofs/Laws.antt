@@ -12,7 +12,7 @@ use lib.ListN.{length, getD, take, drop, length-append, length-take, length-drop
 use lib.Seq.{sets, drop-cons, take-all, take-nil}
 use Rattle.ground.proofs.Laws.{sets-append, part-from}
 use Rattle.mode.specs.Mode.{kindOf}
-use Rattle.mode_text.specs.Write.{writeMode, modeText}
+use Rattle.mode_text.specs.Write.{modeText}
 use Rattle.mode.specs.Mode.{wordOf}
 use Rattle.mode_table.specs.Table.{writtenOf, rowAt, rows}
 use Rattle.mode_text.specs.Write.{shown}

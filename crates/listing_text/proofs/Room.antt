@@ -2,13 +2,12 @@
 use Prim.Native.Nat.{ℕ, zero, suc, _+_, _-_, _*_, _<_, _≤_}
 use native.Mathlib.Omega.{arith}
 use mathlib.Core.Path.{_≡_, refl, ap, sym, _∙_}
-use mathlib.Core.Bool.{Bool, true, false}
+use mathlib.Core.Bool.{true, false}
 use mathlib.Core.List.{List, [], _∷_, _++_}
-use lib.Dec.{leb}
 use lib.ListN.{length, take, drop, length-drop, length-take}
 use lib.Seq.{sets, length-take-le, take-append-seam}
 use borrow.Author.Tests.{le-leb, lt-leb}
-use Rattle.ground.specs.Verdict.{verdict, fine, counted, refused, gateOf, stored, idLength}
+use Rattle.ground.specs.Verdict.{verdict, fine, counted, gateOf, stored, idLength}
 use Rattle.ground.specs.declared.Verdict.{Verdict}
 use Rattle.ground.specs.declared.Answer.{Answer}
 use Rattle.ground.specs.declared.Gate.the-variants.{Open}

@@ -2,7 +2,7 @@
 use Prim.Native.Nat.{ℕ}
 use mathlib.Core.Path.{_≡_, refl}
 use mathlib.Core.List.{List, [], _∷_, _++_}
-use lib.ListN.{length, take, replicate}
+use lib.ListN.{take, replicate}
 use Rattle.ground.specs.Basics.{ascii}
 use Rattle.ground.specs.Verdict.{verdict, broken, idLength}
 use Rattle.mode.specs.Mode.{valueOf, sortOf, executes, kindOf}

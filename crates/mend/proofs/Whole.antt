@@ -1,24 +1,22 @@
 -- The whole of a mending: what the walks and sorts give together, and the answer. Assumes nothing.
-use Prim.Native.Nat.{ℕ, zero, suc, _+_, _-_, _*_, _/_, _<_, _≤_, max}
+use Prim.Native.Nat.{ℕ, suc, _+_, _<_, _≤_, max}
 use native.Mathlib.Omega.{arith}
 use mathlib.Core.Path.{_≡_, refl, ap, sym, _∙_}
 use mathlib.Core.Logic.{⊎-elim}
-use mathlib.Core.Bool.{Bool, true, false, false≢true}
+use mathlib.Core.Bool.{Bool, true, false}
 use mathlib.Core.List.{List, [], _∷_, _++_, map}
-use lib.Dec.{eqb, leb}
+use lib.Dec.{leb}
 use lib.ListN.{length, take, drop, replicate, length-append, length-drop, length-take, length-replicate}
 use lib.Seq.{sets, length-sets, take-append-seam, take-at}
-use borrow.Author.Tests.{le-leb, lt-leb, leb-true, leb-false}
+use borrow.Author.Tests.{le-leb, lt-leb, leb-true}
 use Rattle.ground.specs.Basics.{pick}
-use Rattle.ground.specs.Verdict.{verdict, fine, broken, isPart, counted, refused, mostBytes, mostRecords, gateOf, stored}
+use Rattle.ground.specs.Verdict.{verdict, fine, counted, refused, mostBytes, mostRecords, gateOf, stored}
 use Rattle.ground.specs.declared.Verdict.{Verdict}
 use Rattle.ground.specs.declared.Answer.{Answer}
-use Rattle.ground.specs.declared.Gate.{Gate}
 use Rattle.ground.specs.declared.Gate.the-variants.{Open, Shut}
 use Rattle.ground.proofs.Laws.{sets-front, stored-done, stored-refused, gate-open, gate-fine, gate-shut, id-small}
-use Rattle.entry.specs.Record.{many}
 use Rattle.entry.specs.declared.EntryRecord.{EntryRecord}
-use Rattle.reading.specs.Listing.{Listing, listing, tally, recordsIn}
+use Rattle.reading.specs.Listing.{listing, tally, recordsIn}
 use Rattle.reading.specs.Whole.{answerOf}
 use Rattle.reading.specs.Whole as reading
 use Rattle.reading.specs.declared.Counted.{Counted}
@@ -27,7 +25,7 @@ use Rattle.reading.proofs.Laws.{tally-length, tally-stops, plain-stops, plain-r
 use Rattle.keys.specs.Key.{keyAt, belowBy}
 use Rattle.sorting.specs.Sort.{sortBy}
 use Rattle.sorting.proofs.Sorted.{sort-length}
-use Rattle.mend.specs.Mend.{fatesFrom, fatesOf, keptFrom, keptOf, mended, namesAfter, notMended, inRoom, countedAnswer, answerBy, mendAnswer}
+use Rattle.mend.specs.Mend.{fatesFrom, fatesOf, keptOf, mended, namesAfter, notMended, inRoom, countedAnswer, answerBy, mendAnswer}
 use Rattle.mend_kept.specs.Code.{chosen, elementOf, elements, Known, codeFates, codeSize, allBytes}
 use Rattle.mend.specs.declared.Mended.{Mended}
 use Rattle.mend_kept.proofs.Fates.{reads-all, sorted-known, fates-are, kept-elements}

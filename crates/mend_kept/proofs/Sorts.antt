@@ -36,7 +36,7 @@ use Rattle.sorting.proofs.Sorted.{sort-perm}
 use Rattle.sorting.proofs.Repeats.{perm-mem}
 use Rattle.fate.specs.Fate.{staysMode, ownMode, ownText}
 use Rattle.mend_kept.specs.Kept.{among, fateIn, isKept, namesAfter, fatesFrom, keptFrom, keptOf, mendedEntry, mended}
-use Rattle.mend_kept.specs.Code.{elementOf, elements, keptSize, codeSize, codeFate, codeFates, keptBytes, bytesAt, allBytes}
+use Rattle.mend_kept.specs.Code.{elementOf, keptSize, codeSize, codeFate, codeFates, keptBytes, bytesAt, allBytes}
 use Rattle.mend_kept.proofs.Walk.{element-key, element-whole}
 use Rattle.mend_kept.proofs.Bytes.{kept-bytes, bytes-size}
 use Rattle.mend_kept.proofs.Fates.{Reads, reads-all, All, all-mem, keeps}

@@ -20,7 +20,7 @@ use Rattle.entry.specs.declared.EntryRecord.{EntryRecord}
 use Rattle.entry.specs.declared.Cursor.{Cursor}
 use Rattle.entry.specs.declared.Decoded.the-variants.{Whole}
 use Rattle.entry.proofs.Laws.{Parts, decode-inside, decode-parts}
-use Rattle.reading.specs.Listing.{done, entry, listing, recordsIn}
+use Rattle.reading.specs.Listing.{listing, recordsIn}
 use Rattle.reading.proofs.Laws.{restAt, rest-end, whole-here}
 use Rattle.strict.specs.Strict.{textOf}
 use Rattle.strict.proofs.Strictly.{decoded-within}

@@ -57,7 +57,8 @@ fate-zero : (s : List ℕ) (names : List (List ℕ)) (r : EntryRecord) (t n : Li
     → r .mode ≡ m → nameNumber n ≡ 0 → staysMode m ≡ true → among names n ≡ false → sameBytes t (ownText m) ≡ true → fateIn s names r ≡ 0
 unfolding fateIn
 fate-zero s names r t n m a b c z q f y =
-    let w : fateOf (nameNumber (nameOf s r)) (r .mode) (among names (nameOf s r)) (textOf s (r .«text_start») r) ≡ fateOf (nameNumber n) m (among names n) t = rw (a, b, c) refl in
+    let w : fateOf (nameNumber (nameOf s r)) (r .mode) (among names (nameOf s r)) (textOf s (r .«text_start») r) ≡ fateOf (nameNumber n) m (among names n) t =
+    rw (a, b, c) refl in
     w ∙ fate-kept (nameNumber n) m (among names n) t z q f ∙ rw y refl
 
 module _ (h : ℕ) (p r : List ℕ) (before : List Entry) (e : Entry) (s : sound.Permitted (gitRules 2) h before e) (each : SoundEntry 2 h e) where

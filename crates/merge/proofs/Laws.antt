@@ -1,10 +1,10 @@
 -- The next entry and the step, way by way: what the functions cite, and where a step leads. Assumes nothing.
-use Prim.Native.Nat.{ℕ, zero, suc, _+_, _-_, _≤_, _<_}
+use Prim.Native.Nat.{ℕ, _+_, _-_, _≤_, _<_}
 use mathlib.Core.Bool.{Bool, true, false}
 use mathlib.Core.Path.{_≡_, refl, ap, sym, subst, _∙_}
 use mathlib.Core.List.{List}
 use native.Mathlib.Omega.{arith}
-use borrow.Author.Tests.{eq-eqb, ne-eqb, le-leb, lt-leb, leb-true, eqb-true}
+use borrow.Author.Tests.{eq-eqb, ne-eqb, le-leb, lt-leb, leb-true}
 use lib.Dec.{eqb, leb}
 use lib.ListN.{length, drop, length-drop}
 use lib.Seq.{length-take-le}
@@ -21,7 +21,7 @@ use Rattle.entry.specs.declared.Cursor.{Cursor}
 use Rattle.entry.specs.declared.Decoded.{Decoded}
 use Rattle.entry.specs.declared.Decoded.the-variants.{Whole, Broken}
 use Rattle.entry.proofs.Laws.{decode-inside}
-use Rattle.merge.specs.Merge.{byOrder, bytesOf, Within, moved, aheadOf, aheadAt, EntryWithin, AheadWithin, noSide, sideOf, nameIn, idIn, changeOf, leftChange, rightChange, bothOf, mergeStep, stepAt, ChangeWithin, Leads, StepWithin}
+use Rattle.merge.specs.Merge.{byOrder, bytesOf, Within, moved, aheadOf, aheadAt, EntryWithin, AheadWithin, sideOf, nameIn, idIn, changeOf, leftChange, rightChange, bothOf, mergeStep, stepAt, ChangeWithin, Leads, StepWithin}
 use Rattle.merge.specs.declared.Rest.{Rest}
 use Rattle.merge.specs.declared.Ahead.{Ahead}
 use Rattle.merge.specs.declared.Ahead.the-variants.{End, Entry}

@@ -1,9 +1,9 @@
 -- Laws of the definitions of `mode`: what the proofs of its functions and of the layers above cite. Assumes nothing.
 use native.Mathlib.Omega.{arith}
-use Prim.Native.Nat.{ℕ, _+_, _/_, _%_, _<_, _≤_}
+use Prim.Native.Nat.{ℕ, _/_, _%_, _<_, _≤_}
 use mathlib.Core.Path.{_≡_, refl, ap, sym, _∙_}
 use mathlib.Core.Bool.{Bool, true, false, not, _||_, or-true, false≢true}
-use mathlib.Core.List.{List, [], _∷_, _++_}
+use mathlib.Core.List.{List, []}
 use lib.Bits.{bitAnd, and-high}
 use lib.Dec.{eqb}
 use lib.ListN.{length, getD, take, drop}
@@ -12,13 +12,13 @@ use Rattle.ground.specs.Verdict.{verdict, sizeGate}
 use Rattle.ground.specs.declared.Verdict.{Verdict}
 use Rattle.ground.specs.declared.Gate.the-variants.{Open, Shut}
 use Rattle.ground.proofs.Laws.{same-test}
-use Rattle.mode_text.specs.Read.{octalFrom, hasSix, textLen, settle, restAt, readText, readTextAt}
+use Rattle.mode_text.specs.Read.{octalFrom, textLen, settle, restAt, readText, readTextAt}
 use Rattle.mode_text.specs.Read as reads
 use Rattle.mode_text.specs.declared.TextRead.{TextRead}
 use Rattle.mode_text.specs.declared.TextRead.the-variants as text
-use Rattle.mode_text.specs.declared.Octal.the-variants.{Number, Other}
+use Rattle.mode_text.specs.declared.Octal.the-variants.{Number}
 use Rattle.mode_text.proofs.Laws as texts
-use Rattle.mode.specs.Mode.{topBits, valueOf, sortOf, executes, kindOf, accepted, rejected, fromNumber}
+use Rattle.mode.specs.Mode.{topBits, valueOf, executes, accepted, rejected, fromNumber}
 use Rattle.mode.specs.Read.{made, modeOf, readMode, moved, readModeAt, alone, modeAlone}
 use Rattle.mode.specs.declared.EntryMode.{EntryMode}
 use Rattle.mode.specs.declared.ModeRead.{ModeRead}

@@ -57,7 +57,7 @@ some-listing R h s lent n a =
 
 module _ (R : Rules) (ok : RulesOk R) where
   -- a sound listing as written is read to its end, and the records name it
-  sound-listed : (h : ℕ) (es : List Entry) → Sound R h [] es → length es ≤ mostRecords
+  pub sound-listed : (h : ℕ) (es : List Entry) → Sound R h [] es → length es ≤ mostRecords
       → (strictly R h (asWritten es) ≡ listed 0 es) × (entriesOf h (asWritten es) (recordsIn (listed 0 es)) ≡ es)
   sound-listed h es s few =
       let w = sound-writable R ok h [] es s in

@@ -22,7 +22,7 @@ use Rattle.bundle.specs.declared.Opening.the-variants.{Open, Shut}
 use Rattle.component.specs.Component.{components, isPath}
 use Rattle.component.specs.Named.{Found, there, nowhere}
 use Rattle.path.specs.Path.{walkAlong, refusedWith, answered, followAlong, followIn, followFrom, follow}
-use Rattle.path.specs.declared.Followed.{Followed}
+use Rattle.path_walk.specs.declared.Followed.{Followed}
 use Rattle.border_bundle.specs.Border.{noObject, objectAt, objectFrom, objectAsked, checkedNumbers, objectNumbers, followedNumbers}
 use Rattle.border_bundle.specs.declared.Object as asked
 use Rattle.call.specs.Call.{Fits, none, _and_}
@@ -130,5 +130,6 @@ of-bundles = record {
   bundle-questions =
       ((λ i. tt), (λ i o p. same)) and ((λ i. tt), (λ i o p. same)) and ((λ i. tt), (λ i o p. same)) and ((λ i. tt), (λ i o p. same))
       and ((λ i. tt), (λ i o p. same)) and ((λ i. tt), (λ i o p. same)) and ((λ i. tt), (λ i o p. same)) and ((λ i. tt), (λ i o p. same))
-      and ((λ i. tt), (λ i o p. same)) and ((λ i. tt), (λ i o p. same)) and ((λ i. tt), (λ i o p. same)) and none;
+      and ((λ i. tt), (λ i o p. same)) and ((λ i. tt), (λ i o p. same)) and ((λ i. tt), (λ i o p. same)) and ((λ i. tt), (λ i o p. same))
+      and none;
 }

@@ -21,7 +21,7 @@ use Rattle.seeking.specs.Index.{seekIn}
 use Rattle.opening.specs.Opening.{openBy, openPlaced, openCounted}
 use Rattle.opening.specs.declared.Opened.{Opened}
 use Rattle.item.specs.Items.{Stored, missing, object, readStrictly, treeOf, folderOf}
-use Rattle.walk.specs.Walk.{Out, nothing}
+use Rattle.walk.specs.Walk.{Out}
 use Rattle.walk.specs.Lent.{pathsOf, fitted}
 use Rattle.walk.specs.Code.{folderAt, foldersIn, walkIn}
 use Rattle.difference.specs.Whole.{storeOf, foldersOf, differences, rootsOf, walked, gated, found, answer}

@@ -15,3 +15,4 @@ pub mod Rewriting
 pub mod Many
 pub mod Editing
 pub mod Mended
+pub mod Exchange

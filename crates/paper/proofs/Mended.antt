@@ -37,7 +37,7 @@ use Rattle.tree_calls.proofs.Placed.{placed-stops, plain-placed}
 use Rattle.demands.proofs.Demand3.{third-demand}
 
 -- what was stored, taken back
-taken : (v : Verdict) (l lent after : List ℕ) (n : ℕ) → v .number ≡ 0 → n ≡ length l → after ≡ stored v l lent → take n after ≡ l
+pub taken : (v : Verdict) (l lent after : List ℕ) (n : ℕ) → v .number ≡ 0 → n ≡ length l → after ≡ stored v l lent → take n after ≡ l
 taken v l lent after n z e q =
     ap (take n) q ∙ ap (λ (k : ℕ). take k (stored v l lent)) e ∙ ap (take (length l)) (stored-done v l lent z) ∙ take-append-seam l (drop (length l) lent)
 
@@ -46,7 +46,7 @@ same-mended : {h k : ℕ} {s t : List ℕ} → h ≡ k → s ≡ t → mended h 
 same-mended p q = cc
 
 -- so does what the strict reader accepts
-same-accepts : (k l h i : ℕ) (s t lent : List ℕ) (es : List Entry) → k ≡ l → h ≡ i → s ≡ t → Accepts (gitRules k) h s lent es → Accepts (gitRules l) i t lent es
+pub same-accepts : (k l h i : ℕ) (s t lent : List ℕ) (es : List Entry) → k ≡ l → h ≡ i → s ≡ t → Accepts (gitRules k) h s lent es → Accepts (gitRules l) i t lent es
 same-accepts k l h i s t lent es p q r a =
     subst (λ (x : List ℕ). Accepts (gitRules l) i x lent es) r
     (subst (λ (x : ℕ). Accepts (gitRules l) x s lent es) q (subst (λ (x : ℕ). Accepts (gitRules x) h s lent es) p a))

@@ -58,10 +58,13 @@ pub of-leaves : OfLeaves
 of-leaves = record {
   piece-questions =
       ((λ i. tt), (λ i o p. same)) and ((λ i. tt), (λ i o p. same)) and ((λ i. tt), (λ i o p. same)) and ((λ i. tt), (λ i o p. same)) and
-      ((λ i. tt), (λ i o p. same)) and ((λ i. tt), (λ i o p. same)) and ((λ i. tt), (λ i o p. same)) and
+      ((λ i. tt), (λ i o p. same)) and ((λ i. tt), (λ i o p. same)) and ((λ i. tt), (λ i o p. same)) and ((λ i. tt), (λ i o p. same)) and
+      ((λ i. tt), (λ i o p. same)) and ((λ i. tt), (λ i o p. same)) and
       (λ i. tt, λ i o p m n. ap (λ (c : Check). c .marks) (m ∙ sym n)) and (λ i. tt, λ i o p m n. ap (λ (c : Check). c .marks) (m ∙ sym n)) and
+      (λ i. tt, λ i o p m n. ap (λ (c : Check). c .marks) (m ∙ sym n)) and
       ((λ i. tt), (λ i o p. same)) and ((λ i. tt), (λ i o p. same)) and ((λ i. tt), (λ i o p. same)) and
-      ((λ i. tt), (λ i o p. firsts)) and ((λ i. tt), (λ i o p. firsts)) and ((λ i. tt), (λ i o p. firsts)) and none;
+      ((λ i. tt), (λ i o p. firsts)) and ((λ i. tt), (λ i o p. firsts)) and ((λ i. tt), (λ i o p. firsts)) and ((λ i. tt), (λ i o p. firsts)) and
+      ((λ i. tt), (λ i o p. firsts)) and none;
   word-questions =
       ((λ i. tt), (λ i o p. same)) and ((λ i. tt), (λ i o p. same)) and ((λ i. tt), (λ i o p. same)) and ((λ i. tt), (λ i o p. same)) and
       ((λ i. tt), (λ i o p. same)) and none;

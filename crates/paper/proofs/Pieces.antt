@@ -30,7 +30,8 @@ use Rattle.arriving.proofs.Theorem.{piece-laws}
 use Rattle.border.specs.Border.{answerNumbers}
 use Rattle.piece_state.specs.State.{marksNumbers, marksSaid}
 use Rattle.piece_state.proofs.Each.{Settles, two, three, five, six, seven, sixteen, seventeen, eighteen, each-fed}
-use Rattle.border_pieces.specs.Border.{stateOf, fedOf, fedNumbers, endSaid}
+use Rattle.border_check.specs.End.{endSaid}
+use Rattle.border_pieces.specs.Border.{stateOf, fedOf, fedNumbers}
 use Rattle.border_pieces.proofs.Flat.{begun-is, fed-is}
 use Rattle.call.specs.Call.{Input, TakesAll, Run, Said, Deed, Refusal, Fits, _and_, none}
 use Rattle.call.specs.Deeds.{ofAnswer}

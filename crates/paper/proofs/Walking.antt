@@ -11,7 +11,7 @@ use Rattle.order.specs.declared.Order.the-variants.{Below, Same, Above}
 use Rattle.bundle.specs.declared.Opening.the-variants as opening
 use Rattle.merge.specs.Merge.{byOrder}
 use Rattle.item.specs.Items.{Side, Named, isFolder, Folder, shut, holds, sameSide}
-use Rattle.walk.specs.Walk.{Lower, Out, nothing, put, andThen, change, both, rights, against, compareEntries, opened, compareFolders}
+use Rattle.walk.specs.Walk.{Lower, Out, put, andThen, change, both, rights, against, compareEntries, opened, compareFolders}
 use Rattle.call.proofs.Laws.{each-pick}
 
 -- a folder that opens, or is shut with such a verdict

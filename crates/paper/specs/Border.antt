@@ -20,6 +20,7 @@ use Rattle.border_tree_write.proofs as btw
 use Rattle.border_commit.proofs as bc
 use Rattle.border_commit_write.proofs as bcw
 use Rattle.border_bundle.proofs as bb
+use Rattle.border_check.proofs as bcheck
 use Rattle.border_pieces.proofs as bp
 use Rattle.sarpukten.proofs as c
 use Rattle.call.specs.Call.{Call, call, Said, Deed}
@@ -257,7 +258,7 @@ behind =
     ∷ call be.remove_from_tree.Kinds.ps be.remove_from_tree.Kinds.r be.remove_from_tree.Reads.Asked be.remove_from_tree.Reads.Post
     ∷ call bmd.mend_tree.Kinds.ps bmd.mend_tree.Kinds.r bmd.mend_tree.Reads.Asked bmd.mend_tree.Reads.Post
     ∷ call bd.compare_trees.Kinds.ps bd.compare_trees.Kinds.r bd.compare_trees.Reads.Asked bd.compare_trees.Reads.Post
-    ∷ call bp.check_start.Kinds.ps bp.check_start.Kinds.r bp.check_start.Reads.Asked bp.check_start.Reads.Post
+    ∷ call bcheck.check_start.Kinds.ps bcheck.check_start.Kinds.r bcheck.check_start.Reads.Asked bcheck.check_start.Reads.Post
     ∷ call bp.check_piece.Kinds.ps bp.check_piece.Kinds.r bp.check_piece.Reads.Asked bp.check_piece.Reads.Post
-    ∷ call bp.check_end.Kinds.ps bp.check_end.Kinds.r bp.check_end.Reads.Asked bp.check_end.Reads.Post
+    ∷ call bcheck.check_end.Kinds.ps bcheck.check_end.Kinds.r bcheck.check_end.Reads.Asked bcheck.check_end.Reads.Post
     ∷ []

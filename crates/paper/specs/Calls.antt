@@ -33,6 +33,11 @@ use Rattle.difference.proofs as difference
 use Rattle.words.proofs as words
 use Rattle.piece_judge.proofs as pieceJudge
 use Rattle.piece_marks.proofs as pieceMarks
+use Rattle.piece_head.proofs as pieceHead
+use Rattle.piece_first.proofs as pieceFirst
+use Rattle.piece_letter.proofs as pieceLetter
+use Rattle.piece_close.proofs as pieceClose
+use Rattle.piece_place.proofs as piecePlace
 use Rattle.piece_seen.proofs as pieceSeen
 use Rattle.piece_between.proofs as pieceBetween
 use Rattle.piece_name.proofs as pieceName
@@ -56,7 +61,7 @@ use Rattle.tree_import.proofs as import
 use Rattle.bundle.specs.declared.Opening.{Opening}
 use Rattle.bundle.specs.declared.Opening.the-variants as opening
 use Rattle.bundle.specs.declared.Checked.{Checked}
-use Rattle.path.specs.declared.Followed.{Followed}
+use Rattle.path_walk.specs.declared.Followed.{Followed}
 use Rattle.keys.proofs as keys
 use Rattle.sorting.proofs as sorting
 use Rattle.frame.proofs as frame
@@ -66,6 +71,7 @@ use Rattle.twice.proofs as twice
 use Rattle.framed.proofs as framed
 use Rattle.bundle.proofs as bundle
 use Rattle.path_step.proofs as pathStep
+use Rattle.path_walk.proofs as pathWalk
 use Rattle.component.proofs as component
 use Rattle.path.proofs as path
 use Rattle.border_bundle.specs.declared.Object.{Object}
@@ -312,7 +318,11 @@ pieceQuestions =
     ∷ call pieceMarks.placed_at.Kinds.ps pieceMarks.placed_at.Kinds.r pieceMarks.placed_at.Reads.Asked pieceMarks.placed_at.Reads.Post
     ∷ call pieceMarks.is_full.Kinds.ps pieceMarks.is_full.Kinds.r pieceMarks.is_full.Reads.Asked pieceMarks.is_full.Reads.Post
     ∷ call pieceMarks.over.Kinds.ps pieceMarks.over.Kinds.r pieceMarks.over.Reads.Asked pieceMarks.over.Reads.Post
+    ∷ call pieceHead.head_byte.Kinds.ps pieceHead.head_byte.Kinds.r pieceHead.head_byte.Reads.Asked pieceHead.head_byte.Reads.Post
+    ∷ call pieceLetter.letter.Kinds.ps pieceLetter.letter.Kinds.r pieceLetter.letter.Reads.Asked pieceLetter.letter.Reads.Post
+    ∷ call pieceClose.refused.Kinds.ps pieceClose.refused.Kinds.r pieceClose.refused.Reads.Asked pieceClose.refused.Reads.Post
     ∷ call pieceBody.body_within.Kinds.ps pieceBody.body_within.Kinds.r pieceBody.body_within.Reads.Asked pieceBody.body_within.Reads.Post
+    ∷ call pieceFirst.first_byte.Kinds.ps pieceFirst.first_byte.Kinds.r pieceFirst.first_byte.Reads.Asked pieceFirst.first_byte.Reads.Post
     ∷ call pieceStep.step.Kinds.ps pieceStep.step.Kinds.r pieceStep.step.Reads.Asked pieceStep.step.Reads.Post
     ∷ call pieceSeen.seen_at.Kinds.ps pieceSeen.seen_at.Kinds.r pieceSeen.seen_at.Reads.Asked pieceSeen.seen_at.Reads.Post
     ∷ call pieceBetween.is_between.Kinds.ps pieceBetween.is_between.Kinds.r pieceBetween.is_between.Reads.Asked pieceBetween.is_between.Reads.Post
@@ -320,6 +330,8 @@ pieceQuestions =
     ∷ call pieceName.name_some.Kinds.ps pieceName.name_some.Kinds.r pieceName.name_some.Reads.Asked pieceName.name_some.Reads.Post
     ∷ call pieceSome.some.Kinds.ps pieceSome.some.Kinds.r pieceSome.some.Reads.Asked pieceSome.some.Reads.Post
     ∷ call pieceRun.all_entries.Kinds.ps pieceRun.all_entries.Kinds.r pieceRun.all_entries.Reads.Asked pieceRun.all_entries.Reads.Post
+    ∷ call pieceClose.close_entry.Kinds.ps pieceClose.close_entry.Kinds.r pieceClose.close_entry.Reads.Asked pieceClose.close_entry.Reads.Post
+    ∷ call piecePlace.place.Kinds.ps piecePlace.place.Kinds.r piecePlace.place.Reads.Asked piecePlace.place.Reads.Post
     ∷ []
 
 abbrev pub wordQuestions : List Call
@@ -379,4 +391,5 @@ bundleQuestions =
     ∷ call component.is_path.Kinds.ps component.is_path.Kinds.r component.is_path.Reads.Asked component.is_path.Reads.Post
     ∷ call component.find_entry.Kinds.ps component.find_entry.Kinds.r component.find_entry.Reads.Asked component.find_entry.Reads.Post
     ∷ call pathStep.step_to.Kinds.ps pathStep.step_to.Kinds.r pathStep.step_to.Reads.Asked pathStep.step_to.Reads.Post
+    ∷ call pathWalk.walk_path.Kinds.ps pathWalk.walk_path.Kinds.r pathWalk.walk_path.Reads.Asked pathWalk.walk_path.Reads.Post
     ∷ []

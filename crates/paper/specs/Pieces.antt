@@ -9,6 +9,7 @@ use Rattle.arriving.specs.Claims.{joined, Rooms}
 use Rattle.arriving.specs.declared.Marks.{Marks}
 use Rattle.border.specs.Border.{answerNumbers}
 use Rattle.piece_state.proofs as state
+use Rattle.piece_said.proofs as pieceSaid
 use Rattle.sarpukten.proofs as c
 use Rattle.call.specs.Call.{Call, call, Input, Outcome, Meets, TakesAll, Run, Said, Deed, Refusal, Fits, EachOnce, Keeps}
 use Rattle.call.specs.Deeds.{ofAnswer, reads, stores}
@@ -57,7 +58,7 @@ finishState i = ofMarks (i .args .0)
 
 -- the marks that numbers say, and the numbers of marks
 abbrev pub saidMarks : Call
-saidMarks = call state.marks_said.Kinds.ps state.marks_said.Kinds.r state.marks_said.Reads.Asked state.marks_said.Reads.Post
+saidMarks = call pieceSaid.marks_said.Kinds.ps pieceSaid.marks_said.Kinds.r pieceSaid.marks_said.Reads.Asked pieceSaid.marks_said.Reads.Post
 
 abbrev pub storeMarks : Deed
 storeMarks =

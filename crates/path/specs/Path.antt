@@ -12,7 +12,7 @@ use Rattle.twice.specs.Ids.{repeats}
 use Rattle.bundle.specs.Bundle.{Object, Bundle, good, bad, bundleOf, idsOf, Sought, present, absent, objectWith}
 use Rattle.component.specs.Component.{components, isPath}
 use Rattle.component.specs.Named.{Found, there, nowhere, entriesRead, firstNamed}
-use Rattle.path.specs.declared.Followed.{Followed}
+use Rattle.path_walk.specs.declared.Followed.{Followed}
 
 -- a name sought in an object: a missing object or one that is no tree has no entries
 unfoldable pub inObject : ℕ → List ℕ → Sought → Found

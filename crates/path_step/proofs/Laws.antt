@@ -12,7 +12,7 @@ use Rattle.frame.specs.Place.{placeOf}
 use Rattle.frame.specs.declared.Frame.{Frame}
 use Rattle.frame.specs.declared.Placed.{Placed}
 use Rattle.frame.specs.declared.Placed.the-variants as placed
-use Rattle.bundle.proofs.Objects.{place-inside}
+use Rattle.frame.proofs.Laws.{place-inside}
 use Rattle.component.specs.declared.Named.{Named}
 use Rattle.component.specs.declared.Named.the-variants.{Entry, NoEntry}
 use Rattle.component.proofs.Laws.{first-within}

@@ -4,13 +4,13 @@ use mathlib.Core.Bool.{true, false}
 use mathlib.Core.List.{List}
 use lib.Dec.{eqb, ltb}
 use lib.ListN.{take}
-use lib.Seq.{sets}
 use Rattle.ground.specs.Basics.{pick, part}
 use Rattle.ground.specs.Verdict.{mostRecords}
 use Rattle.doubles.specs.Stack.{placeOf, marksOf}
 use Rattle.doubles.specs.declared.Placed.{Placed}
 use Rattle.doubles.specs.declared.Placed.the-variants.{Fine, NotAfter, Double}
 use Rattle.arriving.specs.Feed.{mostHeld}
+use Rattle.piece_place.specs.Place.{heldAfter}
 use Rattle.piece_seen.specs.Whole.{seenAt}
 use Rattle.piece_seen.specs.declared.Seen.{Seen}
 use Rattle.piece_run.specs.declared.Run.{Run}
@@ -23,12 +23,6 @@ pub record Going : Type 0 where
 
 abbrev pub going : Run → List ℕ → List ℕ → Going
 going r held ends = record { run = r; held = held; ends = ends }
-
--- the held name after a name was placed: that name, unless it stands below
-abbrev pub heldAfter : Placed → List ℕ → List ℕ → List ℕ
-heldAfter (Fine n) held name = sets held 0 name
-heldAfter NotAfter held name = held
-heldAfter Double held name = sets held 0 name
 
 -- the run after an entry was placed that is seen at its place
 abbrev pub runAfter : Run → ℕ → Seen → Placed → Run

@@ -1,21 +1,15 @@
 // Whole entries of a piece, one after the other (docs/FORMAT.md, "A check in pieces").
 ghost use mathlib.Core.Path.{_≡_};
 ghost use Prim.Native.Nat.{_≤_, _<_};
-ghost use lib.ListN.{length, take};
 ghost use Rattle.ground.specs.Verdict.{mostRecords};
-ghost use Rattle.doubles.specs.Stack.{placeOf, marksOf};
 ghost use Rattle.arriving.specs.Feed.{mostHeld};
-ghost use Rattle.piece_run.specs.Runs.{going, heldAfter, oneMore, allOf};
+ghost use Rattle.piece_run.specs.Runs.{going, oneMore, allOf};
 use arriving::Last;
 use arriving::MOST_HELD;
 use doubles::Placed;
-use doubles::open_entry;
 use ground::MOST_RECORDS;
-use order::Order;
-use order::by_next;
-use output::put;
+use piece_place::place;
 use piece_seen::seen_at;
-use scan::common_start;
 
 // Whole entries of a piece, one after the other: the place behind them, how many entries are finished, the last of them, how many names are
 // open, and whether the name of the entry at the place was there before.
@@ -25,34 +19,6 @@ pub struct Run {
     pub last: Last,
     pub ended: usize,
     pub double: bool,
-}
-
-// A name after the one before, which it takes the place of unless it stands below.
-fn place(
-    held: &mut [u8],
-    ends: &mut [u32],
-    last: Last,
-    ended: usize,
-    name: &[u8],
-    folder: bool,
-) -> Placed
-    requires { ⌜ last .size ≤ length (now held) ⌝ }
-    ensures placed { λ r. ⌜ r ≡ placeOf (now (ends .entry)) ended (take (last .size) (now (held .entry))) (last .folder) (now (name .entry)) folder ⌝ }
-    ensures ends { λ r. ⌜ now (ends .exit)
-        ≡ marksOf (now (ends .entry)) ended (take (last .size) (now (held .entry))) (last .folder) (now (name .entry)) folder ⌝ }
-    ensures held { λ r. ⌜ now (held .exit) ≡ heldAfter r (now (held .entry)) (now (name .entry)) ⌝ }
-{
-    let size = last.size;
-    let shared = common_start(&held[..size], name);
-    match by_next(&held[..size], last.folder, name, folder, shared) {
-        Order::Below => {
-            let r = open_entry(ends, ended, shared, size, last.folder, name.len(), folder);
-            put(held, 0, name);
-            r
-        }
-        Order::Same => Placed::NotAfter,
-        Order::Above => Placed::NotAfter,
-    }
 }
 
 // One whole entry more, if there is one.

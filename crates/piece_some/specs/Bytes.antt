@@ -32,11 +32,14 @@ namePart m l i line = takenAt m i (line .size - l .size) (m .head) (Name line)
 abbrev pub idSome : Marks → Line → ℕ → ℕ → ℕ → Taken
 idSome m l left i n = takenAt m i n (m .head) (Id l (left - n))
 
+abbrev pub headIn : Marks → ℕ → List ℕ → ℕ → ℕ → Taken
+headIn m k s i most =
+    pick (eqb k 0 && leb mostRecords (m .count)) (upTo m i) (pick (leb 7 k) (upTo m i) (headSome m k s i (min (7 - k) most)))
+
 -- where an entry is in a phase and so many bytes may be taken: of its first bytes the eighth is not among them, and none where it is one too many;
 -- of its id the last is not among them
 abbrev pub someIn : List ℕ → Marks → List ℕ → ℕ → ℕ → Phase → Taken
-someIn held m s i most (Head k) =
-    pick (eqb k 0 && leb mostRecords (m .count)) (upTo m i) (pick (leb 7 k) (upTo m i) (headSome m k s i (min (7 - k) most)))
+someIn held m s i most (Head k) = headIn m k s i most
 someIn held m s i most (Name l) = namePart m l i (nameSome held (m .last) l (part i (i + most) s))
 someIn held m s i most (Id l left) = idSome m l left i (min (left - 1) most)
 

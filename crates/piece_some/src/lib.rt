@@ -7,7 +7,7 @@ ghost use lib.Seq.{sets};
 ghost use Rattle.ground.specs.Basics.{part};
 ghost use Rattle.ground.specs.Verdict.{mostBytes};
 ghost use Rattle.piece_name.specs.Names.{nameMore, nameSome};
-ghost use Rattle.piece_some.specs.Bytes.{headSome, namePart, idSome, someIn, heldIn, someOf, someHeld};
+ghost use Rattle.piece_some.specs.Bytes.{headSome, headIn, namePart, idSome, someIn, heldIn, someOf, someHeld};
 use arriving::Line;
 use arriving::Marks;
 use arriving::Phase;
@@ -47,6 +47,21 @@ fn head_some(m: Marks, k: usize, piece: &[u8], i: usize, n: usize) -> Taken
     Taken { marks, next }
 }
 
+// Of an entry's first bytes so many at most: not the eighth, and none where the entry is one too many.
+fn head_in(m: Marks, k: usize, piece: &[u8], i: usize, most: usize) -> Taken
+    requires { ⌜ (i + most ≤ length (now piece)) × (m .at + most ≤ mostBytes) ⌝ }
+    ensures { λ r. ⌜ r ≡ headIn m k (now (piece .entry)) i most ⌝ }
+{
+    if is_full(k, m.count) {
+        return Taken { marks: m, next: i };
+    }
+    if 7 <= k {
+        return Taken { marks: m, next: i };
+    }
+    let n = shorter(7 - k, most);
+    head_some(m, k, piece, i, n)
+}
+
 // The bytes of a name among so many.
 fn name_part(held: &mut [u8; 4096], m: Marks, l: Line, piece: &[u8], i: usize, most: usize) -> Taken
     requires { ⌜ (i + most ≤ length (now piece)) × (m .at + most ≤ mostBytes) ⌝ }
@@ -63,11 +78,12 @@ fn name_part(held: &mut [u8; 4096], m: Marks, l: Line, piece: &[u8], i: usize, m
     Taken { marks, next }
 }
 
-// So many bytes of an id.
-fn id_some(m: Marks, l: Line, left: usize, i: usize, n: usize) -> Taken
-    requires { ⌜ (m .at + n ≤ mostBytes) × (i + n < 9223372036854775808) × (n ≤ left) ⌝ }
-    ensures { λ r. ⌜ r ≡ idSome m l left i n ⌝ }
+// Of an id so many bytes at most, and not the last.
+fn id_some(m: Marks, l: Line, left: usize, i: usize, most: usize) -> Taken
+    requires { ⌜ (m .at + most ≤ mostBytes) × (i + most < 9223372036854775808) ⌝ }
+    ensures { λ r. ⌜ r ≡ idSome m l left i (min (left - 1) most) ⌝ }
 {
+    let n = shorter(one_less(left), most);
     let head = m.head;
     let marks = placed_at(m, m.at + n, head, Phase::Id(l, left - n));
     let next = i + n;
@@ -82,21 +98,9 @@ fn some_in(held: &mut [u8; 4096], m: Marks, piece: &[u8], i: usize, most: usize)
 {
     let phase = m.phase;
     match phase {
-        Phase::Head(k) => {
-            if is_full(k, m.count) {
-                return Taken { marks: m, next: i };
-            }
-            if 7 <= k {
-                return Taken { marks: m, next: i };
-            }
-            let n = shorter(7 - k, most);
-            head_some(m, k, piece, i, n)
-        }
+        Phase::Head(k) => head_in(m, k, piece, i, most),
         Phase::Name(l) => name_part(held, m, l, piece, i, most),
-        Phase::Id(l, left) => {
-            let n = shorter(one_less(left), most);
-            id_some(m, l, left, i, n)
-        }
+        Phase::Id(l, left) => id_some(m, l, left, i, most),
     }
 }
 

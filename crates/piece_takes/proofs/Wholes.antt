@@ -43,7 +43,8 @@ use Rattle.arriving.proofs.Laws.{feed-turn, feed-end}
 use Rattle.piece_seen.specs.Whole.{seenAt}
 use Rattle.piece_seen.specs.declared.Seen.{Seen}
 use Rattle.piece_seen.proofs.Whole.{Lies, lies, code-fits}
-use Rattle.piece_run.specs.Runs.{Going, going, heldAfter, runAfter, placedIn, openIn, oneMore, allFrom, allOf}
+use Rattle.piece_place.specs.Place.{heldAfter}
+use Rattle.piece_run.specs.Runs.{Going, going, runAfter, placedIn, openIn, oneMore, allFrom, allOf}
 use Rattle.piece_run.specs.declared.Run.{Run}
 use Rattle.piece_run.proofs.Runs.{Are, one-counts, all-begin}
 use Rattle.piece_between.specs.Between.{headAfter, ranOf}

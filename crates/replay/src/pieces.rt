@@ -45,7 +45,7 @@ pub fn check_in_pieces(s: &[u8], g: &[usize]) -> [usize; ANSWERS] {
     let mut marks = [0usize; 18];
     let mut first = [0u8; 8];
     let mut t = [0usize; 4];
-    border_pieces::check_start(h(g), rules(g), &mut marks, &mut first);
+    border_check::check_start(h(g), rules(g), &mut marks, &mut first);
     feed(
         a(s, g),
         given(g, ROOMS + 2),
@@ -54,6 +54,6 @@ pub fn check_in_pieces(s: &[u8], g: &[usize]) -> [usize; ANSWERS] {
         &mut marks,
         &mut first,
     );
-    border_pieces::check_end(&marks, &first, &mut t);
+    border_check::check_end(&marks, &first, &mut t);
     four(t)
 }

@@ -35,7 +35,8 @@ ghost use Rattle.edit.specs.Edit.{putOutput, removeOutput};
 ghost use Rattle.border_edit.specs.Border.{putAnswered, removeAnswered};
 ghost use Rattle.arriving.specs.Feed.{startOf};
 ghost use Rattle.piece_state.specs.State.{marksNumbers};
-ghost use Rattle.border_pieces.specs.Border.{fedOf, fedNumbers, endSaid};
+ghost use Rattle.border_check.specs.End.{endSaid};
+ghost use Rattle.border_pieces.specs.Border.{fedOf, fedNumbers};
 
 // A mode text that stands alone.
 #[no_mangle]
@@ -498,7 +499,7 @@ pub extern "C" fn sarpukten_check_start(
     ensures { λ _. ⌜ now (marks .exit) ≡ marksNumbers (startOf h rules) ⌝ }
     ensures { λ _. ⌜ now (first .exit) ≡ startOf h rules .head ⌝ }
 {
-    border_pieces::check_start(h, rules, marks, first)
+    border_check::check_start(h, rules, marks, first)
 }
 
 // A piece more of it.
@@ -531,5 +532,5 @@ pub extern "C" fn sarpukten_check_end(
     ensures { λ r. ⌜ r ≡ endSaid (now (marks .entry)) (now (first .entry)) .verdict .number ⌝ }
     ensures { λ _. ⌜ now (answer .exit) ≡ answerNumbers (endSaid (now (marks .entry)) (now (first .entry))) ⌝ }
 {
-    border_pieces::check_end(marks, first, answer)
+    border_check::check_end(marks, first, answer)
 }

@@ -18,10 +18,8 @@ use Rattle.frame.specs.declared.Framed.{Framed}
 use Rattle.frame.specs.declared.Framed.the-variants.{Whole, Broken}
 use Rattle.frame.specs.declared.Placed.{Placed}
 use Rattle.frame.specs.declared.Placed.the-variants.{At}
-use Rattle.frame.proofs.Laws.{frame-inside, id-part}
-use Rattle.bundle.proofs.Objects.{place-inside}
+use Rattle.frame.proofs.Laws.{frame-inside, id-part, place-inside}
 use Rattle.seeking.specs.Index.{looked, seekAt, seekIn, placeIn}
-use Rattle.seeking.proofs.Indexed.{sought}
 
 pub order-part : (o : Order) (x y id : List ℕ) → o ≡ nameOrder x false id false → x ≡ y → o ≡ nameOrder y false id false
 order-part o x y id e q = e ∙ ap (λ (z : List ℕ). nameOrder z false id false) q

@@ -22,7 +22,7 @@ use Rattle.bundle.specs.declared.Checked.{Checked}
 use Rattle.component.specs.Component.{onHead, pieces, filled, isPath}
 use Rattle.component.specs.Named.{there, entriesRead, firstNamed}
 use Rattle.path.specs.Path.{inObject, stepTo, onto, walkAlong, padded, refusedWith, answered, followAlong, followIn, followFrom, follow}
-use Rattle.path.specs.declared.Followed.{Followed}
+use Rattle.path_walk.specs.declared.Followed.{Followed}
 
 -- what a bundle of some objects begins with, ids of 20 bytes: in version 1, and in version 2 with a rule set
 abbrev pub first : ℕ → List ℕ

@@ -3,7 +3,7 @@ use Prim.Native.Nat.{ℕ}
 use Prim.Native.String.{String}
 use mathlib.Core.Path.{_≡_, refl}
 use mathlib.Core.List.{List, [], _∷_, _++_, map}
-use lib.ListN.{length, replicate}
+use lib.ListN.{replicate}
 use Rattle.ground.specs.Basics.{ascii}
 use Rattle.ground.specs.Scan.{commonStart}
 use Rattle.ground.specs.Verdict.{verdict, counted, refused, idLength, sizeGate, stored, isSet}

@@ -1,7 +1,6 @@
 // What stands before the name in one record of the text that `git mktree -z` takes (docs/FORMAT.md, "Text").
 ghost use mathlib.Core.Path.{_≡_};
-ghost use Prim.Native.Nat.{_≤_};
-ghost use lib.ListN.{length, take, drop};
+ghost use lib.ListN.{take};
 ghost use Rattle.text_form.specs.Form.{between, within, allWithin, wordLen, frontLen, nameFrom};
 use scan::same_bytes;
 

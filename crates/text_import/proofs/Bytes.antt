@@ -3,7 +3,7 @@ use Prim.Native.Nat.{ℕ, zero, suc, _+_, _-_, _*_, _/_, _%_, _<_, _≤_}
 use native.Mathlib.Omega.{arith}
 use native.Mathlib.Numerals.{add-one}
 use mathlib.Core.Path.{_≡_, refl, ap, sym, _∙_}
-use mathlib.Core.Bool.{Bool, true}
+use mathlib.Core.Bool.{true}
 use mathlib.Core.List.{List, [], _∷_, _++_, append-assoc}
 use lib.ListN.{length, getD, take, drop, length-append, length-drop, length-take, drop-of-length-le}
 use lib.Seq.{sets, drop-cons, length-take-le, take-at}
@@ -18,13 +18,13 @@ use Rattle.mode_text.specs.declared.ShortText.{ShortText}
 use Rattle.mode.specs.Write.{writeMode, modeText}
 use Rattle.mode_text.proofs.Laws.{text-is, mode-le}
 use Rattle.hex.specs.Hex.{isHex}
-use Rattle.id_of_hex.specs.Id.{bytesOf, halved, digitsRead, idAnswer}
+use Rattle.id_of_hex.specs.Id.{bytesOf, halved, idAnswer}
 use Rattle.id_of_hex.proofs.Laws.{halved-even, bytes-length, read-hex, id-open}
 use Rattle.entry.specs.Entry.{entryBytes}
 use Rattle.rules.specs.Rules.{modesOf}
 use Rattle.text_form.specs.Form.{frontLen, nameFrom}
 use Rattle.text_record.specs.Record.{frontMode, nameIn, nameEnd, idIn, textNumber, entryIn}
-use Rattle.text_record.proofs.Shape.{Shape, shape, lower-hex, tab-inside}
+use Rattle.text_record.proofs.Shape.{shape, lower-hex}
 use Rattle.text_import.specs.Code.{AllRead, allBytes}
 
 -- ---- an id

@@ -4,7 +4,7 @@ use native.Mathlib.Omega.{arith}
 use mathlib.Core.Path.{_≡_, refl, ap, sym, _∙_}
 use mathlib.Core.Logic.{⊎-elim}
 use mathlib.Core.Bool.{Bool, true, false, _&&_}
-use mathlib.Core.List.{List, [], _∷_, _++_}
+use mathlib.Core.List.{List, [], _++_}
 use lib.Dec.{eqb, ltb}
 use lib.ListN.{length, take, drop}
 use lib.Seq.{sets, length-sets, take-append-seam}
@@ -16,7 +16,7 @@ use Rattle.ground.specs.declared.Answer.{Answer}
 use Rattle.ground.specs.declared.Gate.{Gate}
 use Rattle.ground.specs.declared.Gate.the-variants.{Open, Shut}
 use Rattle.ground.proofs.Laws.{gate-open, gate-fine, gate-shut, id-made, id-is, sets-front, stored-refused}
-use Rattle.output.specs.Output.{fitted, gated}
+use Rattle.output.specs.Output.{fitted}
 use Rattle.output.proofs.Laws.{refused-both, gated-shut, gated-open}
 use Rattle.keys.specs.Key.{keyAt, belowBy}
 use Rattle.sorting.specs.Sort.{sortBy}

@@ -4,26 +4,22 @@ use native.Mathlib.Decide.{decLt}
 use native.Mathlib.Omega.{arith}
 use mathlib.Core.Path.{_≡_, refl, ap, sym, _∙_}
 use mathlib.Core.Logic.{_⊎_, inl, inr, ⊎-elim}
-use mathlib.Core.Bool.{Bool, true, false, false≢true, _&&_}
-use mathlib.Core.List.{List, [], _∷_, map, List·Memᴰ}
+use mathlib.Core.Bool.{Bool, true, false}
+use mathlib.Core.List.{List, [], map, List·Memᴰ}
 use lib.Dec.{eqb}
-use lib.ListN.{length, drop}
+use lib.ListN.{drop}
 use borrow.Author.Tests.{eq-eqb, eqb-true}
-use Rattle.ground.specs.Basics.{pick}
-use Rattle.ground.specs.Scan.{sameBytes}
 use Rattle.ground.proofs.Laws.{and-left, and-right, same-true, same-refl}
-use Rattle.mode.specs.Mode.{isTree}
 use Rattle.keys.specs.Key.{nameAt, keyAt, belowBy}
 use Rattle.keys.proofs.Keys.{key-strict}
 use Rattle.sorting.specs.Sort.{Ascends}
-use Rattle.text_record.specs.Record.{nameIn, textNumber, entryIn}
+use Rattle.text_record.specs.Record.{textNumber, entryIn}
 use Rattle.text_repeats.specs.Least.{sameRecord}
 use Rattle.text_repeats.proofs.Least.{Least}
 use Rattle.text_pairs.specs.Pairs.{countBelow, besideOf, leastPair}
 use Rattle.text_pairs.proofs.Least.{lowest-count, beside-hit, beside-low, fileOf, pair-low, pair-hit}
-use Rattle.text_import.specs.Code.{elementOf}
-use Rattle.text_import.proofs.Places.{mem-map, map-mem, el, element-range, element-half, element-odd}
-use Rattle.text_import.proofs.Repeats.{S, same-key, key-same, record-is}
+use Rattle.text_import.proofs.Places.{mem-map, map-mem, el, element-range, element-odd}
+use Rattle.text_import.proofs.Repeats.{S, same-key, key-same}
 
 -- ---- elements with and without their sort
 

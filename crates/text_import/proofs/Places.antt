@@ -1,5 +1,5 @@
 -- The places of a text's records: each can be read there, they ascend, and their elements' keys are the names. Assumes nothing.
-use Prim.Native.Nat.{ℕ, zero, suc, _+_, _-_, _*_, _/_, _%_, _<_, _≤_}
+use Prim.Native.Nat.{ℕ, zero, suc, _+_, _*_, _/_, _%_, _<_, _≤_}
 use native.Mathlib.Omega.{arith}
 use mathlib.Core.Path.{_≡_, refl, ap, sym, _∙_}
 use mathlib.Core.Logic.{⊎-elim}
@@ -11,23 +11,17 @@ use lib.Seq.{drop-drop, take-append-seam}
 use borrow.Author.Tests.{eq-eqb, ne-eqb, eqb-true}
 use Rattle.ground.specs.Basics.{pick, ascii}
 use Rattle.ground.specs.Scan.{sameBytes, freeOf, countTo}
-use Rattle.ground.specs.Verdict.{verdict, mostBytes, mostRecords}
-use Rattle.ground.proofs.Laws.{and-left, and-right, count-free, same-test, same-true, same-refl}
+use Rattle.ground.specs.Verdict.{verdict, mostRecords}
+use Rattle.ground.proofs.Laws.{count-free}
 use Rattle.mode.specs.Mode.{isTree}
-use Rattle.order.specs.Order.{nameOrder}
-use Rattle.order.specs.declared.Order.{Order}
-use Rattle.order.specs.declared.Order.the-variants.{Below, Same, Above}
-use Rattle.order.proofs.Laws.{order-self, order-same}
 use Rattle.entry.specs.Entry.{Entry}
-use Rattle.rules.specs.Rules.{modesOf, isPlain, isDotGit, bareNumber, orElse}
+use Rattle.rules.specs.Rules.{isPlain, isDotGit, bareNumber, orElse}
 use Rattle.keys.specs.Key.{pastMark, cutTo, nameAt, folder, slash, keyAt}
-use Rattle.keys.proofs.Keys.{key-names}
 use Rattle.sorting.proofs.Repeats.{Once}
 use Rattle.text_form.specs.Form.{frontLen}
-use Rattle.text_record.specs.Record.{frontMode, nameIn, nameEnd, textNumber, entryIn, sizeIn}
-use Rattle.text_record.proofs.Shape.{Shape, shape, before-free}
-use Rattle.text_repeats.specs.Least.{sameRecord}
-use Rattle.text_import.specs.Import.{Texts, done, stop, one, readFrom, texts, entriesIn, isSame, compareSame, nameSame}
+use Rattle.text_record.specs.Record.{nameIn, nameEnd, textNumber, entryIn, sizeIn}
+use Rattle.text_record.proofs.Shape.{shape, before-free}
+use Rattle.text_import.specs.Import.{Texts, done, stop, one, readFrom, texts, entriesIn}
 use Rattle.text_import.specs.Code.{elementOf, elementsIn, placesIn}
 
 -- ---- members of a mapped list

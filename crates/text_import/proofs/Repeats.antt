@@ -1,5 +1,5 @@
 -- The records that repeat an earlier one: the least repeated elements say what the definitions say of the records in turn. Assumes nothing.
-use Prim.Native.Nat.{ℕ, zero, suc, _+_, _*_, _/_, _%_, _<_, _≤_}
+use Prim.Native.Nat.{ℕ, _+_, _/_, _%_, _<_, _≤_}
 use native.Mathlib.Omega.{arith}
 use mathlib.Core.Path.{_≡_, refl, ap, sym, _∙_}
 use mathlib.Core.Logic.{_⊎_, inl, inr, ⊎-elim}
@@ -7,7 +7,7 @@ use mathlib.Core.Bool.{Bool, true, false, false≢true, _&&_, _||_}
 use mathlib.Core.List.{List, [], _∷_, _++_, map, List·Memᴰ, List·Memᴰ·head, List·Memᴰ·tail, List·Memᴰ·cases-cons, List·Memᴰ·not-nil}
 use lib.Dec.{eqb, ltb}
 use lib.ListN.{length, drop}
-use borrow.Author.Tests.{eq-eqb, eqb-true, lt-ltb, le-ltb}
+use borrow.Author.Tests.{eqb-true, lt-ltb, le-ltb}
 use Rattle.ground.specs.Basics.{pick}
 use Rattle.ground.specs.Scan.{sameBytes, freeOf}
 use Rattle.ground.specs.Verdict.{verdict, fine, mostBytes}
@@ -19,16 +19,14 @@ use Rattle.order.specs.declared.Order.{Order}
 use Rattle.order.specs.declared.Order.the-variants.{Below, Same, Above}
 use Rattle.order.proofs.Laws.{order-self, order-same}
 use Rattle.entry.specs.Entry.{Entry}
-use Rattle.keys.specs.Key.{nameAt, folder, slash, keyAt, belowBy}
+use Rattle.keys.specs.Key.{nameAt, folder, slash, keyAt}
 use Rattle.keys.proofs.Keys.{key-names}
-use Rattle.sorting.specs.Sort.{sortBy}
-use Rattle.sorting.proofs.Repeats.{Once}
 use Rattle.text_record.specs.Record.{nameIn, textNumber, entryIn}
-use Rattle.text_repeats.specs.Least.{sameRecord, leastNext, told}
-use Rattle.text_repeats.proofs.Least.{Least, least-sorted}
-use Rattle.text_import.specs.Import.{Texts, done, stop, one, texts, ending, isSame, compareSame, nameSame, anyBefore, repeated, orThen, importVerdict}
-use Rattle.text_import.specs.Code.{elementOf, placesIn}
-use Rattle.text_import.proofs.Places.{mem-map, map-mem, Good, good-texts, place-good, place-inside, el, elements-are, element-range, element-half, element-odd, elements-once, name-there, name-plain, key-there}
+use Rattle.text_repeats.specs.Least.{sameRecord}
+use Rattle.text_repeats.proofs.Least.{Least}
+use Rattle.text_import.specs.Import.{Texts, done, stop, one, isSame, compareSame, nameSame, anyBefore, repeated}
+use Rattle.text_import.specs.Code.{placesIn}
+use Rattle.text_import.proofs.Places.{mem-map, map-mem, Good, place-good, place-inside, el, element-range, element-half, element-odd, name-there, name-plain, key-there}
 
 -- elements of one name and sort have one key
 pub same-key : (s : List ℕ) (x y : ℕ) → sameRecord s x y ≡ true → keyAt s 9 0 x ≡ keyAt s 9 0 y

@@ -1,17 +1,17 @@
 -- Laws of the walk over a text's records that gathers their elements. Assumes nothing.
-use Prim.Native.Nat.{ℕ, zero, suc, _+_, _-_, _*_, _/_, _<_, _≤_}
+use Prim.Native.Nat.{ℕ, zero, suc, _+_, _-_, _*_, _<_, _≤_}
 use native.Mathlib.Omega.{arith}
 use native.Mathlib.Numerals.{add-one}
 use native.Mathlib.Nat.{add-zero}
 use mathlib.Core.Path.{_≡_, refl, ap, sym, _∙_}
-use mathlib.Core.Bool.{Bool, true, false, _&&_}
+use mathlib.Core.Bool.{Bool, true, false}
 use mathlib.Core.List.{List, [], _∷_}
 use lib.Dec.{eqb}
-use lib.ListN.{length, getD, drop, take, set, length-set, length-drop, drop-of-length-le}
-use lib.Seq.{sets, drop-cons, drop-drop}
+use lib.ListN.{length, drop, take, set, length-set, length-drop, drop-of-length-le}
+use lib.Seq.{sets, drop-drop}
 use borrow.Author.Tests.{eq-eqb, ne-eqb}
 use Rattle.ground.specs.Basics.{pick}
-use Rattle.ground.specs.Verdict.{verdict, fine, mostBytes, mostRecords}
+use Rattle.ground.specs.Verdict.{verdict, fine, mostRecords}
 use Rattle.ground.specs.declared.Verdict.{Verdict}
 use Rattle.ground.specs.declared.Answer.{Answer}
 use Rattle.ground.proofs.Laws.{part-from}

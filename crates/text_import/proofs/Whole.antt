@@ -1,21 +1,20 @@
 -- The whole of an import: what the sorts say together, and the answer. Assumes nothing.
-use Prim.Native.Nat.{ℕ, zero, suc, _+_, _-_, _*_, _/_, _<_, _≤_, max}
+use Prim.Native.Nat.{ℕ, suc, _/_, _<_, _≤_, max}
 use native.Mathlib.Omega.{arith}
 use mathlib.Core.Path.{_≡_, refl, ap, sym, _∙_}
-use mathlib.Core.Logic.{_⊎_, inl, inr, ⊎-elim}
-use mathlib.Core.Bool.{Bool, true, false, false≢true, _&&_}
+use mathlib.Core.Logic.{inr, ⊎-elim}
+use mathlib.Core.Bool.{Bool, true, false, _&&_}
 use mathlib.Core.List.{List, [], _∷_, _++_, map, List·Memᴰ, List·Memᴰ·head, List·Memᴰ·tail, List·Memᴰ·not-nil}
-use lib.Dec.{eqb, ltb}
-use lib.ListN.{length, take, drop, length-drop}
-use lib.Seq.{sets, take-append-seam, length-sets}
+use lib.Dec.{ltb}
+use lib.ListN.{length, drop}
+use lib.Seq.{sets}
 use borrow.Author.Tests.{eq-eqb, ne-eqb, ltb-true, ltb-false}
 use Rattle.ground.specs.Basics.{pick}
-use Rattle.ground.specs.Scan.{freeOf}
 use Rattle.ground.specs.Verdict.{verdict, fine, counted, refused, mostBytes, mostRecords, idLength, stored}
 use Rattle.ground.specs.declared.Verdict.{Verdict}
 use Rattle.ground.specs.declared.Answer.{Answer}
 use Rattle.ground.specs.declared.Gate.the-variants.{Open, Shut}
-use Rattle.ground.proofs.Laws.{equal, gate-open, id-made, sets-front}
+use Rattle.ground.proofs.Laws.{equal, gate-open, id-made}
 use Rattle.output.specs.Output.{fitted}
 use Rattle.output.proofs.Laws.{fitted-bad, fitted-short, fitted-fine, refused-both, done-both, gated-shut, gated-open}
 use Rattle.mode.specs.Mode.{isTree}
@@ -32,15 +31,14 @@ use Rattle.sorting.specs.Sort.{sortBy}
 use Rattle.sorting.proofs.Sorted.{sort-length, sort-ascends}
 use Rattle.sorting.proofs.Repeats.{sorted-mem, mem-sorted}
 use Rattle.mend.proofs.Sorts.{sort-map, sort-same}
-use Rattle.mend.proofs.Whole.{sorted-front, sorted-length}
 use Rattle.text_record.specs.Record.{nameIn, textNumber, entryIn}
 use Rattle.text_repeats.specs.Least.{sameRecord, leastNext, told}
 use Rattle.text_repeats.proofs.Least.{Least, least-sorted}
 use Rattle.text_pairs.specs.Pairs.{leastPair, judgedBy}
 use Rattle.text_import.specs.Import.{Texts, done, stop, one, texts, entriesIn, ending, compareSame, nameSame, repeated, orThen, importVerdict, imported, countedOf, importAnswer, isSame}
-use Rattle.text_import.specs.Code.{elementOf, elementsIn, placesIn, gathered, inOrder, AllRead, allBytes}
+use Rattle.text_import.specs.Code.{elementsIn, placesIn, gathered, inOrder, AllRead, allBytes}
 use Rattle.text_import.proofs.Walk.{read-few}
-use Rattle.text_import.proofs.Places.{mem-map, map-mem, Good, good-texts, place-good, place-inside, el, elements-are, entries-are, element-range, element-half, elements-once, name-plain, key-there}
+use Rattle.text_import.proofs.Places.{mem-map, map-mem, good-texts, place-good, el, elements-are, entries-are, element-range, element-half, elements-once, name-plain, key-there}
 use Rattle.text_import.proofs.Repeats.{S, same-key, key-same, name-agrees, order-agrees, first, low, small}
 use Rattle.text_import.proofs.Pairs.{is-pair}
 

@@ -1,9 +1,9 @@
 -- What the private functions of importing say, by elements of the crate `sorting`: places of records in the text. Assumes nothing.
-use Prim.Native.Nat.{ℕ, _+_, _*_, _/_, _<_}
+use Prim.Native.Nat.{ℕ, _+_, _*_, _/_}
 use mathlib.Core.Path.{_≡_}
-use mathlib.Core.Bool.{Bool, true, false, _&&_}
+use mathlib.Core.Bool.{Bool, true, _&&_}
 use mathlib.Core.List.{List, [], _∷_, _++_}
-use lib.ListN.{length, getD, drop}
+use lib.ListN.{length, drop}
 use Rattle.ground.specs.Basics.{pick}
 use Rattle.ground.specs.Verdict.{verdict}
 use Rattle.ground.specs.declared.Answer.{Answer}

@@ -1,13 +1,12 @@
 -- Importing with memory lent for an element of each record. Assumes nothing.
 use Prim.Native.Nat.{ℕ}
 use mathlib.Core.Bool.{Bool, _&&_}
-use mathlib.Core.List.{List, [], _∷_, _++_}
+use mathlib.Core.List.{List, [], _++_}
 use lib.Dec.{eqb, ltb}
 use lib.ListN.{length, take, drop}
 use lib.Seq.{sets}
 use Rattle.ground.specs.Basics.{pick}
 use Rattle.ground.specs.Verdict.{verdict, refused, gateOf}
-use Rattle.ground.specs.declared.Verdict.{Verdict}
 use Rattle.ground.specs.declared.Answer.{Answer}
 use Rattle.ground.specs.declared.Gate.{Gate}
 use Rattle.ground.specs.declared.Gate.the-variants.{Open, Shut}

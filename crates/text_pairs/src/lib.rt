@@ -1,7 +1,7 @@
 // What is said after all records of a text (docs/FORMAT.md, "Text"), by their elements in Git's order: 7, and 17 by a folder whose name a
 // file has. That file is sought where it would stand, so the elements are sorted once, and not at all where they are in order.
 ghost use mathlib.Core.Path.{_≡_};
-ghost use Prim.Native.Nat.{_+_, _≤_, _<_, _%_};
+ghost use Prim.Native.Nat.{_+_, _<_, _%_};
 ghost use lib.ListN.{length, getD};
 ghost use Rattle.ground.specs.Basics.{pick};
 ghost use Rattle.keys.specs.Key.{keyAt, belowBy};

@@ -1,32 +1,29 @@
 -- Laws of one record that is stored piece by piece, of strict reading without room, and of the answer. Assumes nothing.
-use Prim.Native.Nat.{ℕ, _+_, _-_, _*_, _<_, _≤_, max}
+use Prim.Native.Nat.{ℕ, _+_, _-_, _*_, _≤_, max}
 use native.Mathlib.Omega.{arith}
 use mathlib.Core.Path.{_≡_, refl, ap, sym, subst, _∙_}
 use mathlib.Core.Bool.{Bool, true, false}
 use mathlib.Core.List.{List, [], _∷_, _++_}
-use mathlib.Core.Logic.{_⊎_}
-use lib.Dec.{eqb, leb}
+use lib.Dec.{leb}
 use lib.ListN.{length, take, drop, length-append, length-take, length-drop}
 use lib.Seq.{sets, take-append-seam}
-use borrow.Author.Tests.{leb-true}
-use Rattle.ground.specs.Basics.{pick, part}
-use Rattle.ground.specs.Verdict.{verdict, fine, broken, isPart, counted, refused, mostBytes, mostRecords, idLength, gateOf, stored}
+use Rattle.ground.specs.Basics.{pick}
+use Rattle.ground.specs.Verdict.{verdict, fine, counted, refused, mostBytes, mostRecords, idLength, gateOf, stored}
 use Rattle.ground.specs.declared.Verdict.{Verdict}
 use Rattle.ground.specs.declared.Answer.{Answer}
-use Rattle.ground.specs.declared.Gate.{Gate}
 use Rattle.ground.specs.declared.Gate.the-variants.{Open, Shut}
 use Rattle.ground.proofs.Laws.{id-is, id-small, gate-fine, sets-append, stored-done, id-made, gate-open}
-use Rattle.output.specs.Output.{fitted, gated}
+use Rattle.output.specs.Output.{fitted}
 use Rattle.output.proofs.Laws.{fitted-fine, gated-open, gated-shut}
 use Rattle.entry.specs.Record.{nameOf, idOf}
-use Rattle.entry.specs.Entry.{Entry, entryOf}
+use Rattle.entry.specs.Entry.{entryOf}
 use Rattle.entry.specs.declared.EntryRecord.{EntryRecord}
 use Rattle.rules.specs.Rules.{orElse, isText, judge, modesOf, permitted, isDotGit, nameNumber, isAfter, afterNumber, gitRules}
 use Rattle.doubles.specs.Doubles.{namedBefore}
 use Rattle.rules.specs.Gate.{ruleGate}
 use Rattle.rules.proofs.Laws.{rule-known, rule-open}
 use Rattle.reading.specs.Listing.{listing, tally}
-use Rattle.reading.specs.Whole.{inRoom, answerOf}
+use Rattle.reading.specs.Whole.{inRoom}
 use Rattle.reading.specs.declared.Counted.{Counted}
 use Rattle.reading.specs.declared.Counted.the-variants.{Total, Stopped}
 use Rattle.reading.proofs.Laws.{Stops, tally-stops, plain-stops, answer-counted}
@@ -36,7 +33,7 @@ use Rattle.hex_of_id.specs.Hex.{hexOf, hexAnswer}
 use Rattle.hex_of_id.proofs.Laws.{hex-length, hex-open}
 use Rattle.tree_text.specs.Text.{frontText, frontOf, recordText}
 use Rattle.tree_text.specs.declared.Front.{Front}
-use Rattle.tree_text.proofs.Laws.{front-is, front-le, record-length}
+use Rattle.tree_text.proofs.Laws.{front-is}
 use Rattle.tree_export.specs.Export.{textIn, countedIn, exportAnswer}
 use Rattle.tree_export.specs.Code.{Added, settled}
 

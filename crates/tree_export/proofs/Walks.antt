@@ -1,9 +1,9 @@
 -- Laws of the walk over an object's entries that stores their text. Assumes nothing.
-use Prim.Native.Nat.{ℕ, _+_, _-_, _*_, _<_, _≤_}
+use Prim.Native.Nat.{ℕ, _+_, _*_, _<_, _≤_}
 use native.Mathlib.Nat.{add-zero}
 use native.Mathlib.Omega.{arith}
 use mathlib.Core.Path.{_≡_, refl, ap, sym, _∙_}
-use mathlib.Core.List.{List, [], _∷_, _++_}
+use mathlib.Core.List.{List, [], _++_}
 use lib.ListN.{length, drop, length-append}
 use lib.Seq.{sets}
 use Rattle.ground.specs.Verdict.{mostRecords}
@@ -15,7 +15,7 @@ use Rattle.entry.specs.declared.EntryRecord.{EntryRecord}
 use Rattle.entry.specs.declared.Cursor.{Cursor}
 use Rattle.entry.specs.declared.Decoded.the-variants.{Whole, Broken}
 use Rattle.entry.proofs.Laws.{decode-inside}
-use Rattle.reading.specs.Listing.{Listing, done, stop, entry, listing, recordsIn}
+use Rattle.reading.specs.Listing.{Listing, recordsIn}
 use Rattle.reading.proofs.Laws.{restAt, rest-end, none-full, none-left, whole-here}
 use Rattle.tree_text.specs.Text.{recordText, asText}
 use Rattle.tree_export.specs.Export.{textIn}

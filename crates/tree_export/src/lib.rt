@@ -4,7 +4,6 @@ ghost use mathlib.Core.Bool.{true};
 ghost use mathlib.Core.List.{[], _∷_, _++_};
 ghost use Prim.Native.Nat.{_+_, _≤_};
 ghost use lib.ListN.{length};
-ghost use lib.Seq.{sets};
 ghost use Rattle.ground.specs.Verdict.{mostBytes, idLength, stored};
 ghost use Rattle.ground.specs.declared.Gate.{Gate};
 ghost use Rattle.entry.specs.Entry.{entryOf};

@@ -11,7 +11,7 @@ use lib.Dec.{eqb}
 use lib.ListN.{length, getD, take, drop, length-append, length-take, length-drop, drop-of-length-le}
 use lib.Seq.{sets, drop-cons, append-snoc}
 use borrow.Author.Tests.{eq-eqb, ne-eqb, eqb-true, eqb-false}
-use Rattle.ground.specs.Basics.{pick}
+use Rattle.ground.specs.Basics.{pick, ascii}
 use Rattle.ground.specs.Scan.{countTo, freeOf}
 use Rattle.ground.specs.Verdict.{verdict, counted, refused, gateOf, mostBytes, mostRecords}
 use Rattle.ground.proofs.Laws.{is-false, equal, id-small, gate-open, sets-append, free-whole, whole-free}
@@ -71,6 +71,11 @@ text-size m p q r a b c = rw (a, b, c) (go p q r)
     go false true true = refl
     go false true false = refl
     go false false r = refl
+
+-- the text of a plain file's mode
+pub text-file : (m : ℕ) → m ≡ 0o100644 → writeMode m ≡ ascii "100644"
+unfolding writeMode trimmed
+text-file m e = rw e refl
 
 pub text-one : (m : ℕ) → m ≡ 0 → length (writeMode m) ≡ 1
 text-one m e = text-size m true _ _ (eq-eqb m 0 e) refl refl

@@ -1,6 +1,7 @@
 // A tree object written from records, and its size (docs/FORMAT.md, "Tree writing"). Follows tree/write.rs.
 ghost use mathlib.Core.Path.{_≡_};
 ghost use mathlib.Core.Bool.{true, false};
+ghost use mathlib.Core.List.{[], _∷_, _++_};
 ghost use Prim.Native.Nat.{_+_, _≤_};
 ghost use lib.ListN.{length, take};
 ghost use lib.Seq.{sets};
@@ -113,6 +114,37 @@ fn measure(bytes: &[u8], h: usize, records: &[usize], writing: bool) -> Answer
     }
 }
 
+// Stores seven bytes.
+fn put_seven(out: &mut [u8], at: usize, d: [u8; 7])
+    requires { ⌜ at + 7 ≤ length (now out) ⌝ }
+    ensures { λ _. ⌜ now (out .exit) ≡ sets (now (out .entry)) at d ⌝ }
+{
+    let mut k = 0;
+    while k < 7 {
+        let to = at + k;
+        out[to] = d[k];
+        k += 1;
+    }
+}
+
+// Stores the text of a mode and a space, and says how long the text is. That of a plain file, which most entries are, is known.
+fn put_mode(out: &mut [u8], at: usize, mode: usize) -> usize
+    requires { ⌜ (mode ≤ 65535) × (at + length (writeMode mode) + 1 ≤ length (now out)) ⌝ }
+    ensures size { λ r. ⌜ r ≡ length (writeMode mode) ⌝ }
+    ensures small { λ r. ⌜ r ≤ 6 ⌝ }
+    ensures text { λ _. ⌜ now (out .exit) ≡ sets (now (out .entry)) at (writeMode mode ++ 32 ∷ []) ⌝ }
+{
+    if mode == 0o100644 {
+        put_seven(out, at, [b'1', b'0', b'0', b'6', b'4', b'4', b' ']);
+        return 6;
+    }
+    let text = mode_text(mode);
+    let digits = text.bytes;
+    let n = text.len;
+    put_ended(out, at, &digits[..n], b' ');
+    n
+}
+
 // Writes an entry at a place, and gives the place past it.
 fn write_entry(out: &mut [u8], at: usize, bytes: &[u8], h: usize, e: EntryRecord) -> usize
     requires { ⌜ (e .mode ≤ 65535) × (e .«name_start» ≤ e .«name_end») × (e .«name_end» ≤ length (now bytes)) × (e .«id_start» + h ≤ length (now bytes)) × (e .«text_start» ≤ e .«name_start») ⌝ }
@@ -120,16 +152,13 @@ fn write_entry(out: &mut [u8], at: usize, bytes: &[u8], h: usize, e: EntryRecord
     ensures { λ r. ⌜ r ≡ at + entrySize h e ⌝ }
     ensures { λ _. ⌜ now (out .exit) ≡ sets (now (out .entry)) at (entryBytes (entryOf h (now (bytes .entry)) e)) ⌝ }
 {
-    let text = mode_text(e.mode);
-    let digits = text.bytes;
-    let n = text.len;
+    let n = put_mode(out, at, e.mode);
     let start = e.name_start;
     let end = e.name_end;
     let id = e.id_start;
     let last = id + h;
     let name = at + n + 1;
     let next = name + (end - start) + 1;
-    put_ended(out, at, &digits[..n], b' ');
     put_ended(out, name, &bytes[start..end], 0);
     put(out, next, &bytes[id..last]);
     next + h

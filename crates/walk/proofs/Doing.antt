@@ -1,30 +1,25 @@
 -- A part of the walk out of smaller ones, and what it stores. Assumes nothing.
 use Prim.Native.Nat.{ℕ, zero, suc, _+_, _-_, _*_, _≤_, _<_}
-use mathlib.Core.Bool.{Bool, true, false}
 use mathlib.Core.Path.{_≡_, refl, ap, sym, subst, _∙_}
 use mathlib.Core.List.{List, [], _∷_, _++_, append-assoc, append-nil}
 use native.Mathlib.Omega.{arith}
-use native.Mathlib.Nat.{add-zero, zero-add, add-suc, suc-add, add-assoc}
-use native.Mathlib.Numerals.{add-one, sub-one}
-use borrow.Author.Tests.{eq-eqb, ne-eqb}
-use lib.Dec.{eqb}
-use lib.ListN.{length, getD, take, drop, set, length-append, length-drop, List·getD-append}
-use lib.Seq.{sets, sets-eq, length-sets, paste, paste-suc, set-out, length-take-le, getD-drop, getD-take, take-set-le, take-at, drop-at}
-use Rattle.ground.specs.Basics.{pick, part}
-use Rattle.ground.specs.Verdict.{verdict, fine, mostRecords}
+use native.Mathlib.Nat.{add-zero, add-assoc}
+use lib.ListN.{length, take, drop, set, length-append, length-drop}
+use lib.Seq.{sets, sets-eq, length-sets, length-take-le, take-set-le, take-at, drop-at}
+use Rattle.ground.specs.Verdict.{verdict, fine}
 use Rattle.ground.specs.declared.Verdict.{Verdict}
 use Rattle.item.specs.Items.{Item, join}
-use Rattle.walk.specs.Walk.{Out, refusedBy, nothing, put, andThen, Lower, change, compareEntries}
+use Rattle.walk.specs.Walk.{Out, refusedBy, put, andThen, Lower, change, compareEntries}
 use Rattle.walk.specs.Lent.{pathsOf, numbersOf}
-use Rattle.merge.specs.Merge.{Within, stepAt, idIn}
-use Rattle.walk.specs.Code.{entriesFrom, sideIn, nameOfChange, itemOf, inside, joinLength, Held, Did, Small, Added}
+use Rattle.merge.specs.Merge.{Within, stepAt}
+use Rattle.walk.specs.Code.{entriesFrom, nameOfChange, itemOf, inside, joinLength, Held, Did}
 use Rattle.merge.specs.declared.Rest.{Rest}
 use Rattle.merge.specs.declared.Change.{Change}
 use Rattle.merge.specs.declared.Step.{Step}
 use Rattle.merge.specs.declared.Step.the-variants as step
 use Rattle.walk.specs.declared.Mark.{Mark}
 use Rattle.item.proofs.Laws.{sets-append}
-use Rattle.walk.proofs.Walks.{then-is, then-stop, then-none, put-is, put-full, put-done}
+use Rattle.walk.proofs.Walks.{then-is, then-stop, put-is, put-full, put-done}
 use Rattle.walk.proofs.Steps.{after, steps-are}
 
 -- ---- what stands before a store, and what was stored
@@ -144,7 +139,10 @@ module _ (m : Mark) (C : Type 0) (items paths : List ℕ) (x : Item) where
 pub path-length : (s prefix : List ℕ) (c : Change) (pl j : ℕ) → length prefix ≡ pl → c .«name_start» ≤ c .«name_end» → c .«name_end» ≤ length s
     → j ≡ joinLength pl (c .«name_end» - c .«name_start») → j ≡ length (itemOf s prefix c .path)
 path-length s prefix c pl j e g h f =
-    let k : length (nameOfChange s c) ≡ c .«name_end» - c .«name_start» = length-take-le (c .«name_end» - c .«name_start») (drop (c .«name_start») s) (omega (arith, length-drop (c .«name_start») s)) in
+    let name-end = c .«name_end» in
+    let name-start = c .«name_start» in
+    let k : length (nameOfChange s c) ≡ name-end - name-start = length-take-le (name-end - name-start) (drop name-start s)
+    (omega (arith, length-drop name-start s)) in
     f ∙ sym (join-length prefix (nameOfChange s c) ∙ rw (e, k))
 
 -- ---- the entries, arm by arm, as the code has them

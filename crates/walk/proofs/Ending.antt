@@ -5,10 +5,8 @@ use mathlib.Core.List.{List, [], _++_}
 use native.Mathlib.Omega.{arith}
 use native.Mathlib.Nat.{zero-add}
 use borrow.Author.Tests.{eq-eqb, ne-eqb, le-leb, lt-leb}
-use lib.Dec.{eqb, leb}
 use lib.ListN.{length, drop}
-use lib.Seq.{sets, sets-eq}
-use Rattle.ground.specs.Basics.{pick}
+use lib.Seq.{sets-eq}
 use Rattle.ground.specs.Verdict.{verdict, fine, counted, refused, stored, mostBytes}
 use Rattle.ground.specs.declared.Verdict.{Verdict}
 use Rattle.ground.specs.declared.Answer.{Answer}

@@ -1,11 +1,11 @@
 -- What the walk says of two rests is what it says of the step from them. Assumes nothing.
 use Prim.Native.Nat.{ℕ, zero, suc, _+_, _-_, _≤_, _<_}
 use mathlib.Core.Bool.{Bool, true, false, _&&_, not}
-use mathlib.Core.Path.{_≡_, refl, ap, sym, _∙_}
+use mathlib.Core.Path.{_≡_, refl, _∙_}
 use mathlib.Core.List.{List, [], _∷_, map}
 use native.Mathlib.Omega.{arith}
 use native.Mathlib.Numerals.{sub-one}
-use lib.Dec.{eqb, leb, eqb·suc-zero}
+use lib.Dec.{eqb, eqb·suc-zero}
 use lib.ListN.{length, take, drop, length-drop}
 use lib.Seq.{take-take, drop-drop}
 use borrow.Author.Tests.{le-leb}
@@ -112,7 +112,10 @@ unfoldable pub after : Lower → List ℕ → ℕ → List ℕ → ℕ → Step 
 after below prefix h s n step.Done = nothing
 after below prefix h s n (step.Same l r) = compareEntries below prefix (entriesFrom h s l) n (entriesFrom h s r)
 after below prefix h s n (step.Differs c l r) =
-    change below prefix n (nameOfChange s c) (c .deep) (sideIn s (c .left)) (sideIn s (c .right)) (λ k. compareEntries below prefix (entriesFrom h s l) k (entriesFrom h s r))
+    let deep = c .deep in
+    let left = c .left in
+    let right = c .right in
+    change below prefix n (nameOfChange s c) deep (sideIn s left) (sideIn s right) (λ k. compareEntries below prefix (entriesFrom h s l) k (entriesFrom h s r))
 
 order-out : (f : Step → Out) (o : Order) (A B C : Out) (x y z : Step) → A ≡ f x → B ≡ f y → C ≡ f z → byOrder o A B C ≡ f (byOrder o x y z)
 order-out f Below A B C x y z p q r = p

@@ -1,8 +1,8 @@
 -- One walk and then another. Assumes nothing.
-use Prim.Native.Nat.{ℕ, zero, suc, _+_, _<_, _≤_}
-use mathlib.Core.Bool.{Bool, true, false, _&&_, not}
+use Prim.Native.Nat.{ℕ, _+_, _<_, _≤_}
+use mathlib.Core.Bool.{Bool, true, false}
 use mathlib.Core.Path.{_≡_, refl, ap, sym, _∙_}
-use mathlib.Core.List.{List, [], _∷_, _++_}
+use mathlib.Core.List.{[], _∷_, _++_}
 use native.Mathlib.Omega.{arith}
 use native.Mathlib.Nat.{add-zero}
 use borrow.Author.Tests.{eq-eqb, ne-eqb, eqb-true, lt-ltb, le-ltb}
@@ -10,9 +10,8 @@ use lib.Dec.{eqb, ltb}
 use lib.ListN.{length}
 use Rattle.ground.specs.Basics.{pick}
 use Rattle.ground.specs.Verdict.{verdict, fine, mostRecords}
-use Rattle.ground.specs.Scan.{sameBytes}
-use Rattle.item.specs.Items.{Side, absent, Named, isFolder, Item, join, sameId, sameSide}
-use Rattle.walk.specs.Walk.{Out, refusedBy, nothing, Done, put, andThen, Lower, change, both}
+use Rattle.item.specs.Items.{Item}
+use Rattle.walk.specs.Walk.{Out, refusedBy, nothing, Done, put, andThen}
 
 module _ (n : ℕ) (o : Out) (go : ℕ → Out) where
   pub then-is : Done o → andThen n o go ≡ record { items = o .items ++ go (n + length (o .items)) .items; verdict = go (n + length (o .items)) .verdict }

@@ -1,16 +1,15 @@
 -- Laws of the words of a command line. Assumes nothing.
 use Prim.Native.Nat.{ℕ, _+_, _≤_, _<_, _-_, min}
-use mathlib.Core.Path.{_≡_, refl, sym, ap, _∙_}
-use mathlib.Core.Bool.{Bool, true, false}
+use mathlib.Core.Path.{_≡_, refl, ap, _∙_}
+use mathlib.Core.Bool.{true, false}
 use mathlib.Core.List.{List}
 use native.Mathlib.Omega.{arith}
 use lib.ListN.{length, take, drop}
-use Rattle.ground.specs.Basics.{pick, ascii}
+use Rattle.ground.specs.Basics.{ascii}
 use Rattle.ground.specs.Scan.{placeFrom}
 use Rattle.ground.proofs.Laws.{place-from, place-within}
 use Rattle.words.specs.declared.Word.{Word}
-use Rattle.words.specs.declared.Ids.{Ids}
-use Rattle.words.specs.Words.{lineFrom, wordAt, textAt, saysAt, idLengthOf, ruleSetAt}
+use Rattle.words.specs.Words.{wordAt, textAt, saysAt, idLengthOf, ruleSetAt}
 
 -- a word, given its three numbers
 abbrev word : ℕ → ℕ → ℕ → Word

@@ -30,10 +30,22 @@ returns : tie.Need-returns
 returns c = sym (asked-shut _ _ _ _ (c .before .before .before .before .longer .ensures) (c .before .before .before .sizes .ensures) _ (c .before .v .given .1))
 
 returns-2 : tie.Need-returns-2
-returns-2 c = sym (asked-absent _ _ _ _ (c .before .before .before .before .before .before .longer .ensures) (c .before .before .before .before .before .sizes .ensures) (c .before .before .before .enum-told .given .1) _ (c .before .before .find-object .ensures) (c .enum-told2 .given .1))
+returns-2 c =
+    let longer = c .before .before .before .before .before .before .longer in
+    let sizes = c .before .before .before .before .before .sizes in
+    let enum-told = c .before .before .before .enum-told in
+    let find-object = c .before .before .find-object in
+    let enum-told2 = c .enum-told2 in
+    sym (asked-absent _ _ _ _ (longer .ensures) (sizes .ensures) (enum-told .given .1) _ (find-object .ensures) (enum-told2 .given .1))
 
 returns-3 : tie.Need-returns-3
-returns-3 c = sym (asked-at _ _ _ _ (c .before .before .before .before .before .before .before .longer .ensures) (c .before .before .before .before .before .before .sizes .ensures) (c .before .before .before .before .enum-told .given .1) _ (c .before .before .before .find-object .ensures) _ (c .before .f .given .1))
+returns-3 c =
+    let longer = c .before .before .before .before .before .before .before .longer in
+    let sizes = c .before .before .before .before .before .before .sizes in
+    let enum-told = c .before .before .before .before .enum-told in
+    let find-object = c .before .before .before .find-object in
+    let f = c .before .f in
+    sym (asked-at _ _ _ _ (longer .ensures) (sizes .ensures) (enum-told .given .1) _ (find-object .ensures) _ (f .given .1))
 
 pub object-of-spec : {M : Type 1} → statement M
 object-of-spec =

@@ -26,13 +26,15 @@ same-length c = search needs
 
 returns : tie.Need-returns
 returns c =
+    let hand = c .hand in
     let k = c .before .before .before .before in
     let e = k .write-commit .ensures in
     let x = k .before .before .parts-in .ensures in
     let a = k .before .before .before .before .before .before .before .args in
     let answer : CommitParts → Answer = λ p. commitAnswer (a .h) (a .bytes .now) p (a .parents .now) (a .headers .now) (length (a .out .now)) in
-    let after : CommitParts → List ℕ = λ p. stored (answer p .verdict) (partsWritten (a .h) (a .bytes .now) p (a .parents .now) (a .headers .now)) (a .out .now) in
-    handed-with (c .hand .ensures) (e .0 ∙ ap answer x) (e .1 ∙ ap after x)
+    let after : CommitParts → List ℕ = λ p. stored (answer p .verdict) (partsWritten (a .h) (a .bytes .now) p (a .parents .now) (a .headers .now)) (a .out .now)
+    in
+    handed-with (hand .ensures) (e .0 ∙ ap answer x) (e .1 ∙ ap after x)
 
 pub write-commit-spec : {M : Type 1} → statement M
 write-commit-spec =

@@ -48,8 +48,16 @@ cast-t17 : tie.Need-cast-t17
 cast-t17 c = search needs
 
 returns : tie.Need-returns
-returns c = seven (flag-number (c .before .before .before .before .before .before .before .is-tree .ensures)) (flag-number (c .before .before .before .before .before .before .is-no-tree .ensures)) (flag-number (c .before .before .before .before .before .is-blob .ensures))
-    (flag-number (c .before .before .before .before .is-executable .ensures)) (flag-number (c .before .before .before .is-blob-or-symlink .ensures)) (flag-number (c .before .before .is-link .ensures)) (flag-number (c .before .is-commit .ensures))
+returns c =
+    let is-tree = c .before .before .before .before .before .before .before .is-tree in
+    let is-no-tree = c .before .before .before .before .before .before .is-no-tree in
+    let is-blob = c .before .before .before .before .before .is-blob in
+    let is-executable = c .before .before .before .before .is-executable in
+    let is-blob-or-symlink = c .before .before .before .is-blob-or-symlink in
+    let is-link = c .before .before .is-link in
+    let is-commit = c .before .is-commit in
+    seven (flag-number (is-tree .ensures)) (flag-number (is-no-tree .ensures)) (flag-number (is-blob .ensures))
+    (flag-number (is-executable .ensures)) (flag-number (is-blob-or-symlink .ensures)) (flag-number (is-link .ensures)) (flag-number (is-commit .ensures))
 
 pub mode-ask-spec : {M : Type 1} → statement M
 mode-ask-spec =

@@ -16,7 +16,10 @@ same-length-2 : tie.Need-same-length-2
 same-length-2 c = search needs
 
 returns : tie.Need-returns
-returns c = let m = c .before .before .before .before .before .mend-tree .ensures in (ap (λ (a : Mended). a .verdict .number) (m .0), (ap mendNumbers (m .0), (m .1 .0, m .1 .1)))
+returns c =
+    let mend-tree = c .before .before .before .before .before .mend-tree in
+    let m = mend-tree .ensures in
+    (ap (λ (a : Mended). a .verdict .number) (m .0), (ap mendNumbers (m .0), (m .1 .0, m .1 .1)))
 
 pub mend-tree-spec : {M : Type 1} → statement M
 mend-tree-spec =

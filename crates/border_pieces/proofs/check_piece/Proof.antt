@@ -22,11 +22,13 @@ store-marks-requires c κs = search needs
 
 returns-2 : tie.Need-returns-2
 returns-2 c =
+    let store-marks = c .store-marks in
     let k = c .before .before .before in
     let e = k .before .before .before in
     let x = e .before .before .before .before .before .before .args in
-    fed-on (x .held .now) (x .ends .now) (x .marks .now) (x .first .now) (x .piece .now) (e .before .before .before .if1 .left) (e .marks-said .ensures) (k .feed .ensures)
-    (c .store-marks .ensures) refl
+    fed-on (x .held .now) (x .ends .now) (x .marks .now) (x .first .now) (x .piece .now) (e .before .before .before .if1 .left) (e .marks-said .ensures)
+    (k .feed .ensures)
+    (store-marks .ensures) refl
 
 pub check-piece-spec : {M : Type 1} → statement M
 check-piece-spec =

@@ -28,10 +28,20 @@ tell-requires-2 : tie.Need-tell-requires-2
 tell-requires-2 c κs = search needs
 
 returns : tie.Need-returns
-returns c = check-is _ Bad _ _ _ (sym (c .before .before .before .before .read-header .ensures) ∙ c .before .before .enum-told .given .1) refl (c .before .open-bundle .ensures) (c .tell .ensures)
+returns c =
+    let read-header = c .before .before .before .before .read-header in
+    let enum-told = c .before .before .enum-told in
+    let open-bundle = c .before .open-bundle in
+    let tell = c .tell in
+    check-is _ Bad _ _ _ (sym (read-header .ensures) ∙ enum-told .given .1) refl (open-bundle .ensures) (tell .ensures)
 
 returns-2 : tie.Need-returns-2
-returns-2 c = check-is _ (Good _) _ _ _ (sym (c .before .before .before .before .before .read-header .ensures) ∙ c .before .before .before .k .given .1) refl (c .before .open-bundle2 .ensures) (c .tell2 .ensures)
+returns-2 c =
+    let read-header = c .before .before .before .before .before .read-header in
+    let k = c .before .before .before .k in
+    let open-bundle2 = c .before .open-bundle2 in
+    let tell2 = c .tell2 in
+    check-is _ (Good _) _ _ _ (sym (read-header .ensures) ∙ k .given .1) refl (open-bundle2 .ensures) (tell2 .ensures)
 
 pub check-bundle-spec : {M : Type 1} → statement M
 check-bundle-spec =

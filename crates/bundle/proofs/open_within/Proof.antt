@@ -15,25 +15,57 @@ enum-known-k : tie.Need-enum-known-k
 enum-known-k c = search needs
 
 returns : tie.Need-returns
-returns c = sym (open-other _ _ _ _ (sym (c .before .before .before .before .before .read-header .ensures) ∙ c .before .before .before .k .given .1) (c .if1 .taken))
+returns c =
+    let read-header = c .before .before .before .before .before .read-header in
+    let k = c .before .before .before .k in
+    let if1 = c .if1 in
+    sym (open-other _ _ _ _ (sym (read-header .ensures) ∙ k .given .1) (if1 .taken))
 
 well-framed-requires : tie.Need-well-framed-requires
 well-framed-requires c κs = search needs
 
 repeated-requires : tie.Need-repeated-requires
-repeated-requires c κs = (sym (c .before .before .before .before .before .before .before .read-header .ensures) ∙ c .before .before .before .before .before .k .given .1, c .before .before .before .before .before .before .before .before .before .pre)
+repeated-requires c κs =
+    let pre = c .before .before .before .before .before .before .before .before .before .pre in
+    let read-header = c .before .before .before .before .before .before .before .read-header in
+    let k = c .before .before .before .before .before .k in
+    (sym (read-header .ensures) ∙ k .given .1, pre)
 
 returns-2 : tie.Need-returns-2
-returns-2 c = sym (open-twice _ _ _ _ (sym (c .before .before .before .before .before .before .before .before .before .read-header .ensures) ∙ c .before .before .before .before .before .before .before .k .given .1) (c .before .before .before .before .if1 .left) (sym (c .before .before .before .well-framed .ensures) ∙ c .before .before .if2 .taken) (sym (c .before .repeated .ensures) ∙ c .if3 .taken))
+returns-2 c =
+    let read-header = c .before .before .before .before .before .before .before .before .before .read-header in
+    let k = c .before .before .before .before .before .before .before .k in
+    let if1 = c .before .before .before .before .if1 in
+    let well-framed = c .before .before .before .well-framed in
+    let if2 = c .before .before .if2 in
+    let repeated = c .before .repeated in
+    let if3 = c .if3 in
+    sym (open-twice _ _ _ _ (sym (read-header .ensures) ∙ k .given .1) (if1 .left) (sym (well-framed .ensures) ∙ if2 .taken)
+    (sym (repeated .ensures) ∙ if3 .taken))
 
 returns-3 : tie.Need-returns-3
-returns-3 c = sym (open-fine _ _ _ _ (sym (c .before .before .before .before .before .before .before .before .before .read-header .ensures) ∙ c .before .before .before .before .before .before .before .k .given .1) (c .before .before .before .before .if1 .left) (sym (c .before .before .before .well-framed .ensures) ∙ c .before .before .if2 .taken) (sym (c .before .repeated .ensures) ∙ c .if3 .left))
+returns-3 c =
+    let read-header = c .before .before .before .before .before .before .before .before .before .read-header in
+    let k = c .before .before .before .before .before .before .before .k in
+    let if1 = c .before .before .before .before .if1 in
+    let well-framed = c .before .before .before .well-framed in
+    let if2 = c .before .before .if2 in
+    let repeated = c .before .repeated in
+    let if3 = c .if3 in
+    sym (open-fine _ _ _ _ (sym (read-header .ensures) ∙ k .given .1) (if1 .left) (sym (well-framed .ensures) ∙ if2 .taken)
+    (sym (repeated .ensures) ∙ if3 .left))
 
 returns-4 : tie.Need-returns-4
 returns-4 c = sym (open-bad _ _ _ (sym (c .before .before .read-header .ensures) ∙ c .enum-told .given .1))
 
 returns-5 : tie.Need-returns-5
-returns-5 c = sym (open-fault _ _ _ _ (sym (c .before .before .before .before .before .before .before .read-header .ensures) ∙ c .before .before .before .before .before .k .given .1) (c .before .before .if1 .left) (sym (c .before .well-framed .ensures) ∙ c .if2 .left))
+returns-5 c =
+    let read-header = c .before .before .before .before .before .before .before .read-header in
+    let k = c .before .before .before .before .before .k in
+    let if1 = c .before .before .if1 in
+    let well-framed = c .before .well-framed in
+    let if2 = c .if2 in
+    sym (open-fault _ _ _ _ (sym (read-header .ensures) ∙ k .given .1) (if1 .left) (sym (well-framed .ensures) ∙ if2 .left))
 
 pub open-within-spec : {M : Type 1} → statement M
 open-within-spec =

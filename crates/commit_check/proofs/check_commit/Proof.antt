@@ -36,6 +36,9 @@ add-if1-2 c = search needs
 
 returns : tie.Need-returns
 returns c =
+    let enum-told = c .before .before .enum-told in
+    let count-all = c .before .count-all in
+    let if1 = c .if1 in
     let at-bounds1 = c .before .before .before .before in
     let bounds1 = at-bounds1 .bounds in
     let at-longer21 = at-bounds1 .before in
@@ -48,10 +51,12 @@ returns c =
     let longer2 = longer21 in
     let longer = longer1 in
     let args = args1 in
-    sym (checked-stop (args .h) (args .bytes .now) (args .parts) (args .parents .now) (args .headers .now) (args .room) _ _ (longer .ensures) (longer2 .ensures) (sym (bounds .ensures) ∙ c .before .before .enum-told .given .1) _ (c .before .count-all .ensures) (c .if1 .taken))
+    sym (checked-stop (args .h) (args .bytes .now) (args .parts) (args .parents .now) (args .headers .now) (args .room) _ _ (longer .ensures) (longer2 .ensures)
+    (sym (bounds .ensures) ∙ enum-told .given .1) _ (count-all .ensures) (if1 .taken))
 
 returns-2 : tie.Need-returns-2
 returns-2 c =
+    let v = c .before .v in
     let at-bounds = c .before .before .before in
     let bounds = at-bounds .bounds in
     let at-longer21 = at-bounds .before in
@@ -63,10 +68,14 @@ returns-2 c =
     let longer2 = longer21 in
     let longer = longer1 in
     let args = args1 in
-    sym (checked-shut (args .h) (args .bytes .now) (args .parts) (args .parents .now) (args .headers .now) (args .room) _ _ (longer .ensures) (longer2 .ensures) _ (sym (bounds .ensures) ∙ c .before .v .given .1))
+    sym (checked-shut (args .h) (args .bytes .now) (args .parts) (args .parents .now) (args .headers .now) (args .room) _ _ (longer .ensures) (longer2 .ensures)
+    _ (sym (bounds .ensures) ∙ v .given .1))
 
 returns-3 : tie.Need-returns-3
 returns-3 c =
+    let enum-told = c .before .before .enum-told in
+    let count-all = c .before .count-all in
+    let if1 = c .if1 in
     let at-bounds1 = c .before .before .before .before in
     let bounds1 = at-bounds1 .bounds in
     let at-longer21 = at-bounds1 .before in
@@ -79,7 +88,8 @@ returns-3 c =
     let longer2 = longer21 in
     let longer = longer1 in
     let args = args1 in
-    sym (checked-fine (args .h) (args .bytes .now) (args .parts) (args .parents .now) (args .headers .now) (args .room) _ _ (longer .ensures) (longer2 .ensures) (sym (bounds .ensures) ∙ c .before .before .enum-told .given .1) _ (c .before .count-all .ensures) (c .if1 .left))
+    sym (checked-fine (args .h) (args .bytes .now) (args .parts) (args .parents .now) (args .headers .now) (args .room) _ _ (longer .ensures) (longer2 .ensures)
+    (sym (bounds .ensures) ∙ enum-told .given .1) _ (count-all .ensures) (if1 .left))
 
 pub check-commit-spec : {M : Type 1} → statement M
 check-commit-spec =

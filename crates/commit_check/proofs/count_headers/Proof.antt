@@ -40,9 +40,19 @@ loop-again c =
     let loop1 = c .before .before .before .before .loop in
     let loop-test = c .before .before .before .loop-test in
     let header-at = c .before .before .header-at in
+    let is-header = c .before .is-header in
+    let if1 = c .if1 in
     let loop = loop1 in
-    let args = args1 in
-    (omega arith, refl, omega (arith, loop .inv .2, heads-more (headerFits (args .bytes .now)) (args .headers .now) (length (args .headers .now) / width) (loop .i) (loop-test .taken) (header-at .result) (header-at .ensures) (sym (c .before .is-header .ensures) ∙ c .if1 .taken)))
+    let args = args1 in (
+      omega arith,
+      refl,
+      omega (
+        arith,
+        loop .inv .2,
+        heads-more (headerFits (args .bytes .now)) (args .headers .now) (length (args .headers .now) / width)
+            (loop .i) (loop-test .taken) (header-at .result) (header-at .ensures) (sym (is-header .ensures) ∙ if1 .taken),
+      ),
+    )
 
 returns : tie.Need-returns Inv-loop μ-loop
 returns c =
@@ -50,16 +60,29 @@ returns c =
     let loop1 = c .before .before .before .before .loop in
     let loop-test = c .before .before .before .loop-test in
     let header-at = c .before .before .header-at in
+    let is-header = c .before .is-header in
+    let if1 = c .if1 in
     let loop = loop1 in
     let args = args1 in
-    omega (arith, loop .inv .2, heads-bad (headerFits (args .bytes .now)) (args .headers .now) (length (args .headers .now) / width) (loop .i) (loop-test .taken) (header-at .result) (header-at .ensures) (sym (c .before .is-header .ensures) ∙ c .if1 .left))
+    omega (
+      arith,
+      loop .inv .2,
+      heads-bad (headerFits (args .bytes .now)) (args .headers .now) (length (args .headers .now) / width) (loop .i)
+          (loop-test .taken) (header-at .result) (header-at .ensures) (sym (is-header .ensures) ∙ if1 .left),
+    )
 
 returns-2 : tie.Need-returns-2 Inv-loop μ-loop
 returns-2 c =
     let args1 = c .before .before .before .before .args in
     let loop = c .before .loop in
+    let loop-test = c .loop-test in
     let args = args1 in
-    omega (arith, loop .inv .2, heads-end (headerFits (args .bytes .now)) (args .headers .now) (length (args .headers .now) / width) (loop .i) (c .loop-test .left))
+    omega (
+      arith,
+      loop .inv .2,
+      heads-end (headerFits (args .bytes .now)) (args .headers .now) (length (args .headers .now) / width) (loop .i)
+          (loop-test .left),
+    )
 
 pub count-headers-spec : {M : Type 1} → statement M
 count-headers-spec =

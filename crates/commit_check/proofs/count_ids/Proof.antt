@@ -39,18 +39,34 @@ loop-again c =
     let args1 = c .before .before .before .before .before .before .before .args in
     let loop1 = c .before .before .before .before .loop in
     let loop-test = c .before .before .before .loop-test in
+    let is-id = c .before .is-id in
+    let if1 = c .if1 in
     let loop = loop1 in
-    let args = args1 in
-    (omega arith, omega (arith, loop .inv .1, run-more (idFits (args .h) (args .bytes .now)) (args .parents .now) (loop .i) (loop-test .taken) (sym (c .before .is-id .ensures) ∙ c .if1 .taken)))
+    let args = args1 in (
+      omega arith,
+      omega (
+        arith,
+        loop .inv .1,
+        run-more (idFits (args .h) (args .bytes .now)) (args .parents .now) (loop .i) (loop-test .taken)
+            (sym (is-id .ensures) ∙ if1 .taken),
+      ),
+    )
 
 returns : tie.Need-returns Inv-loop μ-loop
 returns c =
     let args1 = c .before .before .before .before .before .before .before .args in
     let loop1 = c .before .before .before .before .loop in
     let loop-test = c .before .before .before .loop-test in
+    let is-id = c .before .is-id in
+    let if1 = c .if1 in
     let loop = loop1 in
     let args = args1 in
-    omega (arith, loop .inv .1, run-bad (idFits (args .h) (args .bytes .now)) (args .parents .now) (loop .i) (loop-test .taken) (sym (c .before .is-id .ensures) ∙ c .if1 .left))
+    omega (
+      arith,
+      loop .inv .1,
+      run-bad (idFits (args .h) (args .bytes .now)) (args .parents .now) (loop .i) (loop-test .taken)
+          (sym (is-id .ensures) ∙ if1 .left),
+    )
 
 returns-2 : tie.Need-returns-2 Inv-loop μ-loop
 returns-2 c =

@@ -69,8 +69,14 @@ loop-again c =
     let if1 = if11 in
     let loop-test = loop-test1 in
     let loop = loop1 in
-    let args = args1 in
-    (omega arith, put-byte2 .kept .0 ∙ put-byte .kept .0 ∙ loop .inv .1, omega (arith, loop .inv .2), left-next (32 ∷ getD (args .v .now) (loop .i) 0 ∷ []) _ _ _ (loop .inv .3) (fold-space (loop .prev) (args .v .now) (loop .i) (loop-test .taken) (if1 .taken)) (put-two (loop .out) (loop .to) 32 (getD (args .v .now) (loop .i) 0) _ _ (put-byte .ensures) (put-byte2 .ensures)) (omega arith))
+    let args = args1 in (
+      omega arith,
+      put-byte2 .kept .0 ∙ put-byte .kept .0 ∙ loop .inv .1,
+      omega (arith, loop .inv .2),
+      left-next (32 ∷ getD (args .v .now) (loop .i) 0 ∷ []) _ _
+          _ (loop .inv .3) (fold-space (loop .prev) (args .v .now) (loop .i) (loop-test .taken) (if1 .taken))
+          (put-two (loop .out) (loop .to) 32 (getD (args .v .now) (loop .i) 0) _ _ (put-byte .ensures) (put-byte2 .ensures)) (omega arith),
+    )
 
 shared-slice-read-prev-2 : tie.Need-shared-slice-read-prev-2 Inv-loop μ-loop
 shared-slice-read-prev-2 c = search needs
@@ -107,8 +113,13 @@ loop-again-2 c =
     let if1 = if11 in
     let loop-test = loop-test1 in
     let loop = loop1 in
-    let args = args1 in
-    (omega arith, put-byte3 .kept .0 ∙ loop .inv .1, omega (arith, loop .inv .2), left-next (getD (args .v .now) (loop .i) 0 ∷ []) _ _ _ (loop .inv .3) (fold-on (loop .prev) (args .v .now) (loop .i) (loop-test .taken) (if1 .left)) (put-byte3 .ensures) (omega arith))
+    let args = args1 in (
+      omega arith,
+      put-byte3 .kept .0 ∙ loop .inv .1,
+      omega (arith, loop .inv .2),
+      left-next (getD (args .v .now) (loop .i) 0 ∷ []) _ _ _ (loop .inv .3)
+          (fold-on (loop .prev) (args .v .now) (loop .i) (loop-test .taken) (if1 .left)) (put-byte3 .ensures) (omega arith),
+    )
 
 same-length : tie.Need-same-length Inv-loop μ-loop
 same-length c = c .before .before .loop .inv .1
@@ -137,6 +148,7 @@ same-length-2 c =
 
 returns-2 : tie.Need-returns-2 Inv-loop μ-loop
 returns-2 c =
+    let put-byte4 = c .before .before .put-byte4 in
     let at-if21 = c .before .before .before .before in
     let if21 = at-if21 .if2 in
     let at-loop-test1 = at-if21 .before in
@@ -149,7 +161,8 @@ returns-2 c =
     let loop-test = loop-test1 in
     let loop = loop1 in
     let args = args1 in
-    left-none (left-next (10 ∷ []) [] _ (loop .to + 1) (loop .inv .3) (fold-last (loop .prev) (args .v .now) (loop .i) (loop-test .left) (if2 .left)) (c .before .before .put-byte4 .ensures) (omega arith)) refl
+    left-none (left-next (10 ∷ []) [] _ (loop .to + 1) (loop .inv .3) (fold-last (loop .prev) (args .v .now) (loop .i) (loop-test .left) (if2 .left))
+    (put-byte4 .ensures) (omega arith)) refl
 
 pub put-folded-spec : {M : Type 1} → statement M
 put-folded-spec =

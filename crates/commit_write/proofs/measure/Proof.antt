@@ -14,8 +14,10 @@ returns : tie.Need-returns
 returns c =
     let args1 = c .before .before .before .before .before .args in
     let check-commit = c .before .check-commit in
+    let if1 = c .if1 in
     let args = args1 in
-    sym (measured-bad (args .h) (args .bytes .now) (args .parts) (args .parents .now) (args .headers .now) (args .room) (λ z. c .if1 .taken (ap (λ (v : Verdict). v .number) (check-commit .ensures) ∙ z)) ∙ ap refused (sym (check-commit .ensures)))
+    sym (measured-bad (args .h) (args .bytes .now) (args .parts) (args .parents .now) (args .headers .now) (args .room)
+    (λ z. if1 .taken (ap (λ (v : Verdict). v .number) (check-commit .ensures) ∙ z)) ∙ ap refused (sym (check-commit .ensures)))
 
 slice-aggregate-put-commit : tie.Need-slice-aggregate-put-commit
 slice-aggregate-put-commit c = search needs
@@ -23,17 +25,22 @@ slice-aggregate-put-commit c = search needs
 put-commit-requires : tie.Need-put-commit-requires
 put-commit-requires c κs =
     let args1 = c .before .before .before .before .before .before .args in
+    let check-commit = c .before .before .check-commit in
+    let if1 = c .before .if1 in
     let args = args1 in
-    checked-less (args .h) (args .bytes .now) (args .parts) (args .parents .now) (args .headers .now) (args .room) (sym (ap (λ (v : Verdict). v .number) (c .before .before .check-commit .ensures)) ∙ c .before .if1 .left)
+    checked-less (args .h) (args .bytes .now) (args .parts) (args .parents .now) (args .headers .now) (args .room)
+    (sym (ap (λ (v : Verdict). v .number) (check-commit .ensures)) ∙ if1 .left)
 
 returns-2 : tie.Need-returns-2
 returns-2 c =
     let args1 = c .before .before .before .before .before .before .before .before .args in
     let check-commit1 = c .before .before .before .before .check-commit in
     let if1 = c .before .before .before .if1 in
+    let put-commit = c .before .put-commit in
     let check-commit = check-commit1 in
     let args = args1 in
-    sym (measured-fine (args .h) (args .bytes .now) (args .parts) (args .parents .now) (args .headers .now) (args .room) (sym (ap (λ (v : Verdict). v .number) (check-commit .ensures)) ∙ if1 .left) ∙ ap counted (sym (c .before .put-commit .ensures .0)))
+    sym (measured-fine (args .h) (args .bytes .now) (args .parts) (args .parents .now) (args .headers .now) (args .room)
+    (sym (ap (λ (v : Verdict). v .number) (check-commit .ensures)) ∙ if1 .left) ∙ ap counted (sym (put-commit .ensures .0)))
 
 pub measure-spec : {M : Type 1} → statement M
 measure-spec =

@@ -44,7 +44,8 @@ put-line-requires-2 c κs =
     let at-put-id-line = at-put-parents .before .before .before .before in
     let start = at-put-id-line .before .before .before .before .before .before .before in
     let k = sizes-of _ _ _ _ _ (start .pre) in
-    let m = author-end k (parents-end k (at-put-id-line .put-id-line .ensures .0) (at-put-parents .put-parents .ensures .0)) (at-put-line .put-line .ensures .0) in
+    let m = author-end k (parents-end k (at-put-id-line .put-id-line .ensures .0) (at-put-parents .put-parents .ensures .0)) (at-put-line .put-line .ensures .0)
+    in
     (k .committer-range, omega (arith, k .committer-range, k .bytes-most, m))
 
 put-encoding-requires : tie.Need-put-encoding-requires
@@ -55,7 +56,8 @@ put-encoding-requires c κs =
     let at-put-id-line = at-put-parents .before .before .before .before in
     let start = at-put-id-line .before .before .before .before .before .before .before in
     let k = sizes-of _ _ _ _ _ (start .pre) in
-    let m = author-end k (parents-end k (at-put-id-line .put-id-line .ensures .0) (at-put-parents .put-parents .ensures .0)) (at-put-line .put-line .ensures .0) in
+    let m = author-end k (parents-end k (at-put-id-line .put-id-line .ensures .0) (at-put-parents .put-parents .ensures .0)) (at-put-line .put-line .ensures .0)
+    in
     (checked-sound _ _ _ _ _ 0 (start .pre) .encoding, (k .bytes-most, omega (arith, committer-end k m (at-put-line2 .put-line2 .ensures .0))))
 
 put-headers-requires : tie.Need-put-headers-requires
@@ -67,7 +69,8 @@ put-headers-requires c κs =
     let at-put-id-line = at-put-parents .before .before .before .before in
     let start = at-put-id-line .before .before .before .before .before .before .before in
     let k = sizes-of _ _ _ _ _ (start .pre) in
-    let m = author-end k (parents-end k (at-put-id-line .put-id-line .ensures .0) (at-put-parents .put-parents .ensures .0)) (at-put-line .put-line .ensures .0) in
+    let m = author-end k (parents-end k (at-put-id-line .put-id-line .ensures .0) (at-put-parents .put-parents .ensures .0)) (at-put-line .put-line .ensures .0)
+    in
     let n = encoding-end k (committer-end k m (at-put-line2 .put-line2 .ensures .0)) (at-put-encoding .put-encoding .ensures .0) in
     (checked-sound _ _ _ _ _ 0 (start .pre) .headers-pass, (k .bytes-most, omega (arith, n, k .headers-most)))
 
@@ -81,7 +84,8 @@ put-message-requires c κs =
     let at-put-id-line = at-put-parents .before .before .before .before in
     let start = at-put-id-line .before .before .before .before .before .before .before in
     let k = sizes-of _ _ _ _ _ (start .pre) in
-    let m = author-end k (parents-end k (at-put-id-line .put-id-line .ensures .0) (at-put-parents .put-parents .ensures .0)) (at-put-line .put-line .ensures .0) in
+    let m = author-end k (parents-end k (at-put-id-line .put-id-line .ensures .0) (at-put-parents .put-parents .ensures .0)) (at-put-line .put-line .ensures .0)
+    in
     let n = encoding-end k (committer-end k m (at-put-line2 .put-line2 .ensures .0)) (at-put-encoding .put-encoding .ensures .0) in
     (k .message-range, omega (arith, k .message-range, k .bytes-most, headers-end k n (at-put-headers .put-headers .ensures .0)))
 

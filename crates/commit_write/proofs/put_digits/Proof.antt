@@ -54,8 +54,12 @@ loop-again c =
     let args1 = at-args1 .args in
     let loop-test = loop-test1 in
     let loop = loop1 in
-    let args = args1 in
-    (omega arith, put-byte .kept .0 ∙ loop .inv .1, left-next (lowerDigit (getD (args .digits .now) (loop .i) 0) ∷ []) _ _ _ (loop .inv .2) (digits-more (args .digits .now) (loop .i) (loop-test .taken)) (put-byte .ensures ∙ rw (lower .ensures)) (omega arith))
+    let args = args1 in (
+      omega arith,
+      put-byte .kept .0 ∙ loop .inv .1,
+      left-next (lowerDigit (getD (args .digits .now) (loop .i) 0) ∷ []) _ _ _ (loop .inv .2)
+          (digits-more (args .digits .now) (loop .i) (loop-test .taken)) (put-byte .ensures ∙ rw (lower .ensures)) (omega arith),
+    )
 
 same-length : tie.Need-same-length Inv-loop μ-loop
 same-length c = c .before .loop .inv .1

@@ -33,8 +33,11 @@ put-header-requires c κs =
     let args = c .before .before .before .before .before .before .before .args in
     let pre = c .before .before .before .before .before .before .before .pre in
     let loop = c .before .before .before .loop in
-    let s = headers-step (headerFits (args .bytes .now)) (args .headers .now) (length (args .headers .now) / width) (loop .i) (c .before .before .loop-test .taken) (loop .inv .2) in
-    (rw (c .before .header-at .ensures) (s .0), (pre .1 .0, omega (arith, pre .1 .1, loop .inv .3)))
+    let loop-test = c .before .before .loop-test in
+    let header-at = c .before .header-at in
+    let s = headers-step (headerFits (args .bytes .now)) (args .headers .now) (length (args .headers .now) / width) (loop .i) (loop-test .taken) (loop .inv .2)
+    in
+    (rw (header-at .ensures) (s .0), (pre .1 .0, omega (arith, pre .1 .1, loop .inv .3)))
 
 add-i : tie.Need-add-i Inv-loop μ-loop
 add-i c = search needs
@@ -55,9 +58,23 @@ loop-again c =
     let at-args = at-loop .before .before .before .before in
     let args = at-args .args in
     let pre = at-args .pre in
-    let s = headers-step (headerFits (args .bytes .now)) (args .headers .now) (length (args .headers .now) / width) (loop .i) (loop-test .taken) (loop .inv .2) in
-    let f : headerFits (args .bytes .now) (header-at .result) ≡ true = rw (header-at .ensures) (s .0) in
-    (omega arith, put-header .kept .0 ∙ loop .inv .1, s .1, omega (arith, loop .inv .3, header-le (args .bytes .now) (header-at .result) f (pre .1 .0), put-header .ensures .0), left-next (headerWritten (headerNamed (args .bytes .now) (header-at .result))) _ _ _ (loop .inv .4) (headers-next (args .bytes .now) (args .headers .now) (length (args .headers .now) / width) (loop .i) (loop-test .taken) (header-at .result) (header-at .ensures)) (put-header .ensures .1) (put-header .ensures .0), refl)
+    let s = headers-step (headerFits (args .bytes .now)) (args .headers .now) (length (args .headers .now) / width) (loop .i) (loop-test .taken) (loop .inv .2)
+    in
+    let f : headerFits (args .bytes .now) (header-at .result) ≡ true = rw (header-at .ensures) (s .0) in (
+      omega arith,
+      put-header .kept .0 ∙ loop .inv .1,
+      s .1,
+      omega (
+        arith,
+        loop .inv .3,
+        header-le (args .bytes .now) (header-at .result) f (pre .1 .0),
+        put-header .ensures .0,
+      ),
+      left-next (headerWritten (headerNamed (args .bytes .now) (header-at .result))) _ _ _ (loop .inv .4)
+          (headers-next (args .bytes .now) (args .headers .now) (length (args .headers .now) / width) (loop .i) (loop-test .taken) (header-at .result)
+          (header-at .ensures)) (put-header .ensures .1) (put-header .ensures .0),
+      refl,
+    )
 
 same-length : tie.Need-same-length Inv-loop μ-loop
 same-length c = c .before .loop .inv .1

@@ -60,7 +60,8 @@ returns c =
     let digits = args .at + length (args .word .now) + 1 in
     let last = digits + 2 * args .h in
     let w = id-put _ _ _ _ (args .word .now) (idNamed (args .h) (args .bytes .now) (args .from)) (args .at) digits last (last + 1) (2 * args .h)
-    (named-length (args .h) (args .bytes .now) (args .from) (start .pre .0)) refl refl refl (at-put-ended .put-ended .ensures) (at-put-digits .put-digits .ensures) (at-put-byte .put-byte .ensures) in
+    (named-length (args .h) (args .bytes .now) (args .from) (start .pre .0)) refl refl refl (at-put-ended .put-ended .ensures)
+    (at-put-digits .put-digits .ensures) (at-put-byte .put-byte .ensures) in
     (w .past, w .holds)
 
 pub put-id-line-spec : {M : Type 1} → statement M

@@ -42,7 +42,8 @@ returns c =
     let start = at-put-byte .before .before .before .before in
     let args = start .args in
     let w = after-lf (args .out .now) _ _ (part (args .from) (args .to) (args .bytes .now)) (args .at) (args .at + 1 + (args .to - args .from))
-    (args .to - args .from) (part-length (args .bytes .now) (args .from) (args .to) (start .pre .0 .0) (start .pre .0 .1)) refl (at-put-byte .put-byte .ensures) (at-put .put .ensures) in
+    (args .to - args .from) (part-length (args .bytes .now) (args .from) (args .to) (start .pre .0 .0) (start .pre .0 .1)) refl (at-put-byte .put-byte .ensures)
+    (at-put .put .ensures) in
     (w .past, w .holds)
 
 pub put-message-spec : {M : Type 1} → statement M

@@ -42,7 +42,8 @@ put-id-line-requires c κs =
     let at-loop = at-loop-test .before in
     let start = at-loop .before .before .before .before in
     let args = start .args in
-    let s = parents-step (idFits (args .h) (args .bytes .now)) (args .parents .now) (at-loop .loop .i) (at-loop-test .loop-test .taken) (at-loop .loop .inv .2) .0 in (
+    let s = parents-step (idFits (args .h) (args .bytes .now)) (args .parents .now) (at-loop .loop .i) (at-loop-test .loop-test .taken)
+    (at-loop .loop .inv .2) .0 in (
       id-inside (args .h) (args .bytes .now) (getD (args .parents .now) (at-loop .loop .i) 0) s,
       (
         start .pre .1 .0,
@@ -89,9 +90,10 @@ same-length c = c .before .loop .inv .1
 
 returns : tie.Need-returns Inv-loop μ-loop
 returns c =
+    let loop-test = c .loop-test in
     let at-loop = c .before in
     let start = at-loop .before .before .before .before in
-    left-none (at-loop .loop .inv .4) (parents-none (start .args .h) (start .args .bytes .now) (start .args .parents .now) (at-loop .loop .i) (c .loop-test .left))
+    left-none (at-loop .loop .inv .4) (parents-none (start .args .h) (start .args .bytes .now) (start .args .parents .now) (at-loop .loop .i) (loop-test .left))
 
 pub put-parents-spec : {M : Type 1} → statement M
 put-parents-spec =

@@ -23,13 +23,21 @@ loop-holds : tie.Need-loop-holds Inv-loop μ-loop
 loop-holds c = (c .before .before .pre .2, c .before .before .pre .1)
 
 order-32-requires : tie.Need-order-32-requires Inv-loop μ-loop
-order-32-requires c κs = ready-after (c .before .before .before .before .args .a .now) (c .before .before .before .before .args .b .now) (c .before .loop .i) (c .before .before .before .before .args .n) (c .before .loop .i) 32 (c .before .loop .inv .1) (c .before .before .before .before .pre .0) (omega arith) (omega arith)
+order-32-requires c κs =
+    let args = c .before .before .before .before .args in
+    let pre = c .before .before .before .before .pre in
+    let loop = c .before .loop in
+    ready-after (args .a .now) (args .b .now) (loop .i) (args .n) (loop .i) 32 (loop .inv .1) (pre .0) (omega arith) (omega arith)
 
 enum-told : tie.Need-enum-told Inv-loop μ-loop
 enum-told c = search needs
 
 returns : tie.Need-returns Inv-loop μ-loop
-returns c = told-below (c .before .before .before .before .before .before .before .args .a .now) (c .before .before .before .before .before .before .before .args .b .now) _ (c .before .before .order-32 .ensures) _ (c .enum-told .given .1)
+returns c =
+    let args = c .before .before .before .before .before .before .before .args in
+    let order-32 = c .before .before .order-32 in
+    let enum-told = c .enum-told in
+    told-below (args .a .now) (args .b .now) _ (order-32 .ensures) _ (enum-told .given .1)
 
 enum-told-2 : tie.Need-enum-told-2 Inv-loop μ-loop
 enum-told-2 c = search needs
@@ -41,19 +49,36 @@ loop-less : tie.Need-loop-less Inv-loop μ-loop
 loop-less c = search needs
 
 loop-again : tie.Need-loop-again Inv-loop μ-loop
-loop-again c = (omega arith, told-same (c .before .before .before .before .before .before .before .args .a .now) (c .before .before .before .before .before .before .before .args .b .now) (c .before .before .before .before .loop .i + 32) (c .before .before .order-32 .ensures) (c .enum-told2 .given .1))
+loop-again c =
+    let args = c .before .before .before .before .before .before .before .args in
+    let loop = c .before .before .before .before .loop in
+    let order-32 = c .before .before .order-32 in
+    let enum-told2 = c .enum-told2 in
+    (omega arith, told-same (args .a .now) (args .b .now) (loop .i + 32) (order-32 .ensures) (enum-told2 .given .1))
 
 enum-told-3 : tie.Need-enum-told-3 Inv-loop μ-loop
 enum-told-3 c = search needs
 
 returns-2 : tie.Need-returns-2 Inv-loop μ-loop
-returns-2 c = told-above (c .before .before .before .before .before .before .before .args .a .now) (c .before .before .before .before .before .before .before .args .b .now) _ (c .before .before .order-32 .ensures) _ (c .enum-told3 .given .1)
+returns-2 c =
+    let args = c .before .before .before .before .before .before .before .args in
+    let order-32 = c .before .before .order-32 in
+    let enum-told3 = c .enum-told3 in
+    told-above (args .a .now) (args .b .now) _ (order-32 .ensures) _ (enum-told3 .given .1)
 
 order-32-requires-2 : tie.Need-order-32-requires-2 Inv-loop μ-loop
-order-32-requires-2 c κs = ready-after (c .before .before .before .before .args .a .now) (c .before .before .before .before .args .b .now) (c .before .loop .i) (c .before .before .before .before .args .n) (c .before .before .before .before .args .n - 32) 32 (c .before .loop .inv .1) (c .before .before .before .before .pre .0) (omega arith) (omega (arith, c .before .before .before .before .pre .2))
+order-32-requires-2 c κs =
+    let args = c .before .before .before .before .args in
+    let pre = c .before .before .before .before .pre in
+    let loop = c .before .loop in
+    ready-after (args .a .now) (args .b .now) (loop .i) (args .n) (args .n - 32) 32 (loop .inv .1) (pre .0) (omega arith) (omega (arith, pre .2))
 
 returns-3 : tie.Need-returns-3 Inv-loop μ-loop
-returns-3 c = told-at (c .before .before .before .before .before .args .a .now) (c .before .before .before .before .before .args .b .now) (c .before .before .before .before .before .args .n - 32 + 32) (c .before .before .before .before .before .args .n) (c .order-322 .result) (omega (arith, c .before .before .before .before .before .pre .2)) (c .order-322 .ensures)
+returns-3 c =
+    let args = c .before .before .before .before .before .args in
+    let pre = c .before .before .before .before .before .pre in
+    let order-322 = c .order-322 in
+    told-at (args .a .now) (args .b .now) (args .n - 32 + 32) (args .n) (order-322 .result) (omega (arith, pre .2)) (order-322 .ensures)
 
 pub after-32-spec : {M : Type 1} → statement M
 after-32-spec =

@@ -17,19 +17,32 @@ enum-told-2 : tie.Need-enum-told-2
 enum-told-2 c = search needs
 
 after-32-requires : tie.Need-after-32-requires
-after-32-requires c κs = (c .before .before .before .before .before .pre .0, told-same (c .before .before .before .before .before .args .a .now) (c .before .before .before .before .before .args .b .now) 32 (c .before .before .order-32 .ensures) (c .enum-told2 .given .1), c .before .before .before .before .before .pre .1)
+after-32-requires c κs =
+    let args = c .before .before .before .before .before .args in
+    let pre = c .before .before .before .before .before .pre in
+    let order-32 = c .before .before .order-32 in
+    let enum-told2 = c .enum-told2 in
+    (pre .0, told-same (args .a .now) (args .b .now) 32 (order-32 .ensures) (enum-told2 .given .1), pre .1)
 
 enum-told-3 : tie.Need-enum-told-3
 enum-told-3 c = search needs
 
 returns : tie.Need-returns
-returns c = told-below (c .before .before .before .before .before .args .a .now) (c .before .before .before .before .before .args .b .now) _ (c .before .before .order-32 .ensures) _ (c .enum-told .given .1)
+returns c =
+    let args = c .before .before .before .before .before .args in
+    let order-32 = c .before .before .order-32 in
+    let enum-told = c .enum-told in
+    told-below (args .a .now) (args .b .now) _ (order-32 .ensures) _ (enum-told .given .1)
 
 returns-2 : tie.Need-returns-2
 returns-2 c = search needs
 
 returns-3 : tie.Need-returns-3
-returns-3 c = told-above (c .before .before .before .before .before .args .a .now) (c .before .before .before .before .before .args .b .now) _ (c .before .before .order-32 .ensures) _ (c .enum-told3 .given .1)
+returns-3 c =
+    let args = c .before .before .before .before .before .args in
+    let order-32 = c .before .before .order-32 in
+    let enum-told3 = c .enum-told3 in
+    told-above (args .a .now) (args .b .now) _ (order-32 .ensures) _ (enum-told3 .given .1)
 
 pub from-32-spec : {M : Type 1} → statement M
 from-32-spec =

@@ -28,13 +28,28 @@ enum-told-3 : tie.Need-enum-told-3
 enum-told-3 c = search needs
 
 returns : tie.Need-returns
-returns c = order-below (c .before .before .before .before .before .before .args .a .now) (c .before .before .before .before .before .before .args .b .now) _ (c .before .before .before .before .before .before .args .atree) (c .before .before .before .before .before .before .args .btree) (c .before .before .by-first .ensures) (c .enum-told .given .1)
+returns c =
+    let args = c .before .before .before .before .before .before .args in
+    let by-first = c .before .before .by-first in
+    let enum-told = c .enum-told in
+    order-below (args .a .now) (args .b .now) _ (args .atree) (args .btree) (by-first .ensures) (enum-told .given .1)
 
 returns-2 : tie.Need-returns-2
-returns-2 c = c .by-next .ensures ∙ sym (by-end (c .before .before .before .before .before .before .before .args .a .now) (c .before .before .before .before .before .before .before .args .b .now) _ (c .before .before .before .before .before .before .before .args .atree) (c .before .before .before .before .before .before .before .args .btree) (c .before .before .before .before .shorter .ensures) (told-same (c .before .before .before .before .before .before .before .args .a .now) (c .before .before .before .before .before .before .before .args .b .now) _ (c .before .before .before .by-first .ensures) (c .before .enum-told2 .given .1)))
+returns-2 c =
+    let args = c .before .before .before .before .before .before .before .args in
+    let shorter = c .before .before .before .before .shorter in
+    let by-first = c .before .before .before .by-first in
+    let enum-told2 = c .before .enum-told2 in
+    let by-next = c .by-next in
+    by-next .ensures ∙ sym (by-end (args .a .now) (args .b .now) _ (args .atree) (args .btree) (shorter .ensures)
+    (told-same (args .a .now) (args .b .now) _ (by-first .ensures) (enum-told2 .given .1)))
 
 returns-3 : tie.Need-returns-3
-returns-3 c = order-above (c .before .before .before .before .before .before .args .a .now) (c .before .before .before .before .before .before .args .b .now) _ (c .before .before .before .before .before .before .args .atree) (c .before .before .before .before .before .before .args .btree) (c .before .before .by-first .ensures) (c .enum-told3 .given .1)
+returns-3 c =
+    let args = c .before .before .before .before .before .before .args in
+    let by-first = c .before .before .by-first in
+    let enum-told3 = c .enum-told3 in
+    order-above (args .a .now) (args .b .now) _ (args .atree) (args .btree) (by-first .ensures) (enum-told3 .given .1)
 
 pub name-order-spec : {M : Type 1} → statement M
 name-order-spec =

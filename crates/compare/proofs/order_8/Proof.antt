@@ -15,7 +15,13 @@ eight-requires-2 : tie.Need-eight-requires-2
 eight-requires-2 c κs = search needs
 
 returns : tie.Need-returns
-returns c = words-same (c .before .before .before .before .before .args .a .now) (c .before .before .before .before .before .args .b .now) _ 8 _ _ (c .before .before .before .before .before .pre) (omega arith) (c .before .before .eight .ensures) (c .before .eight2 .ensures) (c .if1 .taken)
+returns c =
+    let args = c .before .before .before .before .before .args in
+    let pre = c .before .before .before .before .before .pre in
+    let eight = c .before .before .eight in
+    let eight2 = c .before .eight2 in
+    let if1 = c .if1 in
+    words-same (args .a .now) (args .b .now) _ 8 _ _ pre (omega arith) (eight .ensures) (eight2 .ensures) (if1 .taken)
 
 turn-8-requires : tie.Need-turn-8-requires
 turn-8-requires c κs = search needs
@@ -24,10 +30,28 @@ turn-8-requires-2 : tie.Need-turn-8-requires-2
 turn-8-requires-2 c κs = search needs
 
 returns-2 : tie.Need-returns-2
-returns-2 c = words-below (c .before .before .before .before .before .before .before .before .args .a .now) (c .before .before .before .before .before .before .before .before .args .b .now) _ 8 _ _ (c .before .before .before .before .before .before .before .before .pre) (omega arith) (c .before .before .before .before .before .eight .ensures) (c .before .before .before .before .eight2 .ensures) (c .before .before .turn-8 .ensures) (c .before .turn-82 .ensures) (c .if2 .taken)
+returns-2 c =
+    let args = c .before .before .before .before .before .before .before .before .args in
+    let pre = c .before .before .before .before .before .before .before .before .pre in
+    let eight = c .before .before .before .before .before .eight in
+    let eight2 = c .before .before .before .before .eight2 in
+    let turn-8 = c .before .before .turn-8 in
+    let turn-82 = c .before .turn-82 in
+    let if2 = c .if2 in
+    words-below (args .a .now) (args .b .now) _ 8 _ _ pre (omega arith) (eight .ensures) (eight2 .ensures) (turn-8 .ensures) (turn-82 .ensures) (if2 .taken)
 
 returns-3 : tie.Need-returns-3
-returns-3 c = words-above (c .before .before .before .before .before .before .before .before .args .a .now) (c .before .before .before .before .before .before .before .before .args .b .now) _ 8 _ _ (c .before .before .before .before .before .before .before .before .pre) (omega arith) (c .before .before .before .before .before .eight .ensures) (c .before .before .before .before .eight2 .ensures) (c .before .before .turn-8 .ensures) (c .before .turn-82 .ensures) (c .before .before .before .if1 .left) (c .if2 .left)
+returns-3 c =
+    let args = c .before .before .before .before .before .before .before .before .args in
+    let pre = c .before .before .before .before .before .before .before .before .pre in
+    let eight = c .before .before .before .before .before .eight in
+    let eight2 = c .before .before .before .before .eight2 in
+    let if1 = c .before .before .before .if1 in
+    let turn-8 = c .before .before .turn-8 in
+    let turn-82 = c .before .turn-82 in
+    let if2 = c .if2 in
+    words-above (args .a .now) (args .b .now) _ 8 _ _ pre (omega arith) (eight .ensures) (eight2 .ensures) (turn-8 .ensures) (turn-82 .ensures) (if1 .left)
+    (if2 .left)
 
 pub order-8-spec : {M : Type 1} → statement M
 order-8-spec =

@@ -25,7 +25,12 @@ shared-slice-read-if1-2 : tie.Need-shared-slice-read-if1-2 Inv-loop μ-loop
 shared-slice-read-if1-2 c = omega (arith, c .before .before .before .before .pre .1)
 
 returns : tie.Need-returns Inv-loop μ-loop
-returns c = byte-below (c .before .before .before .before .before .args .a .now) (c .before .before .before .before .before .args .b .now) (c .before .before .before .before .loop .i) (omega (arith, c .before .before .before .before .before .pre .0)) (omega (arith, c .before .before .before .before .before .pre .1)) (c .before .before .before .before .loop .inv .1) _ (c .if1 .taken)
+returns c =
+    let args = c .before .before .before .before .before .args in
+    let pre = c .before .before .before .before .before .pre in
+    let loop = c .before .before .before .before .loop in
+    let if1 = c .if1 in
+    byte-below (args .a .now) (args .b .now) (loop .i) (omega (arith, pre .0)) (omega (arith, pre .1)) (loop .inv .1) _ (if1 .taken)
 
 shared-slice-read-if2 : tie.Need-shared-slice-read-if2 Inv-loop μ-loop
 shared-slice-read-if2 c = omega (arith, c .before .before .before .before .before .before .pre .1)
@@ -34,7 +39,12 @@ shared-slice-read-if2-2 : tie.Need-shared-slice-read-if2-2 Inv-loop μ-loop
 shared-slice-read-if2-2 c = omega (arith, c .before .before .before .before .before .before .before .pre .0)
 
 returns-2 : tie.Need-returns-2 Inv-loop μ-loop
-returns-2 c = byte-above (c .before .before .before .before .before .before .before .before .args .a .now) (c .before .before .before .before .before .before .before .before .args .b .now) (c .before .before .before .before .before .before .before .loop .i) (omega (arith, c .before .before .before .before .before .before .before .before .pre .0)) (omega (arith, c .before .before .before .before .before .before .before .before .pre .1)) (c .before .before .before .before .before .before .before .loop .inv .1) _ (c .if2 .taken)
+returns-2 c =
+    let args = c .before .before .before .before .before .before .before .before .args in
+    let pre = c .before .before .before .before .before .before .before .before .pre in
+    let loop = c .before .before .before .before .before .before .before .loop in
+    let if2 = c .if2 in
+    byte-above (args .a .now) (args .b .now) (loop .i) (omega (arith, pre .0)) (omega (arith, pre .1)) (loop .inv .1) _ (if2 .taken)
 
 add-i : tie.Need-add-i Inv-loop μ-loop
 add-i c = search needs
@@ -43,7 +53,16 @@ loop-less : tie.Need-loop-less Inv-loop μ-loop
 loop-less c = search needs
 
 loop-again : tie.Need-loop-again Inv-loop μ-loop
-loop-again c = (omega arith, byte-same (c .before .before .before .before .before .before .before .before .args .a .now) (c .before .before .before .before .before .before .before .before .args .b .now) (c .before .before .before .before .before .before .before .loop .i) (omega (arith, c .before .before .before .before .before .before .before .before .pre .0)) (omega (arith, c .before .before .before .before .before .before .before .before .pre .1)) (c .before .before .before .before .before .before .before .loop .inv .1) (c .before .before .before .before .before .before .before .loop .i + 1) (omega arith) (c .before .before .before .if1 .left) (c .if2 .left))
+loop-again c =
+    let args = c .before .before .before .before .before .before .before .before .args in
+    let pre = c .before .before .before .before .before .before .before .before .pre in
+    let loop = c .before .before .before .before .before .before .before .loop in
+    let if1 = c .before .before .before .if1 in
+    let if2 = c .if2 in (
+      omega arith,
+      byte-same (args .a .now) (args .b .now) (loop .i) (omega (arith, pre .0)) (omega (arith, pre .1)) (loop .inv .1) (loop .i + 1) (omega arith)
+          (if1 .left) (if2 .left),
+    )
 
 returns-3 : tie.Need-returns-3 Inv-loop μ-loop
 returns-3 c = told-from (c .before .before .args .a .now) (c .before .before .args .b .now) (c .before .loop .i) _ (omega arith) (c .before .loop .inv .1)

@@ -18,7 +18,11 @@ turn-2-requires-2 : tie.Need-turn-2-requires-2
 turn-2-requires-2 c κs = search needs
 
 add-result : tie.Need-add-result
-add-result c = omega (arith, c .before .turn-2 .ensures, c .turn-22 .ensures, turned-small 2 (c .before .before .args .w), turned-small 2 (c .before .before .args .w / 65536))
+add-result c =
+    let args = c .before .before .args in
+    let turn-2 = c .before .turn-2 in
+    let turn-22 = c .turn-22 in
+    omega (arith, turn-2 .ensures, turn-22 .ensures, turned-small 2 (args .w), turned-small 2 (args .w / 65536))
 
 returns : tie.Need-returns
 returns c = rw (c .before .turn-2 .ensures, c .turn-22 .ensures) (turned-four (c .before .before .args .w))

@@ -18,7 +18,11 @@ turn-4-requires-2 : tie.Need-turn-4-requires-2
 turn-4-requires-2 c κs = search needs
 
 add-result : tie.Need-add-result
-add-result c = omega (arith, c .before .turn-4 .ensures, c .turn-42 .ensures, turned-small 4 (c .before .before .args .w), turned-small 4 (c .before .before .args .w / 4294967296))
+add-result c =
+    let args = c .before .before .args in
+    let turn-4 = c .before .turn-4 in
+    let turn-42 = c .turn-42 in
+    omega (arith, turn-4 .ensures, turn-42 .ensures, turned-small 4 (args .w), turned-small 4 (args .w / 4294967296))
 
 returns : tie.Need-returns
 returns c = rw (c .before .turn-4 .ensures, c .turn-42 .ensures) (turned-eight (c .before .before .args .w))

@@ -23,10 +23,20 @@ find-byte-requires : tie.Need-find-byte-requires Inv-loop μ-loop
 find-byte-requires c κs = search needs
 
 returns : tie.Need-returns Inv-loop μ-loop
-returns c = sym (c .before .before .before .loop .inv .1 ∙ good-empty _ _ _ _ (c .before .before .before .loop .inv .0) (c .before .find-byte .ensures) (c .if1 .taken))
+returns c =
+    let loop = c .before .before .before .loop in
+    let find-byte = c .before .find-byte in
+    let if1 = c .if1 in
+    sym (loop .inv .1 ∙ good-empty _ _ _ _ (loop .inv .0) (find-byte .ensures) (if1 .taken))
 
 returns-2 : tie.Need-returns-2 Inv-loop μ-loop
-returns-2 c = sym (c .before .before .before .before .loop .inv .1 ∙ good-last _ _ _ _ (c .before .before .before .before .loop .inv .0) (c .before .before .find-byte .ensures) (c .before .before .before .loop-test .taken) (c .before .if1 .left) (c .if2 .taken))
+returns-2 c =
+    let loop = c .before .before .before .before .loop in
+    let loop-test = c .before .before .before .loop-test in
+    let find-byte = c .before .before .find-byte in
+    let if1 = c .before .if1 in
+    let if2 = c .if2 in
+    sym (loop .inv .1 ∙ good-last _ _ _ _ (loop .inv .0) (find-byte .ensures) (loop-test .taken) (if1 .left) (if2 .taken))
 
 add-at : tie.Need-add-at Inv-loop μ-loop
 add-at c = omega (arith, to-within _ _ 0 _ (c .before .before .before .before .loop .inv .0) (c .before .before .find-byte .ensures))
@@ -38,10 +48,23 @@ loop-less : tie.Need-loop-less Inv-loop μ-loop
 loop-less c = search needs
 
 loop-again : tie.Need-loop-again Inv-loop μ-loop
-loop-again c = (omega (arith, to-within _ _ 0 _ (c .before .before .before .before .loop .inv .0) (c .before .before .find-byte .ensures)), c .before .before .before .before .loop .inv .1 ∙ good-more _ _ _ _ (c .before .before .before .before .loop .inv .0) (c .before .before .find-byte .ensures) (c .before .before .before .loop-test .taken) (c .before .if1 .left) (c .if2 .left))
+loop-again c =
+    let loop = c .before .before .before .before .loop in
+    let loop-test = c .before .before .before .loop-test in
+    let find-byte = c .before .before .find-byte in
+    let if1 = c .before .if1 in
+    let if2 = c .if2 in (
+      omega (arith, to-within _ _ 0 _ (loop .inv .0) (find-byte .ensures)),
+      loop .inv .1 ∙ good-more _ _ _ _ (loop .inv .0) (find-byte .ensures)
+          (loop-test .taken) (if1 .left) (if2 .left),
+    )
 
 returns-3 : tie.Need-returns-3 Inv-loop μ-loop
-returns-3 c = sym (c .before .loop .inv .1 ∙ good-full _ _ _ (placeFrom 47 (c .before .before .before .args .path .now) (c .before .loop .at)) (c .before .loop .inv .0) refl (c .loop-test .left))
+returns-3 c =
+    let args = c .before .before .before .args in
+    let loop = c .before .loop in
+    let loop-test = c .loop-test in
+    sym (loop .inv .1 ∙ good-full _ _ _ (placeFrom 47 (args .path .now) (loop .at)) (loop .inv .0) refl (loop-test .left))
 
 pub is-path-spec : {M : Type 1} → statement M
 is-path-spec =

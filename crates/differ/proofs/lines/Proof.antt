@@ -3,7 +3,6 @@ use borrow.Author.Needs.{needs}
 use Rattle.differ.proofs.lines.Statement.{statement}
 use Rattle.differ.proofs.lines.Tie as tie
 use Prim.Native.Nat.{_-_}
-use lib.ListN.{length}
 
 abbrev Inv-loop : tie.InvT-loop
 Inv-loop bundle h items paths count i₀ i = Unit {0}

@@ -23,16 +23,28 @@ abbrev claims : ℕ → compare-large-lts.Claims
 claims t = (compare-large-below t, compare-large.Post, compare-lent-reads.Asked, compare-lent-reads.Learnt)
 
 compare-large-requires : (t : ℕ) → compare-large-lts.Need-compare-large-requires (claims t) (compare-large-at t) compare-large.Post
-compare-large-requires t c κs = absurd (never _ (c .before .before .if1 .taken) (c .before .before .before .before .before .before .before .before .before .pre .1 .1 .1))
+compare-large-requires t c κs =
+    let pre = c .before .before .before .before .before .before .before .before .before .pre in
+    let if1 = c .before .before .if1 in
+    absurd (never _ (if1 .taken) (pre .1 .1 .1))
 
 same-length : (t : ℕ) → compare-large-lts.Need-same-length (claims t) (compare-large-at t) compare-large.Post
-same-length t c = absurd (never _ (c .before .before .before .before .before .before .before .if1 .taken) (c .before .before .before .before .before .before .before .before .before .before .before .before .before .before .pre .1 .1 .1))
+same-length t c =
+    let pre = c .before .before .before .before .before .before .before .before .before .before .before .before .before .before .pre in
+    let if1 = c .before .before .before .before .before .before .before .if1 in
+    absurd (never _ (if1 .taken) (pre .1 .1 .1))
 
 same-length-2 : (t : ℕ) → compare-large-lts.Need-same-length-2 (claims t) (compare-large-at t) compare-large.Post
-same-length-2 t c = absurd (never _ (c .before .before .before .before .before .before .before .if1 .taken) (c .before .before .before .before .before .before .before .before .before .before .before .before .before .before .pre .1 .1 .1))
+same-length-2 t c =
+    let pre = c .before .before .before .before .before .before .before .before .before .before .before .before .before .before .pre in
+    let if1 = c .before .before .before .before .before .before .before .if1 in
+    absurd (never _ (if1 .taken) (pre .1 .1 .1))
 
 returns : (t : ℕ) → compare-large-lts.Need-returns (claims t) (compare-large-at t) compare-large.Post
-returns t c = absurd (never _ (c .before .before .before .before .before .before .before .if1 .taken) (c .before .before .before .before .before .before .before .before .before .before .before .before .before .before .pre .1 .1 .1))
+returns t c =
+    let pre = c .before .before .before .before .before .before .before .before .before .before .before .before .before .before .pre in
+    let if1 = c .before .before .before .before .before .before .before .if1 in
+    absurd (never _ (if1 .taken) (pre .1 .1 .1))
 
 compare-lent-requires : (t : ℕ) → compare-large-lts.Need-compare-lent-requires (claims t) (compare-large-at t) compare-large.Post
 compare-lent-requires t c κs = let pre = c .before .before .before .before .before .before .before .before .before .before .pre .1 in (pre .0, pre .1 .0)

@@ -34,13 +34,48 @@ enum-known-k : tie.Need-enum-known-k
 enum-known-k c = search needs
 
 compare-in-requires : tie.Need-compare-in-requires
-compare-in-requires c κs = (ending.size-within (length (c .before .before .before .before .before .before .before .before .before .before .before .before .before .before .before .before .before .args .bundle .now)) (length (c .before .before .before .before .before .before .before .before .before .before .before .before .before .before .before .before .before .args .paths .now)) (length (c .before .before .before .before .before .before .before .before .before .before .before .before .before .before .before .before .before .args .left .now)) (length (c .before .before .before .before .before .before .before .before .before .before .before .before .before .before .before .before .before .args .right .now)) _ (c .before .before .before .before .before .before .before .before .sizes .result) (ending.gate-is _ _ _ _ (length (c .before .before .before .before .before .before .before .before .before .before .before .before .before .before .before .before .before .args .bundle .now)) (length (c .before .before .before .before .before .before .before .before .before .before .before .before .before .before .before .before .before .args .paths .now)) (length (c .before .before .before .before .before .before .before .before .before .before .before .before .before .before .before .before .before .args .left .now)) (length (c .before .before .before .before .before .before .before .before .before .before .before .before .before .before .before .before .before .args .right .now)) _ (c .before .before .before .before .before .before .before .before .sizes .ensures) (c .before .before .before .before .before .before .before .before .before .longer3 .ensures) (c .before .before .before .before .before .before .before .before .before .before .before .longer .ensures) (c .before .before .before .before .before .before .before .before .before .before .longer2 .ensures)) (c .before .before .before .before .before .before .enum-told .given .1), (roots.roots-indexed _ _ _ _ (c .before .before .before .before .before .open-roots .ensures) _ (c .before .before .before .k .given .1), roots.roots-few _ _ _ _ (c .before .before .before .before .before .open-roots .ensures) _ (c .before .before .before .k .given .1)))
+compare-in-requires c κs =
+    let args = c .before .before .before .before .before .before .before .before .before .before .before .before .before .before .before .before
+    .before .args in
+    let longer = c .before .before .before .before .before .before .before .before .before .before .before .longer in
+    let longer2 = c .before .before .before .before .before .before .before .before .before .before .longer2 in
+    let longer3 = c .before .before .before .before .before .before .before .before .before .longer3 in
+    let sizes = c .before .before .before .before .before .before .before .before .sizes in
+    let enum-told = c .before .before .before .before .before .before .enum-told in
+    let open-roots = c .before .before .before .before .before .open-roots in
+    let k = c .before .before .before .k in (
+      ending.size-within (length (args .bundle .now)) (length (args .paths .now)) (length (args .left .now)) (length (args .right .now)) _ (sizes .result)
+          (ending.gate-is _ _ _ _ (length (args .bundle .now)) (length (args .paths .now)) (length (args .left .now)) (length (args .right .now)) _ (sizes .ensures)
+          (longer3 .ensures) (longer .ensures) (longer2 .ensures)) (enum-told .given .1),
+      (roots.roots-indexed _ _ _ _ (open-roots .ensures) _ (k .given .1), roots.roots-few _ _ _ _ (open-roots .ensures) _ (k .given .1)),
+    )
 
 returns : tie.Need-returns
-returns c = ending.answers-gate (c .before .before .before .before .before .before .before .before .before .before .before .before .args .bundle .now) (c .before .before .before .before .before .before .before .before .before .before .before .before .args .left .now) (c .before .before .before .before .before .before .before .before .before .before .before .before .args .right .now) (c .before .before .before .before .before .before .before .before .before .before .before .before .args .items .now) (c .before .before .before .before .before .before .before .before .before .before .before .before .args .paths .now) (c .before .before .before .sizes .result) (ending.gate-is _ _ _ _ (length (c .before .before .before .before .before .before .before .before .before .before .before .before .args .bundle .now)) (length (c .before .before .before .before .before .before .before .before .before .before .before .before .args .paths .now)) (length (c .before .before .before .before .before .before .before .before .before .before .before .before .args .left .now)) (length (c .before .before .before .before .before .before .before .before .before .before .before .before .args .right .now)) _ (c .before .before .before .sizes .ensures) (c .before .before .before .before .longer3 .ensures) (c .before .before .before .before .before .before .longer .ensures) (c .before .before .before .before .before .longer2 .ensures)) (c .before .v .given .0 .0) (c .before .v .given .1) (ending.size-shut _ _ _ _ (c .before .before .before .sizes .ensures) (c .before .v .given .1))
+returns c =
+    let args = c .before .before .before .before .before .before .before .before .before .before .before .before .args in
+    let longer = c .before .before .before .before .before .before .longer in
+    let longer2 = c .before .before .before .before .before .longer2 in
+    let longer3 = c .before .before .before .before .longer3 in
+    let sizes = c .before .before .before .sizes in
+    let v = c .before .v in
+    ending.answers-gate (args .bundle .now) (args .left .now) (args .right .now) (args .items .now) (args .paths .now) (sizes .result)
+    (ending.gate-is _ _ _ _ (length (args .bundle .now)) (length (args .paths .now)) (length (args .left .now)) (length (args .right .now)) _ (sizes .ensures)
+    (longer3 .ensures) (longer .ensures) (longer2 .ensures)) (v .given .0 .0) (v .given .1) (ending.size-shut _ _ _ _ (sizes .ensures) (v .given .1))
 
 returns-2 : tie.Need-returns-2
-returns-2 c = ending.answers-roots (c .before .before .before .before .before .before .before .before .before .before .before .before .before .before .before .args .bundle .now) (c .before .before .before .before .before .before .before .before .before .before .before .before .before .before .before .args .left .now) (c .before .before .before .before .before .before .before .before .before .before .before .before .before .before .before .args .right .now) (c .before .before .before .before .before .before .before .before .before .before .before .before .before .before .before .args .items .now) (c .before .before .before .before .before .before .before .before .before .before .before .before .before .before .before .args .paths .now) (c .before .before .before .before .before .before .sizes .result) (ending.gate-is _ _ _ _ (length (c .before .before .before .before .before .before .before .before .before .before .before .before .before .before .before .args .bundle .now)) (length (c .before .before .before .before .before .before .before .before .before .before .before .before .before .before .before .args .paths .now)) (length (c .before .before .before .before .before .before .before .before .before .before .before .before .before .before .before .args .left .now)) (length (c .before .before .before .before .before .before .before .before .before .before .before .before .before .before .before .args .right .now)) _ (c .before .before .before .before .before .before .sizes .ensures) (c .before .before .before .before .before .before .before .longer3 .ensures) (c .before .before .before .before .before .before .before .before .before .longer .ensures) (c .before .before .before .before .before .before .before .before .longer2 .ensures)) (c .before .before .before .before .enum-told .given .1) (c .before .before .before .open-roots .result) (c .before .before .before .open-roots .ensures) (c .before .w .given .0 .0) (c .before .w .given .1) (roots.roots-refuse _ _ _ _ (c .before .before .before .open-roots .ensures) _ (c .before .w .given .1))
+returns-2 c =
+    let args = c .before .before .before .before .before .before .before .before .before .before .before .before .before .before .before .args in
+    let longer = c .before .before .before .before .before .before .before .before .before .longer in
+    let longer2 = c .before .before .before .before .before .before .before .before .longer2 in
+    let longer3 = c .before .before .before .before .before .before .before .longer3 in
+    let sizes = c .before .before .before .before .before .before .sizes in
+    let enum-told = c .before .before .before .before .enum-told in
+    let open-roots = c .before .before .before .open-roots in
+    let w = c .before .w in
+    ending.answers-roots (args .bundle .now) (args .left .now) (args .right .now) (args .items .now) (args .paths .now) (sizes .result)
+    (ending.gate-is _ _ _ _ (length (args .bundle .now)) (length (args .paths .now)) (length (args .left .now)) (length (args .right .now)) _ (sizes .ensures)
+    (longer3 .ensures) (longer .ensures) (longer2 .ensures)) (enum-told .given .1) (open-roots .result) (open-roots .ensures) (w .given .0 .0) (w .given .1)
+    (roots.roots-refuse _ _ _ _ (open-roots .ensures) _ (w .given .1))
 
 same-length : tie.Need-same-length
 same-length c = search needs
@@ -49,7 +84,21 @@ same-length-2 : tie.Need-same-length-2
 same-length-2 c = search needs
 
 returns-3 : tie.Need-returns-3
-returns-3 c = ending.answers-walk (c .before .before .before .before .before .before .before .before .before .before .before .before .before .before .before .before .before .before .before .before .before .before .args .bundle .now) (c .before .before .before .before .before .before .before .before .before .before .before .before .before .before .before .before .before .before .before .before .before .before .args .left .now) (c .before .before .before .before .before .before .before .before .before .before .before .before .before .before .before .before .before .before .before .before .before .before .args .right .now) (c .before .before .before .before .before .before .before .before .before .before .before .before .before .before .before .before .before .before .before .before .before .before .args .items .now) (c .before .before .before .before .before .before .before .before .before .before .before .before .before .before .before .before .before .before .before .before .before .before .args .paths .now) (c .before .before .before .before .before .before .before .before .before .before .before .before .before .sizes .result) (ending.gate-is _ _ _ _ (length (c .before .before .before .before .before .before .before .before .before .before .before .before .before .before .before .before .before .before .before .before .before .before .args .bundle .now)) (length (c .before .before .before .before .before .before .before .before .before .before .before .before .before .before .before .before .before .before .before .before .before .before .args .paths .now)) (length (c .before .before .before .before .before .before .before .before .before .before .before .before .before .before .before .before .before .before .before .before .before .before .args .left .now)) (length (c .before .before .before .before .before .before .before .before .before .before .before .before .before .before .before .before .before .before .before .before .before .before .args .right .now)) _ (c .before .before .before .before .before .before .before .before .before .before .before .before .before .sizes .ensures) (c .before .before .before .before .before .before .before .before .before .before .before .before .before .before .longer3 .ensures) (c .before .before .before .before .before .before .before .before .before .before .before .before .before .before .before .before .longer .ensures) (c .before .before .before .before .before .before .before .before .before .before .before .before .before .before .before .longer2 .ensures)) (c .before .before .before .before .before .before .before .before .before .before .before .enum-told .given .1) (c .before .before .before .before .before .before .before .before .before .before .open-roots .result) (c .before .before .before .before .before .before .before .before .before .before .open-roots .ensures) (c .before .before .before .before .before .before .before .before .k .given .0 .0) (c .before .before .before .before .before .before .before .before .k .given .1) (c .before .before .before .before .compare-in .result) (c .before .before .before .before .compare-in .last .1 .1 .1 .1 .0) (c .before .before .before .before .compare-in .last .1 .1 .1 .1 .1 .0) (c .before .before .before .before .compare-in .ensures)
+returns-3 c =
+    let args = c .before .before .before .before .before .before .before .before .before .before .before .before .before .before .before .before .before
+    .before .before .before .before .before .args in
+    let longer = c .before .before .before .before .before .before .before .before .before .before .before .before .before .before .before .before .longer in
+    let longer2 = c .before .before .before .before .before .before .before .before .before .before .before .before .before .before .before .longer2 in
+    let longer3 = c .before .before .before .before .before .before .before .before .before .before .before .before .before .before .longer3 in
+    let sizes = c .before .before .before .before .before .before .before .before .before .before .before .before .before .sizes in
+    let enum-told = c .before .before .before .before .before .before .before .before .before .before .before .enum-told in
+    let open-roots = c .before .before .before .before .before .before .before .before .before .before .open-roots in
+    let k = c .before .before .before .before .before .before .before .before .k in
+    let compare-in = c .before .before .before .before .compare-in in
+    ending.answers-walk (args .bundle .now) (args .left .now) (args .right .now) (args .items .now) (args .paths .now) (sizes .result)
+    (ending.gate-is _ _ _ _ (length (args .bundle .now)) (length (args .paths .now)) (length (args .left .now)) (length (args .right .now)) _ (sizes .ensures)
+    (longer3 .ensures) (longer .ensures) (longer2 .ensures)) (enum-told .given .1) (open-roots .result) (open-roots .ensures) (k .given .0 .0) (k .given .1)
+    (compare-in .result) (compare-in .last .1 .1 .1 .1 .0) (compare-in .last .1 .1 .1 .1 .1 .0) (compare-in .ensures)
 
 pub compare-trees-spec : {M : Type 1} → statement M
 compare-trees-spec =

@@ -13,10 +13,16 @@ make-index-requires : tie.Need-make-index-requires
 make-index-requires c κs = search needs
 
 slice-reshare-prefix-walk-trees : tie.Need-slice-reshare-prefix-walk-trees
-slice-reshare-prefix-walk-trees c = front-fits (c .before .before .before .before .before .before .before .before .before .before .before .before .args .bundle .now) (c .before .before .before .before .before .before .before .before .before .before .before .before .args .k) (c .before .before .before .before .before .before .before .before .before .before .before .before .args .list .now) _ _ (c .before .before .before .before .make-index .ensures)
+slice-reshare-prefix-walk-trees c =
+    let args = c .before .before .before .before .before .before .before .before .before .before .before .before .args in
+    let make-index = c .before .before .before .before .make-index in
+    front-fits (args .bundle .now) (args .k) (args .list .now) _ _ (make-index .ensures)
 
 slice-aggregate-walk-trees : tie.Need-slice-aggregate-walk-trees
-slice-aggregate-walk-trees c = sym (length-take-le _ _ (front-fits (c .before .before .before .before .before .before .before .before .before .before .before .before .before .args .bundle .now) (c .before .before .before .before .before .before .before .before .before .before .before .before .before .args .k) (c .before .before .before .before .before .before .before .before .before .before .before .before .before .args .list .now) _ _ (c .before .before .before .before .before .make-index .ensures)))
+slice-aggregate-walk-trees c =
+    let args = c .before .before .before .before .before .before .before .before .before .before .before .before .before .args in
+    let make-index = c .before .before .before .before .before .make-index in
+    sym (length-take-le _ _ (front-fits (args .bundle .now) (args .k) (args .list .now) _ _ (make-index .ensures)))
 
 walk-trees-requires : tie.Need-walk-trees-requires
 walk-trees-requires c κs = search needs
@@ -31,7 +37,15 @@ same-length-3 : tie.Need-same-length-3
 same-length-3 c = search needs
 
 returns : tie.Need-returns
-returns c = ends-same _ _ _ _ _ _ _ (walk-is (c .before .before .before .before .before .before .before .before .before .before .before .before .before .before .before .before .before .before .args .k) (c .before .before .before .before .before .before .before .before .before .before .before .before .before .before .before .before .before .before .args .bundle .now) _ (c .before .before .before .before .before .before .before .before .before .before .before .before .before .before .before .before .before .before .args .left .now) (c .before .before .before .before .before .before .before .before .before .before .before .before .before .before .before .before .before .before .args .right .now) (front-index (c .before .before .before .before .before .before .before .before .before .before .before .before .before .before .before .before .before .before .args .bundle .now) (c .before .before .before .before .before .before .before .before .before .before .before .before .before .before .before .before .before .before .args .k) (c .before .before .before .before .before .before .before .before .before .before .before .before .before .before .before .before .before .before .args .list .now) _ _ (c .before .before .before .before .before .before .before .before .before .before .before .before .before .before .before .before .before .before .pre .1) (c .before .before .before .before .before .before .before .before .before .before .make-index .ensures)) (c .before .before .before .before .before .before .before .before .before .before .before .before .before .before .before .before .before .before .pre .0)) (c .before .before .before .before .walk-trees .ensures)
+returns c =
+    let args = c .before .before .before .before .before .before .before .before .before .before .before .before .before .before .before .before .before
+    .before .args in
+    let pre = c .before .before .before .before .before .before .before .before .before .before .before .before .before .before .before .before .before
+    .before .pre in
+    let make-index = c .before .before .before .before .before .before .before .before .before .before .make-index in
+    let walk-trees = c .before .before .before .before .walk-trees in
+    ends-same _ _ _ _ _ _ _ (walk-is (args .k) (args .bundle .now) _ (args .left .now) (args .right .now)
+    (front-index (args .bundle .now) (args .k) (args .list .now) _ _ (pre .1) (make-index .ensures)) (pre .0)) (walk-trees .ensures)
 
 pub compare-with-spec : {M : Type 1} → statement M
 compare-with-spec =

@@ -2,7 +2,6 @@
 use borrow.Author.Needs.{needs}
 use Rattle.difference.proofs.open_roots.Statement.{statement}
 use Rattle.difference.proofs.open_roots.Tie as tie
-use mathlib.Core.Path.{_∙_}
 use Rattle.difference.proofs.Roots as roots
 
 returns : tie.Need-returns

@@ -18,19 +18,38 @@ open-next-requires : tie.Need-open-next-requires
 open-next-requires c κs = search needs
 
 is-double-requires : tie.Need-is-double-requires
-is-double-requires c κs = rw (c .before .before .before .open-next .ensures .0, c .before .before .before .open-next .ensures .1) (open-within (c .before .before .before .before .before .before .before .args .marks .now) (c .before .before .before .before .before .shorter .result) (c .before .before .before .before .before .before .before .args .p) (c .before .before .before .before .before .before .before .args .len) (c .before .before .before .before .before .before .before .args .was) (omega (arith, c .before .before .before .before .before .shorter .ensures)))
+is-double-requires c κs =
+    let args = c .before .before .before .before .before .before .before .args in
+    let shorter = c .before .before .before .before .before .shorter in
+    let open-next = c .before .before .before .open-next in
+    rw (open-next .ensures .0, open-next .ensures .1) (open-within (args .marks .now) (shorter .result) (args .p) (args .len) (args .was)
+    (omega (arith, shorter .ensures)))
 
 same-length : tie.Need-same-length
 same-length c = search needs
 
 returns : tie.Need-returns
-returns c = opened-double (c .before .before .before .before .before .before .before .before .before .args .marks .now) (c .before .before .before .before .before .before .before .before .before .args .n) (c .before .before .before .before .before .before .before .before .before .args .p) (c .before .before .before .before .before .before .before .before .before .args .len) (c .before .before .before .before .before .before .before .before .before .args .was) (c .before .before .before .before .before .before .before .before .before .args .size) (c .before .before .before .before .before .before .before .before .before .args .folder) (c .before .before .before .before .before .before .before .shorter .result) (c .before .before .before .before .before .open-next .result) (c .before .before .before .before .before .open-next .last .0) (c .before .before .before .before .before .before .before .shorter .ensures) (c .before .before .before .before .before .open-next .ensures) (sym (c .before .is-double .ensures) ∙ c .if1 .taken)
+returns c =
+    let args = c .before .before .before .before .before .before .before .before .before .args in
+    let shorter = c .before .before .before .before .before .before .before .shorter in
+    let open-next = c .before .before .before .before .before .open-next in
+    let is-double = c .before .is-double in
+    let if1 = c .if1 in
+    opened-double (args .marks .now) (args .n) (args .p) (args .len) (args .was) (args .size) (args .folder) (shorter .result) (open-next .result)
+    (open-next .last .0) (shorter .ensures) (open-next .ensures) (sym (is-double .ensures) ∙ if1 .taken)
 
 same-length-2 : tie.Need-same-length-2
 same-length-2 c = search needs
 
 returns-2 : tie.Need-returns-2
-returns-2 c = opened-fine (c .before .before .before .before .before .before .before .before .before .args .marks .now) (c .before .before .before .before .before .before .before .before .before .args .n) (c .before .before .before .before .before .before .before .before .before .args .p) (c .before .before .before .before .before .before .before .before .before .args .len) (c .before .before .before .before .before .before .before .before .before .args .was) (c .before .before .before .before .before .before .before .before .before .args .size) (c .before .before .before .before .before .before .before .before .before .args .folder) (c .before .before .before .before .before .before .before .shorter .result) (c .before .before .before .before .before .open-next .result) (c .before .before .before .before .before .open-next .last .0) (c .before .before .before .before .before .before .before .shorter .ensures) (c .before .before .before .before .before .open-next .ensures) (sym (c .before .is-double .ensures) ∙ c .if1 .left)
+returns-2 c =
+    let args = c .before .before .before .before .before .before .before .before .before .args in
+    let shorter = c .before .before .before .before .before .before .before .shorter in
+    let open-next = c .before .before .before .before .before .open-next in
+    let is-double = c .before .is-double in
+    let if1 = c .if1 in
+    opened-fine (args .marks .now) (args .n) (args .p) (args .len) (args .was) (args .size) (args .folder) (shorter .result) (open-next .result)
+    (open-next .last .0) (shorter .ensures) (open-next .ensures) (sym (is-double .ensures) ∙ if1 .left)
 
 pub open-entry-spec : {M : Type 1} → statement M
 open-entry-spec =

@@ -33,13 +33,33 @@ same-length : tie.Need-same-length
 same-length c = search needs
 
 returns : tie.Need-returns
-returns c = went-below (c .before .before .before .before .before .before .before .before .before .before .before .args .marks .now) (c .before .before .before .before .before .before .before .before .before .before .before .args .n) (c .before .before .before .before .before .before .before .before .before .before .before .args .last .now) (c .before .before .before .before .before .before .before .before .before .before .before .args .was) (c .before .before .before .before .before .before .before .before .before .before .before .args .name .now) (c .before .before .before .before .before .before .before .before .before .before .before .args .folder) (decided-at _ _ _ _ _ (c .before .before .before .before .before .before .before .common-start .ensures) ∙ sym (c .before .before .before .before .before .before .by-next .ensures) ∙ c .before .before .before .before .enum-told .given .1) (c .before .before .before .before .before .before .before .common-start .result) (c .before .before .before .before .before .before .before .common-start .ensures) (c .before .before .open-entry .ensures)
+returns c =
+    let args = c .before .before .before .before .before .before .before .before .before .before .before .args in
+    let common-start = c .before .before .before .before .before .before .before .common-start in
+    let by-next = c .before .before .before .before .before .before .by-next in
+    let enum-told = c .before .before .before .before .enum-told in
+    let open-entry = c .before .before .open-entry in
+    went-below (args .marks .now) (args .n) (args .last .now) (args .was) (args .name .now) (args .folder)
+    (decided-at _ _ _ _ _ (common-start .ensures) ∙ sym (by-next .ensures) ∙ enum-told .given .1) (common-start .result) (common-start .ensures)
+    (open-entry .ensures)
 
 returns-2 : tie.Need-returns-2
-returns-2 c = went-same (c .before .before .before .before .before .before .before .args .marks .now) (c .before .before .before .before .before .before .before .args .n) (c .before .before .before .before .before .before .before .args .last .now) (c .before .before .before .before .before .before .before .args .was) (c .before .before .before .before .before .before .before .args .name .now) (c .before .before .before .before .before .before .before .args .folder) (decided-at _ _ _ _ _ (c .before .before .before .common-start .ensures) ∙ sym (c .before .before .by-next .ensures) ∙ c .enum-told2 .given .1)
+returns-2 c =
+    let args = c .before .before .before .before .before .before .before .args in
+    let common-start = c .before .before .before .common-start in
+    let by-next = c .before .before .by-next in
+    let enum-told2 = c .enum-told2 in
+    went-same (args .marks .now) (args .n) (args .last .now) (args .was) (args .name .now) (args .folder)
+    (decided-at _ _ _ _ _ (common-start .ensures) ∙ sym (by-next .ensures) ∙ enum-told2 .given .1)
 
 returns-3 : tie.Need-returns-3
-returns-3 c = went-above (c .before .before .before .before .before .before .before .args .marks .now) (c .before .before .before .before .before .before .before .args .n) (c .before .before .before .before .before .before .before .args .last .now) (c .before .before .before .before .before .before .before .args .was) (c .before .before .before .before .before .before .before .args .name .now) (c .before .before .before .before .before .before .before .args .folder) (decided-at _ _ _ _ _ (c .before .before .before .common-start .ensures) ∙ sym (c .before .before .by-next .ensures) ∙ c .enum-told3 .given .1)
+returns-3 c =
+    let args = c .before .before .before .before .before .before .before .args in
+    let common-start = c .before .before .before .common-start in
+    let by-next = c .before .before .by-next in
+    let enum-told3 = c .enum-told3 in
+    went-above (args .marks .now) (args .n) (args .last .now) (args .was) (args .name .now) (args .folder)
+    (decided-at _ _ _ _ _ (common-start .ensures) ∙ sym (by-next .ensures) ∙ enum-told3 .given .1)
 
 pub place-entry-spec : {M : Type 1} → statement M
 place-entry-spec =

@@ -36,8 +36,10 @@ returns-3 c =
     let is-mode = c .before .before .before .before .is-mode in
     let if2 = c .before .before .before .if2 in
     let count-to = c .before .before .count-to in
+    let if3 = c .before .if3 in
+    let name-number = c .name-number in
     let new = newEntry (args .mode) (args .name .now) (args .id .now) in
-    new-name (args .rules) (args .h) new (if1 .left) (sym (is-mode .ensures) ∙ if2 .taken) (sym (count-to .ensures) ∙ c .before .if3 .left) _ (c .name-number .ensures)
+    new-name (args .rules) (args .h) new (if1 .left) (sym (is-mode .ensures) ∙ if2 .taken) (sym (count-to .ensures) ∙ if3 .left) _ (name-number .ensures)
 
 returns-4 : tie.Need-returns-4
 returns-4 c =

@@ -30,7 +30,9 @@ returns c =
 cast-m : tie.Need-cast-m
 cast-m c =
     let args = c .before .before .before .before .before .before .args in
-    let good = new-good (args .rules) (args .h) (newEntry (args .mode) (args .name .now) (args .id .now)) (sym (c .before .new-number .ensures) ∙ c .if1 .left) in
+    let new-number = c .before .new-number in
+    let if1 = c .if1 in
+    let good = new-good (args .rules) (args .h) (newEntry (args .mode) (args .name .now) (args .id .now)) (sym (new-number .ensures) ∙ if1 .left) in
     omega (arith, mode-small (args .rules) (args .mode) (good .1))
 
 slice-aggregate-walk : tie.Need-slice-aggregate-walk
@@ -62,16 +64,19 @@ returns-3 : tie.Need-returns-3
 returns-3 c =
     let args = c .before .before .before .before .before .before .before .before .before .before .before .before .before .args in
     let pre = c .before .before .before .before .before .before .before .before .before .before .before .before .before .pre in
-    let walk = c .before .before .before .before .before .walk in
     let new-number = c .before .before .before .before .before .before .before .before .new-number in
     let if1 = c .before .before .before .before .before .before .before .if1 in
+    let walk = c .before .before .before .before .before .walk in
+    let if2 = c .before .before .if2 in
+    let if3 = c .before .if3 in
+    let refuse3 = c .refuse3 in
     let new = newEntry (args .mode) (args .name .now) (args .id .now) in
     let es = entriesIn (args .h) (args .bytes .now) in
     let kept = kept-is (args .rules) (args .h) (args .bytes .now) (args .n) (pre .1 .0) (pre .0) new (pre .1 .1) (pre .1 .2) (pre .1 .3) in
     let used = put-used (args .rules) (args .h) (args .bytes .now) (args .n) (pre .1 .0) (pre .0) new (pre .1 .1) (pre .1 .2) (pre .1 .3) in
-    named _ _ _ _ (c .refuse3 .ensures)
-    (put-short _ _ new es (asWritten (putIn new es)) (args .out .now) (new-number .ensures) (if1 .left) _ (kept _ _ (walk .ensures .0)) (c .before .before .if2 .left)
-    _ (used _ (walk .ensures .0)) (c .before .if3 .taken))
+    named _ _ _ _ (refuse3 .ensures)
+    (put-short _ _ new es (asWritten (putIn new es)) (args .out .now) (new-number .ensures) (if1 .left) _ (kept _ _ (walk .ensures .0)) (if2 .left)
+    _ (used _ (walk .ensures .0)) (if3 .taken))
 
 walk-requires-2 : tie.Need-walk-requires-2
 walk-requires-2 c κs = search needs

@@ -33,12 +33,16 @@ returns-2 c =
     let args = c .before .before .before .before .before .before .before .before .before .args in
     let pre = c .before .before .before .before .before .before .before .before .before .pre in
     let walk = c .before .before .before .before .walk in
+    let if1 = c .before .if1 in
+    let if2 = c .if2 in
     let name = args .name .now in
     let es = entriesIn (args .h) (args .bytes .now) in
     let count = entries-count (args .rules) (args .h) (args .bytes .now) (args .n) (pre .1 .0) (pre .0) in
     let kept = kept-is (args .rules) (args .h) (args .bytes .now) (args .n) (pre .1 .0) (pre .0) (newEntry 0 name name) (pre .1 .1) (pre .1 .2) (pre .1 .2) in
-    let used = remove-used (args .rules) (args .h) (args .bytes .now) (args .n) (pre .1 .0) (pre .0) (newEntry 0 name name) (pre .1 .1) (pre .1 .2) (pre .1 .2) in
-    remove-short name es (asWritten (removeFrom name es)) (args .out .now) _ _ (kept _ _ (walk .ensures .0)) count (c .before .if1 .left) _ (used _ (walk .ensures .0)) (c .if2 .taken)
+    let used = remove-used (args .rules) (args .h) (args .bytes .now) (args .n) (pre .1 .0) (pre .0) (newEntry 0 name name) (pre .1 .1) (pre .1 .2) (pre .1 .2)
+    in
+    remove-short name es (asWritten (removeFrom name es)) (args .out .now) _ _ (kept _ _ (walk .ensures .0)) count (if1 .left) _ (used _ (walk .ensures .0))
+    (if2 .taken)
 
 walk-requires-2 : tie.Need-walk-requires-2
 walk-requires-2 c κs = search needs
@@ -58,9 +62,12 @@ returns-3 c =
     let es = entriesIn (args .h) (args .bytes .now) in
     let count = entries-count (args .rules) (args .h) (args .bytes .now) (args .n) (pre .1 .0) (pre .0) in
     let kept = kept-is (args .rules) (args .h) (args .bytes .now) (args .n) (pre .1 .0) (pre .0) (newEntry 0 name name) (pre .1 .1) (pre .1 .2) (pre .1 .2) in
-    let used = remove-used (args .rules) (args .h) (args .bytes .now) (args .n) (pre .1 .0) (pre .0) (newEntry 0 name name) (pre .1 .1) (pre .1 .2) (pre .1 .2) in
-    let bytes = remove-bytes (args .rules) (args .h) (args .bytes .now) (args .n) (pre .1 .0) (pre .0) (newEntry 0 name name) (pre .1 .1) (pre .1 .2) (pre .1 .2) in
-    remove-done name es (asWritten (removeFrom name es)) (args .out .now) _ _ (kept _ _ (walk .ensures .0)) count (if1 .left) _ (used _ (walk .ensures .0)) (if2 .left)
+    let used = remove-used (args .rules) (args .h) (args .bytes .now) (args .n) (pre .1 .0) (pre .0) (newEntry 0 name name) (pre .1 .1) (pre .1 .2) (pre .1 .2)
+    in
+    let bytes = remove-bytes (args .rules) (args .h) (args .bytes .now) (args .n) (pre .1 .0) (pre .0) (newEntry 0 name name) (pre .1 .1) (pre .1 .2)
+    (pre .1 .2) in
+    remove-done name es (asWritten (removeFrom name es)) (args .out .now) _ _ (kept _ _ (walk .ensures .0)) count (if1 .left) _ (used _ (walk .ensures .0))
+    (if2 .left)
     _ (walk2 .ensures .1 ∙ ap (sets (args .out .now) 0) bytes)
 
 pub remove-counted-spec : {M : Type 1} → statement M

@@ -35,24 +35,27 @@ enum-known-n c = search needs
 remove-counted-requires : tie.Need-remove-counted-requires
 remove-counted-requires c κs =
     let args = c .before .before .before .before .before .before .before .before .before .before .before .before .before .args in
-    let longer2 = c .before .before .before .before .before .before .before .before .longer2 in
     let longer = c .before .before .before .before .before .before .before .before .before .longer in
+    let longer2 = c .before .before .before .before .before .before .before .before .longer2 in
     let rule-bounds = c .before .before .before .before .before .before .before .rule-bounds in
     let enum-told = c .before .before .before .before .before .enum-told in
     let strict-count = c .before .before .before .before .strict-count in
     let n = c .before .before .n in
-    let b = answers.remove-bounds (args .rules) (args .h) (args .bytes .now) (args .name .now) _ _ (answers.most-remove (length (args .bytes .now)) (length (args .name .now)) (length (args .out .now)) (longer2 .ensures) (longer .ensures))
+    let b = answers.remove-bounds (args .rules) (args .h) (args .bytes .now) (args .name .now) _ _
+    (answers.most-remove (length (args .bytes .now)) (length (args .name .now)) (length (args .out .now)) (longer2 .ensures) (longer .ensures))
     (sym (rule-bounds .ensures) ∙ enum-told .given .1) in
     (answers.counted-is _ _ _ (b .1) (strict-count .ensures) ∙ n .given .1, b)
 
 returns : tie.Need-returns
 returns c =
     let args = c .before .before .before .before .before .before .before .before .before .args in
-    let rule-bounds = c .before .before .before .rule-bounds in
-    let longer2 = c .before .before .before .before .longer2 in
     let longer = c .before .before .before .before .before .longer in
-    let shut = sym (rule-bounds .ensures) ∙ c .before .v .given .1 in
-    refused-both _ _ _ (answers.remove-shut (args .rules) (args .h) (args .bytes .now) (args .name .now) _ _ (answers.most-remove (length (args .bytes .now)) (length (args .name .now)) (length (args .out .now)) (longer2 .ensures) (longer .ensures)) _ shut)
+    let longer2 = c .before .before .before .before .longer2 in
+    let rule-bounds = c .before .before .before .rule-bounds in
+    let v = c .before .v in
+    let shut = sym (rule-bounds .ensures) ∙ v .given .1 in
+    refused-both _ _ _ (answers.remove-shut (args .rules) (args .h) (args .bytes .now) (args .name .now) _ _
+    (answers.most-remove (length (args .bytes .now)) (length (args .name .now)) (length (args .out .now)) (longer2 .ensures) (longer .ensures)) _ shut)
     (strict-refuses _ _ _ _ _ shut)
 
 returns-2 : tie.Need-returns-2
@@ -75,8 +78,8 @@ same-length c = search needs
 returns-3 : tie.Need-returns-3
 returns-3 c =
     let args = c .before .before .before .before .before .before .before .before .before .before .before .before .before .before .before .before .args in
-    let longer2 = c .before .before .before .before .before .before .before .before .before .before .before .longer2 in
     let longer = c .before .before .before .before .before .before .before .before .before .before .before .before .longer in
+    let longer2 = c .before .before .before .before .before .before .before .before .before .before .before .longer2 in
     let rule-bounds = c .before .before .before .before .before .before .before .before .before .before .rule-bounds in
     let enum-told = c .before .before .before .before .before .before .before .before .enum-told in
     let strict-count = c .before .before .before .before .before .before .before .strict-count in
@@ -86,7 +89,8 @@ returns-3 c =
     let begun = sym (rule-bounds .ensures) ∙ enum-told .given .1 in
     let b = answers.remove-bounds (args .rules) (args .h) (args .bytes .now) (args .name .now) _ _ m begun in
     let t = answers.counted-is _ _ _ (b .1) (strict-count .ensures) ∙ n .given .1 in
-    answers.finish _ _ (args .out .now) _ (answers.remove-total (args .rules) (args .h) (args .bytes .now) (args .name .now) _ _ m begun _ t) (remove-counted .ensures .0)
+    answers.finish _ _ (args .out .now) _ (answers.remove-total (args .rules) (args .h) (args .bytes .now) (args .name .now) _ _ m begun _ t)
+    (remove-counted .ensures .0)
     (remove-counted .ensures .1)
 
 pub remove-from-tree-spec : {M : Type 1} → statement M

@@ -196,13 +196,14 @@ sub-used-2 c =
 
 add-used-2 : tie.Need-add-used-2 Inv-loop μ-loop
 add-used-2 c =
+    let pre = c .before .before .before .before .before .before .before .before .before .before .before .before .before .before .before .before .before
+    .before .before .before .pre in
+    let is-tree = c .before .before .before .before .before .before .before .before .before .before .before .before .before .before .before .is-tree in
     let loop = c .before .before .before .before .before .before .before .before .before .before .before .before .before .before .loop in
     let loop-test = c .before .before .before .before .before .before .before .before .before .before .before .before .before .loop-test in
-    let is-tree = c .before .before .before .before .before .before .before .before .before .before .before .before .before .before .before .is-tree in
     let turn-at = c .before .before .before .before .before .before .before .before .before .before .before .before .turn-at in
     let next3 = c .before .before .before .before .before .before .before .before .before .before .next3 in
     let put-new = c .before .before .before .before .before .before .before .put-new in
-    let pre = c .before .before .before .before .before .before .before .before .before .before .before .before .before .before .before .before .before .before .before .before .pre in
     let inv = loop .inv in
     let d = first-leads _ _ _ _ _ _ _ _ _ _ _ _ (loop .inv) (loop-test .taken) _ (is-tree .ensures) _ (turn-at .ensures) _ (next3 .given .1) in
     omega (arith, d .0, d .1, put-new .ensures .0 .1, inv .small, inv .few, inv .fewer, pre .2)
@@ -221,14 +222,15 @@ loop-less-4 c = search needs
 
 loop-again-4 : tie.Need-loop-again-4 Inv-loop μ-loop
 loop-again-4 c =
-    let loop = c .before .before .before .before .before .before .before .before .before .before .before .before .before .before .loop in
-    let turn-at = c .before .before .before .before .before .before .before .before .before .before .before .before .turn-at in
+    let pre = c .before .before .before .before .before .before .before .before .before .before .before .before .before .before .before .before .before
+    .before .before .before .pre in
     let is-tree = c .before .before .before .before .before .before .before .before .before .before .before .before .before .before .before .is-tree in
+    let loop = c .before .before .before .before .before .before .before .before .before .before .before .before .before .before .loop in
     let loop-test = c .before .before .before .before .before .before .before .before .before .before .before .before .before .loop-test in
+    let turn-at = c .before .before .before .before .before .before .before .before .before .before .before .before .turn-at in
     let next3 = c .before .before .before .before .before .before .before .before .before .before .next3 in
     let put-new = c .before .before .before .before .before .before .before .put-new in
     let put2 = c .before .before .put2 in
-    let pre = c .before .before .before .before .before .before .before .before .before .before .before .before .before .before .before .before .before .before .before .before .pre in
     let taken = loop-test .taken in
     let next = next3 .given .1 in
     let put = put2 in

@@ -57,9 +57,11 @@ put-requires c κs = search needs
 
 add-result : tie.Need-add-result
 add-result c =
-    let pre = c .before .before .before .before .before .before .before .before .before .before .before .before .before .before .before .before .before .before .pre in
+    let args = c .before .before .before .before .before .before .before .before .before .before .before .before .before .before .before .before .before
+    .before .args in
+    let pre = c .before .before .before .before .before .before .before .before .before .before .before .before .before .before .before .before .before
+    .before .pre in
     let as-bytes = c .before .before .before .before .before .before .before .before .before .before .before .before .before .before .as-bytes in
-    let args = c .before .before .before .before .before .before .before .before .before .before .before .before .before .before .before .before .before .before .args in
     omega (arith, text-is _ _ (as-bytes .ensures) .0, mode-le (args .mode), pre .0, pre .1, pre .2)
 
 same-length : tie.Need-same-length
@@ -67,8 +69,10 @@ same-length c = search needs
 
 returns : tie.Need-returns
 returns c =
-    let args = c .before .before .before .before .before .before .before .before .before .before .before .before .before .before .before .before .before .before .args in
-    let pre = c .before .before .before .before .before .before .before .before .before .before .before .before .before .before .before .before .before .before .pre in
+    let args = c .before .before .before .before .before .before .before .before .before .before .before .before .before .before .before .before .before
+    .before .args in
+    let pre = c .before .before .before .before .before .before .before .before .before .before .before .before .before .before .before .before .before
+    .before .pre in
     let as-bytes = c .before .before .before .before .before .before .before .before .before .before .before .before .before .before .as-bytes in
     let put-ended = c .before .before .before .before .before .before .before .before .before .before .put-ended in
     let put-ended2 = c .before .before .before .before .before .before .put-ended2 in

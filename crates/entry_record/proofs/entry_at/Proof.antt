@@ -57,7 +57,9 @@ shared-slice-read-t23 : tie.Need-shared-slice-read-t23
 shared-slice-read-t23 c = search needs
 
 returns-2 : tie.Need-returns-2
-returns-2 c = sym (records-at (c .before .before .before .before .before .before .args .records .now) (c .before .before .before .before .before .before .args .i) (omega arith))
+returns-2 c =
+    let args = c .before .before .before .before .before .before .args in
+    sym (records-at (args .records .now) (args .i) (omega arith))
 
 pub entry-at-spec : {M : Type 1} → statement M
 entry-at-spec =

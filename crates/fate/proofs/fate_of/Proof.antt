@@ -19,16 +19,34 @@ stays-mode-requires : tie.Need-stays-mode-requires
 stays-mode-requires c κs = search needs
 
 returns-2 : tie.Need-returns-2
-returns-2 c = sym (fate-before _ _ _ _ (sym (c .before .before .before .before .name-number .ensures) ∙ c .before .before .before .if1 .left) (sym (c .before .before .stays-mode .ensures) ∙ c .before .if2 .taken) (c .if3 .taken))
+returns-2 c =
+    let name-number = c .before .before .before .before .name-number in
+    let if1 = c .before .before .before .if1 in
+    let stays-mode = c .before .before .stays-mode in
+    let if2 = c .before .if2 in
+    let if3 = c .if3 in
+    sym (fate-before _ _ _ _ (sym (name-number .ensures) ∙ if1 .left) (sym (stays-mode .ensures) ∙ if2 .taken) (if3 .taken))
 
 is-own-requires : tie.Need-is-own-requires
 is-own-requires c κs = search needs
 
 returns-3 : tie.Need-returns-3
-returns-3 c = c .is-own .ensures ∙ sym (fate-kept _ _ _ _ (sym (c .before .before .before .before .before .name-number .ensures) ∙ c .before .before .before .before .if1 .left) (sym (c .before .before .before .stays-mode .ensures) ∙ c .before .before .if2 .taken) (c .before .if3 .left))
+returns-3 c =
+    let name-number = c .before .before .before .before .before .name-number in
+    let if1 = c .before .before .before .before .if1 in
+    let stays-mode = c .before .before .before .stays-mode in
+    let if2 = c .before .before .if2 in
+    let if3 = c .before .if3 in
+    let is-own = c .is-own in
+    is-own .ensures ∙ sym (fate-kept _ _ _ _ (sym (name-number .ensures) ∙ if1 .left) (sym (stays-mode .ensures) ∙ if2 .taken) (if3 .left))
 
 returns-4 : tie.Need-returns-4
-returns-4 c = sym (fate-mode _ _ _ _ (sym (c .before .before .before .name-number .ensures) ∙ c .before .before .if1 .left) (sym (c .before .stays-mode .ensures) ∙ c .if2 .left))
+returns-4 c =
+    let name-number = c .before .before .before .name-number in
+    let if1 = c .before .before .if1 in
+    let stays-mode = c .before .stays-mode in
+    let if2 = c .if2 in
+    sym (fate-mode _ _ _ _ (sym (name-number .ensures) ∙ if1 .left) (sym (stays-mode .ensures) ∙ if2 .left))
 
 pub fate-of-spec : {M : Type 1} → statement M
 fate-of-spec =

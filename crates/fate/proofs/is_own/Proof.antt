@@ -23,10 +23,20 @@ same-bytes-requires : tie.Need-same-bytes-requires
 same-bytes-requires c κs = search needs
 
 returns : tie.Need-returns
-returns c = sym (text-own (c .before .before .before .before .before .before .args .text .now) (c .before .before .before .before .before .before .args .mode) true (c .before .before .before .before .own-text .ensures) (sym (c .before .same-bytes .ensures) ∙ c .if1 .taken))
+returns c =
+    let args = c .before .before .before .before .before .before .args in
+    let own-text = c .before .before .before .before .own-text in
+    let same-bytes = c .before .same-bytes in
+    let if1 = c .if1 in
+    sym (text-own (args .text .now) (args .mode) true (own-text .ensures) (sym (same-bytes .ensures) ∙ if1 .taken))
 
 returns-2 : tie.Need-returns-2
-returns-2 c = sym (text-own (c .before .before .before .before .before .before .args .text .now) (c .before .before .before .before .before .before .args .mode) false (c .before .before .before .before .own-text .ensures) (sym (c .before .same-bytes .ensures) ∙ c .if1 .left))
+returns-2 c =
+    let args = c .before .before .before .before .before .before .args in
+    let own-text = c .before .before .before .before .own-text in
+    let same-bytes = c .before .same-bytes in
+    let if1 = c .if1 in
+    sym (text-own (args .text .now) (args .mode) false (own-text .ensures) (sym (same-bytes .ensures) ∙ if1 .left))
 
 pub is-own-spec : {M : Type 1} → statement M
 is-own-spec =

@@ -23,19 +23,39 @@ is-link-requires : tie.Need-is-link-requires
 is-link-requires c κs = search needs
 
 returns-2 : tie.Need-returns-2
-returns-2 c = stays-link _ (sym (c .before .before .before .is-blob .ensures) ∙ c .before .before .if1 .left) (sym (c .before .is-link .ensures) ∙ c .if2 .taken)
+returns-2 c =
+    let is-blob = c .before .before .before .is-blob in
+    let if1 = c .before .before .if1 in
+    let is-link = c .before .is-link in
+    let if2 = c .if2 in
+    stays-link _ (sym (is-blob .ensures) ∙ if1 .left) (sym (is-link .ensures) ∙ if2 .taken)
 
 is-tree-requires : tie.Need-is-tree-requires
 is-tree-requires c κs = search needs
 
 returns-3 : tie.Need-returns-3
-returns-3 c = stays-tree _ (sym (c .before .before .before .before .before .is-blob .ensures) ∙ c .before .before .before .before .if1 .left) (sym (c .before .before .before .is-link .ensures) ∙ c .before .before .if2 .left) (sym (c .before .is-tree .ensures) ∙ c .if3 .taken)
+returns-3 c =
+    let is-blob = c .before .before .before .before .before .is-blob in
+    let if1 = c .before .before .before .before .if1 in
+    let is-link = c .before .before .before .is-link in
+    let if2 = c .before .before .if2 in
+    let is-tree = c .before .is-tree in
+    let if3 = c .if3 in
+    stays-tree _ (sym (is-blob .ensures) ∙ if1 .left) (sym (is-link .ensures) ∙ if2 .left) (sym (is-tree .ensures) ∙ if3 .taken)
 
 is-commit-requires : tie.Need-is-commit-requires
 is-commit-requires c κs = search needs
 
 returns-4 : tie.Need-returns-4
-returns-4 c = c .is-commit .ensures ∙ stays-commit _ (sym (c .before .before .before .before .before .before .is-blob .ensures) ∙ c .before .before .before .before .before .if1 .left) (sym (c .before .before .before .before .is-link .ensures) ∙ c .before .before .before .if2 .left) (sym (c .before .before .is-tree .ensures) ∙ c .before .if3 .left)
+returns-4 c =
+    let is-blob = c .before .before .before .before .before .before .is-blob in
+    let if1 = c .before .before .before .before .before .if1 in
+    let is-link = c .before .before .before .before .is-link in
+    let if2 = c .before .before .before .if2 in
+    let is-tree = c .before .before .is-tree in
+    let if3 = c .before .if3 in
+    let is-commit = c .is-commit in
+    is-commit .ensures ∙ stays-commit _ (sym (is-blob .ensures) ∙ if1 .left) (sym (is-link .ensures) ∙ if2 .left) (sym (is-tree .ensures) ∙ if3 .left)
 
 pub stays-mode-spec : {M : Type 1} → statement M
 stays-mode-spec =

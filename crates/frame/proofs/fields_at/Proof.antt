@@ -2,22 +2,16 @@
 use borrow.Author.Needs.{needs}
 use Rattle.frame.proofs.fields_at.Statement.{statement}
 use Rattle.frame.proofs.fields_at.Tie as tie
-use mathlib.Core.Path.{sym}
-use mathlib.Core.Logic.{inl, inr}
 use native.Mathlib.Omega.{arith}
-use Rattle.frame.proofs.Laws.{fields-short, fields-many, fields-id, fields-good}
+use mathlib.Core.Path.{refl, sym}
+use mathlib.Core.Logic.{inl, inr}
+use Rattle.frame.proofs.Laws.{fields-many, fields-id, fields-good}
 
-sub-if1 : tie.Need-sub-if1
-sub-if1 c = search needs
+shared-slice-read-h : tie.Need-shared-slice-read-h
+shared-slice-read-h c = search needs
 
-returns : tie.Need-returns
-returns c = sym (fields-short _ _ _ (omega arith))
-
-shared-slice-read-wide : tie.Need-shared-slice-read-wide
-shared-slice-read-wide c = search needs
-
-wide-requires : tie.Need-wide-requires
-wide-requires c κs = search needs
+cast-h : tie.Need-cast-h
+cast-h c = omega (arith, c .shared-slice-known2 .given (c .before .before .args .at))
 
 add-four-at : tie.Need-add-four-at
 add-four-at c = search needs
@@ -28,30 +22,43 @@ four-at-requires c κs = search needs
 add-from : tie.Need-add-from
 add-from c = search needs
 
+returns : tie.Need-returns
+returns c = sym (fields-many _ _ _ (c .before .before .before .before .pre) _ _ refl (c .before .four-at .ensures .0) (c .if1 .taken))
+
 returns-2 : tie.Need-returns-2
-returns-2 c = sym (fields-many _ _ _ (omega arith) _ _ (c .before .before .wide .ensures .0) (c .before .four-at .ensures .0) (c .if2 .taken))
+returns-2 c =
+    let pre = c .before .before .before .before .before .pre in
+    let four-at = c .before .before .four-at in
+    let if1 = c .before .if1 in
+    let if2 = c .if2 in
+    sym (fields-good _ _ _ pre _ _ refl (four-at .ensures .0) (inl (if2 .taken)) (if1 .left))
 
 returns-3 : tie.Need-returns-3
-returns-3 c = sym (fields-good _ _ _ (omega arith) _ _ (c .before .before .before .wide .ensures .0) (c .before .before .four-at .ensures .0) (inl (c .if3 .taken)) (c .before .if2 .left))
+returns-3 c =
+    let pre = c .before .before .before .before .before .before .pre in
+    let four-at = c .before .before .before .four-at in
+    let if1 = c .before .before .if1 in
+    let if3 = c .if3 in
+    sym (fields-good _ _ _ pre _ _ refl (four-at .ensures .0) (inr (if3 .taken)) (if1 .left))
 
 returns-4 : tie.Need-returns-4
-returns-4 c = sym (fields-good _ _ _ (omega arith) _ _ (c .before .before .before .before .wide .ensures .0) (c .before .before .before .four-at .ensures .0) (inr (c .if4 .taken)) (c .before .before .if2 .left))
-
-returns-5 : tie.Need-returns-5
-returns-5 c = sym (fields-id _ _ _ (omega arith) _ _ (c .before .before .before .before .wide .ensures .0) (c .before .before .before .four-at .ensures .0) (c .before .if3 .left) (c .if4 .left))
+returns-4 c =
+    let pre = c .before .before .before .before .before .before .pre in
+    let four-at = c .before .before .before .four-at in
+    let if2 = c .before .if2 in
+    let if3 = c .if3 in
+    sym (fields-id _ _ _ pre _ _ refl (four-at .ensures .0) (if2 .left) (if3 .left))
 
 pub fields-at-spec : {M : Type 1} → statement M
 fields-at-spec =
     tie.close
     (tie.spec
-    sub-if1
-    returns
-    shared-slice-read-wide
-    wide-requires
+    shared-slice-read-h
+    cast-h
     add-four-at
     four-at-requires
     add-from
+    returns
     returns-2
     returns-3
-    returns-4
-    returns-5)
+    returns-4)

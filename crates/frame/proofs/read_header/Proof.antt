@@ -5,7 +5,7 @@ use Rattle.frame.proofs.read_header.Tie as tie
 use mathlib.Core.Path.{sym, _∙_}
 use native.Mathlib.Omega.{arith}
 use lib.Seq.{length-take-le}
-use Rattle.frame.proofs.Laws.{head-short, head-mark, head-one, head-other, head-first, head-second, head-set}
+use Rattle.frame.proofs.Laws.{head-short, head-mark, head-one, head-two, head-other}
 
 returns : tie.Need-returns
 returns c = sym (head-short _ (c .if1 .taken))
@@ -26,31 +26,37 @@ fields-at-requires : tie.Need-fields-at-requires
 fields-at-requires c κs = search needs
 
 returns-2 : tie.Need-returns-2
-returns-2 c = c .fields-at .ensures ∙ sym (head-one _ (sym (c .before .before .before .before .same-bytes .ensures) ∙ c .before .before .before .if2 .taken) _ (c .before .before .two-at .ensures) (c .before .if3 .taken))
+returns-2 c =
+    let same-bytes = c .before .before .before .before .same-bytes in
+    let if2 = c .before .before .before .if2 in
+    let two-at = c .before .before .two-at in
+    let if3 = c .before .if3 in
+    let fields-at = c .fields-at in
+    fields-at .ensures ∙ sym (head-one _ (sym (same-bytes .ensures) ∙ if2 .taken) _ (two-at .ensures .0) (if3 .taken))
 
-two-at-requires-2 : tie.Need-two-at-requires-2
-two-at-requires-2 c κs = search needs
-
-fields-at-requires-2 : tie.Need-fields-at-requires-2
-fields-at-requires-2 c κs = search needs
+ruled-requires : tie.Need-ruled-requires
+ruled-requires c κs = search needs
 
 returns-3 : tie.Need-returns-3
-returns-3 c = c .fields-at2 .ensures ∙ sym (head-first _ (sym (c .before .before .before .before .before .before .before .same-bytes .ensures) ∙ c .before .before .before .before .before .before .if2 .taken) _ (c .before .before .before .before .before .two-at .ensures) (c .before .before .before .if4 .taken) _ (c .before .before .two-at2 .ensures) (c .before .if5 .taken))
-
-fields-at-requires-3 : tie.Need-fields-at-requires-3
-fields-at-requires-3 c κs = search needs
+returns-3 c =
+    let same-bytes = c .before .before .before .before .before .same-bytes in
+    let if2 = c .before .before .before .before .if2 in
+    let two-at = c .before .before .before .two-at in
+    let if4 = c .before .if4 in
+    let ruled = c .ruled in
+    ruled .ensures ∙ sym (head-two _ (sym (same-bytes .ensures) ∙ if2 .taken) _ (two-at .ensures .0) (if4 .taken))
 
 returns-4 : tie.Need-returns-4
-returns-4 c = c .fields-at3 .ensures ∙ sym (head-second _ (sym (c .before .before .before .before .before .before .before .before .same-bytes .ensures) ∙ c .before .before .before .before .before .before .before .if2 .taken) _ (c .before .before .before .before .before .before .two-at .ensures) (c .before .before .before .before .if4 .taken) _ (c .before .before .before .two-at2 .ensures) (c .before .if6 .taken))
+returns-4 c =
+    let same-bytes = c .before .before .before .before .same-bytes in
+    let if2 = c .before .before .before .if2 in
+    let two-at = c .before .before .two-at in
+    let if3 = c .before .if3 in
+    let if4 = c .if4 in
+    sym (head-other _ (sym (same-bytes .ensures) ∙ if2 .taken) _ (two-at .ensures .0) (if3 .left) (if4 .left))
 
 returns-5 : tie.Need-returns-5
-returns-5 c = sym (head-set _ (sym (c .before .before .before .before .before .before .before .same-bytes .ensures) ∙ c .before .before .before .before .before .before .if2 .taken) _ (c .before .before .before .before .before .two-at .ensures) (c .before .before .before .if4 .taken) _ (c .before .before .two-at2 .ensures) (c .before .if5 .left) (c .if6 .left))
-
-returns-6 : tie.Need-returns-6
-returns-6 c = sym (head-other _ (sym (c .before .before .before .before .same-bytes .ensures) ∙ c .before .before .before .if2 .taken) _ (c .before .before .two-at .ensures) (c .before .if3 .left) (c .if4 .left))
-
-returns-7 : tie.Need-returns-7
-returns-7 c = sym (head-mark _ (sym (c .before .same-bytes .ensures) ∙ c .if2 .left))
+returns-5 c = sym (head-mark _ (sym (c .before .same-bytes .ensures) ∙ c .if2 .left))
 
 pub read-header-spec : {M : Type 1} → statement M
 read-header-spec =
@@ -63,11 +69,7 @@ read-header-spec =
     two-at-requires
     fields-at-requires
     returns-2
-    two-at-requires-2
-    fields-at-requires-2
+    ruled-requires
     returns-3
-    fields-at-requires-3
     returns-4
-    returns-5
-    returns-6
-    returns-7)
+    returns-5)

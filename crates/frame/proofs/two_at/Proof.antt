@@ -2,42 +2,49 @@
 use borrow.Author.Needs.{needs}
 use Rattle.frame.proofs.two_at.Statement.{statement}
 use Rattle.frame.proofs.two_at.Tie as tie
-use Rattle.frame.proofs.Laws.{little-two}
+use Prim.Native.Nat.{_+_}
 use native.Mathlib.Omega.{arith}
+use mathlib.Core.Path.{refl}
+use Rattle.frame.proofs.Laws.{little-two}
 
-shared-slice-read-wide : tie.Need-shared-slice-read-wide
-shared-slice-read-wide c = search needs
+shared-slice-read-a : tie.Need-shared-slice-read-a
+shared-slice-read-a c = search needs
 
-wide-requires : tie.Need-wide-requires
-wide-requires c κs = search needs
+cast-a : tie.Need-cast-a
+cast-a c = omega (arith, c .shared-slice-known .given (c .before .args .i))
 
-add-wide : tie.Need-add-wide
-add-wide c = search needs
+add-b : tie.Need-add-b
+add-b c = search needs
 
-shared-slice-read-wide-2 : tie.Need-shared-slice-read-wide-2
-shared-slice-read-wide-2 c = search needs
+shared-slice-read-b : tie.Need-shared-slice-read-b
+shared-slice-read-b c = search needs
 
-wide-requires-2 : tie.Need-wide-requires-2
-wide-requires-2 c κs = search needs
+cast-b : tie.Need-cast-b
+cast-b c = omega (arith, c .shared-slice-known2 .given (c .before .before .args .i + 1))
 
 mul-result : tie.Need-mul-result
-mul-result c = search needs
+mul-result c = omega (arith, c .shared-slice-known2 .given (c .before .before .args .i + 1))
 
 add-result : tie.Need-add-result
-add-result c = search needs
+add-result c = omega (arith, c .before .shared-slice-known .given (c .before .before .args .i), c .shared-slice-known2 .given (c .before .before .args .i + 1))
 
 returns : tie.Need-returns
-returns c = little-two (c .before .before .before .before .before .args .s .now) (c .before .before .before .before .before .args .i) (omega arith) _ _ (c .before .before .wide .ensures .0) (c .wide2 .ensures .0)
+returns c =
+    let args = c .before .before .args in
+    let pre = c .before .before .pre in
+    let shared-slice-known = c .before .shared-slice-known in
+    let shared-slice-known2 = c .shared-slice-known2 in
+    (little-two (args .s .now) (args .i) pre _ _ refl refl, omega (arith, shared-slice-known .given (args .i), shared-slice-known2 .given (args .i + 1)))
 
 pub two-at-spec : {M : Type 1} → statement M
 two-at-spec =
     tie.close
     (tie.spec
-    shared-slice-read-wide
-    wide-requires
-    add-wide
-    shared-slice-read-wide-2
-    wide-requires-2
+    shared-slice-read-a
+    cast-a
+    add-b
+    shared-slice-read-b
+    cast-b
     mul-result
     add-result
     returns)

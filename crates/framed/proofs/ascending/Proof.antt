@@ -30,7 +30,12 @@ enum-told : tie.Need-enum-told Inv-loop μ-loop
 enum-told c = search needs
 
 returns : tie.Need-returns Inv-loop μ-loop
-returns c = sym (c .before .before .before .before .loop .inv .2 ∙ rises-fault _ _ _ _ (frames-broken _ _ _ _ (c .before .before .before .loop-test .taken) (sym (c .before .before .frame-at .ensures) ∙ c .enum-told .given .1)))
+returns c =
+    let loop = c .before .before .before .before .loop in
+    let loop-test = c .before .before .before .loop-test in
+    let frame-at = c .before .before .frame-at in
+    let enum-told = c .enum-told in
+    sym (loop .inv .2 ∙ rises-fault _ _ _ _ (frames-broken _ _ _ _ (loop-test .taken) (sym (frame-at .ensures) ∙ enum-told .given .1)))
 
 enum-known-f : tie.Need-enum-known-f Inv-loop μ-loop
 enum-known-f c = search needs
@@ -66,14 +71,37 @@ loop-less : tie.Need-loop-less Inv-loop μ-loop
 loop-less c = search needs
 
 loop-again : tie.Need-loop-again Inv-loop μ-loop
-loop-again c = let i = frame-inside _ _ _ _ (sym (c .before .before .before .before .before .before .before .frame-at .ensures) ∙ c .before .before .before .before .before .f .given .1) in
-    (omega arith, omega arith, c .before .before .before .before .before .before .before .before .before .loop .inv .2 ∙ rises-on _ _ _ _ _ _ (frames-whole _ _ _ _ (c .before .before .before .before .before .before .before .before .loop-test .taken) (sym (c .before .before .before .before .before .before .before .frame-at .ensures) ∙ c .before .before .before .before .before .f .given .1)) (sym (c .before .is-below .ensures) ∙ c .if1 .taken))
+loop-again c =
+    let loop = c .before .before .before .before .before .before .before .before .before .loop in
+    let loop-test = c .before .before .before .before .before .before .before .before .loop-test in
+    let frame-at = c .before .before .before .before .before .before .before .frame-at in
+    let f = c .before .before .before .before .before .f in
+    let is-below = c .before .is-below in
+    let if1 = c .if1 in
+    let i = frame-inside _ _ _ _ (sym (frame-at .ensures) ∙ f .given .1) in (
+      omega arith,
+      omega arith,
+      loop .inv .2 ∙ rises-on _ _ _ _ _ _ (frames-whole _ _ _ _ (loop-test .taken) (sym (frame-at .ensures) ∙ f .given .1))
+          (sym (is-below .ensures) ∙ if1 .taken),
+    )
 
 returns-2 : tie.Need-returns-2 Inv-loop μ-loop
-returns-2 c = sym (c .before .before .before .before .before .before .before .before .before .loop .inv .2 ∙ rises-off _ _ _ _ _ _ (frames-whole _ _ _ _ (c .before .before .before .before .before .before .before .before .loop-test .taken) (sym (c .before .before .before .before .before .before .before .frame-at .ensures) ∙ c .before .before .before .before .before .f .given .1)) (sym (c .before .is-below .ensures) ∙ c .if1 .left))
+returns-2 c =
+    let loop = c .before .before .before .before .before .before .before .before .before .loop in
+    let loop-test = c .before .before .before .before .before .before .before .before .loop-test in
+    let frame-at = c .before .before .before .before .before .before .before .frame-at in
+    let f = c .before .before .before .before .before .f in
+    let is-below = c .before .is-below in
+    let if1 = c .if1 in
+    sym (loop .inv .2 ∙ rises-off _ _ _ _ _ _ (frames-whole _ _ _ _ (loop-test .taken) (sym (frame-at .ensures) ∙ f .given .1))
+    (sym (is-below .ensures) ∙ if1 .left))
 
 returns-3 : tie.Need-returns-3 Inv-loop μ-loop
-returns-3 c = sym (c .before .loop .inv .2 ∙ rises-end _ _ _ _ (eqb (c .before .loop .at) (length (c .before .before .before .args .s .now))) (frames-end _ _ _ _ (c .loop-test .left)))
+returns-3 c =
+    let args = c .before .before .before .args in
+    let loop = c .before .loop in
+    let loop-test = c .loop-test in
+    sym (loop .inv .2 ∙ rises-end _ _ _ _ (eqb (loop .at) (length (args .s .now))) (frames-end _ _ _ _ (loop-test .left)))
 
 pub ascending-spec : {M : Type 1} → statement M
 ascending-spec =

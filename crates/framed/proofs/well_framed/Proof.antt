@@ -25,7 +25,12 @@ enum-told c = search needs
 
 returns : tie.Need-returns Inv-loop μ-loop
 unfolding whole
-returns c = sym (c .before .before .before .before .loop .inv ∙ ap whole (frames-broken _ _ _ _ (c .before .before .before .loop-test .taken) (sym (c .before .before .frame-at .ensures) ∙ c .enum-told .given .1)))
+returns c =
+    let loop = c .before .before .before .before .loop in
+    let loop-test = c .before .before .before .loop-test in
+    let frame-at = c .before .before .frame-at in
+    let enum-told = c .enum-told in
+    sym (loop .inv ∙ ap whole (frames-broken _ _ _ _ (loop-test .taken) (sym (frame-at .ensures) ∙ enum-told .given .1)))
 
 enum-known-f : tie.Need-enum-known-f Inv-loop μ-loop
 enum-known-f c = search needs
@@ -38,10 +43,19 @@ loop-less c = search needs
 
 loop-again : tie.Need-loop-again Inv-loop μ-loop
 unfolding whole
-loop-again c = c .before .before .before .before .before .loop .inv ∙ ap whole (frames-whole _ _ _ _ (c .before .before .before .before .loop-test .taken) (sym (c .before .before .before .frame-at .ensures) ∙ c .before .f .given .1))
+loop-again c =
+    let loop = c .before .before .before .before .before .loop in
+    let loop-test = c .before .before .before .before .loop-test in
+    let frame-at = c .before .before .before .frame-at in
+    let f = c .before .f in
+    loop .inv ∙ ap whole (frames-whole _ _ _ _ (loop-test .taken) (sym (frame-at .ensures) ∙ f .given .1))
 
 returns-2 : tie.Need-returns-2 Inv-loop μ-loop
-returns-2 c = sym (c .before .loop .inv ∙ ap whole (frames-end _ _ _ _ (c .loop-test .left)) ∙ whole-end (eqb (c .before .loop .at) (length (c .before .before .before .args .s .now))))
+returns-2 c =
+    let args = c .before .before .before .args in
+    let loop = c .before .loop in
+    let loop-test = c .loop-test in
+    sym (loop .inv ∙ ap whole (frames-end _ _ _ _ (loop-test .left)) ∙ whole-end (eqb (loop .at) (length (args .s .now))))
 
 pub well-framed-spec : {M : Type 1} → statement M
 well-framed-spec =

@@ -36,7 +36,12 @@ index-2-if1 c = search needs
 
 returns : tie.Need-returns Inv-loop μ-loop
 unfolding hexValue
-returns c = sym (c .before .before .before .before .before .loop .inv ∙ hex-not _ _ (c .before .before .before .before .loop-test .taken) (sym (ap hexValue (c .before .before .wide .ensures .0)) ∙ sym (table-is (c .before .before .wide .result) (c .before .before .wide .ensures .1)) ∙ c .if1 .taken))
+returns c =
+    let loop = c .before .before .before .before .before .loop in
+    let loop-test = c .before .before .before .before .loop-test in
+    let wide = c .before .before .wide in
+    let if1 = c .if1 in
+    sym (loop .inv ∙ hex-not _ _ (loop-test .taken) (sym (ap hexValue (wide .ensures .0)) ∙ sym (table-is (wide .result) (wide .ensures .1)) ∙ if1 .taken))
 
 add-i : tie.Need-add-i Inv-loop μ-loop
 add-i c = search needs
@@ -46,7 +51,12 @@ loop-less c = search needs
 
 loop-again : tie.Need-loop-again Inv-loop μ-loop
 unfolding hexValue
-loop-again c = c .before .before .before .before .before .loop .inv ∙ hex-more _ _ (c .before .before .before .before .loop-test .taken) (λ e. c .if1 .left (table-is (c .before .before .wide .result) (c .before .before .wide .ensures .1) ∙ ap hexValue (c .before .before .wide .ensures .0) ∙ e))
+loop-again c =
+    let loop = c .before .before .before .before .before .loop in
+    let loop-test = c .before .before .before .before .loop-test in
+    let wide = c .before .before .wide in
+    let if1 = c .if1 in
+    loop .inv ∙ hex-more _ _ (loop-test .taken) (λ e. if1 .left (table-is (wide .result) (wide .ensures .1) ∙ ap hexValue (wide .ensures .0) ∙ e))
 
 returns-2 : tie.Need-returns-2 Inv-loop μ-loop
 returns-2 c = sym (c .before .loop .inv ∙ hex-end _ _ (c .loop-test .left))

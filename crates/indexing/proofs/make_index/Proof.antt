@@ -20,7 +20,12 @@ same-length : tie.Need-same-length
 same-length c = search needs
 
 returns-3 : tie.Need-returns-3
-returns-3 c = made-whole _ _ _ ((c .before .before .before .before .before .before .before .before .before .before .if1) .left) ((c .before .before .before .before .before .before .before .before .if2) .left) _ _ _ ((c .before .before .before .before .before .before .places) .ensures .0) ((c .before .before .before .before .before .before .places) .ensures .1) ((c .before .before .sort-front) .ensures)
+returns-3 c =
+    let if1 = c .before .before .before .before .before .before .before .before .before .before .if1 in
+    let if2 = c .before .before .before .before .before .before .before .before .if2 in
+    let places = c .before .before .before .before .before .before .places in
+    let sort-front = c .before .before .sort-front in
+    made-whole _ _ _ (if1 .left) (if2 .left) _ _ _ (places .ensures .0) (places .ensures .1) (sort-front .ensures)
 
 pub make-index-spec : {M : Type 1} → statement M
 make-index-spec =

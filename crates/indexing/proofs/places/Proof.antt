@@ -30,25 +30,47 @@ same-length : tie.Need-same-length Inv-loop μ-loop
 same-length c = omega (arith, c .before .before .before .before .loop .inv .1 .size)
 
 returns : tie.Need-returns Inv-loop μ-loop
-returns c = storing-end _ _ _ _ _ (c .before .before .before .before .loop .inv .1) (elements-fault _ (frames-broken _ _ _ _ (c .before .before .before .loop-test .taken) (sym (c .before .before .frame-at .ensures) ∙ c .enum-told .given .1)))
+returns c =
+    let loop = c .before .before .before .before .loop in
+    let loop-test = c .before .before .before .loop-test in
+    let frame-at = c .before .before .frame-at in
+    let enum-told = c .enum-told in
+    storing-end _ _ _ _ _ (loop .inv .1) (elements-fault _ (frames-broken _ _ _ _ (loop-test .taken) (sym (frame-at .ensures) ∙ enum-told .given .1)))
 
 enum-known-f : tie.Need-enum-known-f Inv-loop μ-loop
 enum-known-f c = search needs
 
 mul-list : tie.Need-mul-list Inv-loop μ-loop
-mul-list c = omega (arith, frame-inside _ _ _ _ (sym (c .before .before .before .frame-at .ensures) ∙ c .before .f .given .1), c .before .before .before .before .before .before .before .before .pre .1)
+mul-list c =
+    let pre = c .before .before .before .before .before .before .before .before .pre in
+    let frame-at = c .before .before .before .frame-at in
+    let f = c .before .f in
+    omega (arith, frame-inside _ _ _ _ (sym (frame-at .ensures) ∙ f .given .1), pre .1)
 
 cast-list : tie.Need-cast-list Inv-loop μ-loop
-cast-list c = omega (arith, frame-inside _ _ _ _ (sym (c .before .before .before .frame-at .ensures) ∙ c .before .f .given .1), c .before .before .before .before .before .before .before .before .pre .1)
+cast-list c =
+    let pre = c .before .before .before .before .before .before .before .before .pre in
+    let frame-at = c .before .before .before .frame-at in
+    let f = c .before .f in
+    omega (arith, frame-inside _ _ _ _ (sym (frame-at .ensures) ∙ f .given .1), pre .1)
 
 mul-list-2 : tie.Need-mul-list-2 Inv-loop μ-loop
-mul-list-2 c = omega (arith, c .before .before .before .before .before .loop .inv .1 .size, c .before .before .before .before .before .loop .inv .0, c .before .before .before .before .before .before .before .before .pre .0)
+mul-list-2 c =
+    let pre = c .before .before .before .before .before .before .before .before .pre in
+    let loop = c .before .before .before .before .before .loop in
+    omega (arith, loop .inv .1 .size, loop .inv .0, pre .0)
 
 slice-write-list : tie.Need-slice-write-list Inv-loop μ-loop
-slice-write-list c = omega (arith, c .before .before .before .before .before .loop .inv .1 .size, c .before .before .before .before .before .loop .inv .0, c .before .before .before .before .before .before .before .before .pre .0)
+slice-write-list c =
+    let pre = c .before .before .before .before .before .before .before .before .pre in
+    let loop = c .before .before .before .before .before .loop in
+    omega (arith, loop .inv .1 .size, loop .inv .0, pre .0)
 
 add-n : tie.Need-add-n Inv-loop μ-loop
-add-n c = omega (arith, c .before .before .before .before .before .loop .inv .1 .size, c .before .before .before .before .before .loop .inv .0, c .before .before .before .before .before .before .before .before .pre .0)
+add-n c =
+    let pre = c .before .before .before .before .before .before .before .before .pre in
+    let loop = c .before .before .before .before .before .loop in
+    omega (arith, loop .inv .1 .size, loop .inv .0, pre .0)
 
 sub-left : tie.Need-sub-left Inv-loop μ-loop
 sub-left c = search needs
@@ -57,13 +79,22 @@ loop-less : tie.Need-loop-less Inv-loop μ-loop
 loop-less c = search needs
 
 loop-again : tie.Need-loop-again Inv-loop μ-loop
-loop-again c = (omega arith, storing-set _ _ _ _ _ _ _ (c .before .before .before .before .before .loop .inv .1) (frames-whole _ _ _ _ (c .before .before .before .before .loop-test .taken) (sym (c .before .before .before .frame-at .ensures) ∙ c .before .f .given .1)))
+loop-again c =
+    let loop = c .before .before .before .before .before .loop in
+    let loop-test = c .before .before .before .before .loop-test in
+    let frame-at = c .before .before .before .frame-at in
+    let f = c .before .f in
+    (omega arith, storing-set _ _ _ _ _ _ _ (loop .inv .1) (frames-whole _ _ _ _ (loop-test .taken) (sym (frame-at .ensures) ∙ f .given .1)))
 
 same-length-2 : tie.Need-same-length-2 Inv-loop μ-loop
 same-length-2 c = omega (arith, c .before .loop .inv .1 .size)
 
 returns-2 : tie.Need-returns-2 Inv-loop μ-loop
-returns-2 c = storing-end _ _ _ _ _ (c .before .loop .inv .1) (elements-end _ (eqb (c .before .loop .at) (length (c .before .before .before .before .args .s .now))) (frames-end _ _ _ _ (c .loop-test .left)))
+returns-2 c =
+    let args = c .before .before .before .before .args in
+    let loop = c .before .loop in
+    let loop-test = c .loop-test in
+    storing-end _ _ _ _ _ (loop .inv .1) (elements-end _ (eqb (loop .at) (length (args .s .now))) (frames-end _ _ _ _ (loop-test .left)))
 
 pub places-spec : {M : Type 1} → statement M
 places-spec =

@@ -41,8 +41,14 @@ loop-less c = search needs
 loop-again : tie.Need-loop-again Inv-loop μ-loop
 loop-again c =
     let a = c .before .before .before .args in
+    let pre = c .before .before .before .pre in
     let l = c .before .before .loop in
-    (search needs, copy-suc (a .paths .now) (a .ps) (a .pl) (a .m) (l .k) (l .paths) (l .inv .1) (c .before .before .before .pre .0) (c .before .before .before .pre .1) (c .before .loop-test .taken), length-set (l .paths) _ _ ∙ l .inv .2)
+    let loop-test = c .before .loop-test in (
+      search needs,
+      copy-suc (a .paths .now) (a .ps) (a .pl) (a .m) (l .k) (l .paths) (l .inv .1) (pre .0) (pre .1) (loop-test .taken),
+      length-set (l .paths) _ _
+          ∙ l .inv .2,
+    )
 
 same-length : tie.Need-same-length Inv-loop μ-loop
 same-length c = search needs

@@ -69,7 +69,9 @@ same-length : tie.Need-same-length
 same-length c = simp length-set
 
 returns-2 : tie.Need-returns-2
-returns-2 c = numbers-stored (c .before .before .before .args .items .now) (c .before .before .before .args .n) _ _ (c .before .before .before .args .c) (omega arith)
+returns-2 c =
+    let args = c .before .before .before .args in
+    numbers-stored (args .items .now) (args .n) _ _ (args .c) (omega arith)
 
 pub put-item-spec : {M : Type 1} → statement M
 put-item-spec =

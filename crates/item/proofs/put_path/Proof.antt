@@ -14,22 +14,48 @@ same-length : tie.Need-same-length
 same-length c = search needs
 
 returns : tie.Need-returns
-returns c = c .before .before .put .ensures ∙ path-bare (c .before .before .before .before .before .before .before .args .paths .now) (c .before .before .before .before .before .before .before .args .m) (c .before .before .before .before .before .before .before .args .ps) (c .before .before .before .before .before .before .before .args .pl) (c .before .before .before .before .before .before .before .args .name .now) (c .before .before .before .before .if1 .taken)
+returns c =
+    let args = c .before .before .before .before .before .before .before .args in
+    let if1 = c .before .before .before .before .if1 in
+    let put = c .before .before .put in
+    put .ensures ∙ path-bare (args .paths .now) (args .m) (args .ps) (args .pl) (args .name .now) (if1 .taken)
 
 has-room-requires : tie.Need-has-room-requires
 has-room-requires c κs = search needs
 
 copy-down-requires : tie.Need-copy-down-requires
-copy-down-requires c κs = let r = room-says (c .before .before .before .before .before .before .args .ps) (c .before .before .before .before .before .before .args .pl) (c .before .before .before .before .before .before .args .m) (length (c .before .before .before .before .before .before .args .paths .now)) (c .before .before .has-room .result) (c .before .before .has-room .ensures) (c .before .if2 .taken) in (r .0, omega (arith, r .1))
+copy-down-requires c κs =
+    let args = c .before .before .before .before .before .before .args in
+    let has-room = c .before .before .has-room in
+    let if2 = c .before .if2 in
+    let r = room-says (args .ps) (args .pl) (args .m) (length (args .paths .now)) (has-room .result) (has-room .ensures) (if2 .taken) in
+    (r .0, omega (arith, r .1))
 
 add-slash : tie.Need-add-slash
-add-slash c = omega (arith, room-says (c .before .before .before .before .before .before .before .before .before .args .ps) (c .before .before .before .before .before .before .before .before .before .args .pl) (c .before .before .before .before .before .before .before .before .before .args .m) (length (c .before .before .before .before .before .before .before .before .before .args .paths .now)) (c .before .before .before .before .before .has-room .result) (c .before .before .before .before .before .has-room .ensures) (c .before .before .before .before .if2 .taken) .1)
+add-slash c =
+    let args = c .before .before .before .before .before .before .before .before .before .args in
+    let has-room = c .before .before .before .before .before .has-room in
+    let if2 = c .before .before .before .before .if2 in
+    omega (arith, room-says (args .ps) (args .pl) (args .m) (length (args .paths .now)) (has-room .result) (has-room .ensures) (if2 .taken) .1)
 
 slice-write-paths : tie.Need-slice-write-paths
-slice-write-paths c = omega (arith, room-says (c .before .before .before .before .before .before .before .before .before .args .ps) (c .before .before .before .before .before .before .before .before .before .args .pl) (c .before .before .before .before .before .before .before .before .before .args .m) (length (c .before .before .before .before .before .before .before .before .before .args .paths .now)) (c .before .before .before .before .before .has-room .result) (c .before .before .before .before .before .has-room .ensures) (c .before .before .before .before .if2 .taken) .1, c .before .before .copy-down .kept .0)
+slice-write-paths c =
+    let args = c .before .before .before .before .before .before .before .before .before .args in
+    let has-room = c .before .before .before .before .before .has-room in
+    let if2 = c .before .before .before .before .if2 in
+    let copy-down = c .before .before .copy-down in
+    omega (
+      arith,
+      room-says (args .ps) (args .pl) (args .m) (length (args .paths .now)) (has-room .result) (has-room .ensures) (if2 .taken) .1,
+      copy-down .kept .0,
+    )
 
 add-put : tie.Need-add-put
-add-put c = omega (arith, room-says (c .before .before .before .before .before .before .before .before .before .before .args .ps) (c .before .before .before .before .before .before .before .before .before .before .args .pl) (c .before .before .before .before .before .before .before .before .before .before .args .m) (length (c .before .before .before .before .before .before .before .before .before .before .args .paths .now)) (c .before .before .before .before .before .before .has-room .result) (c .before .before .before .before .before .before .has-room .ensures) (c .before .before .before .before .before .if2 .taken) .1)
+add-put c =
+    let args = c .before .before .before .before .before .before .before .before .before .before .args in
+    let has-room = c .before .before .before .before .before .before .has-room in
+    let if2 = c .before .before .before .before .before .if2 in
+    omega (arith, room-says (args .ps) (args .pl) (args .m) (length (args .paths .now)) (has-room .result) (has-room .ensures) (if2 .taken) .1)
 
 put-requires-2 : tie.Need-put-requires-2
 put-requires-2 c κs = search needs
@@ -38,10 +64,23 @@ same-length-2 : tie.Need-same-length-2
 same-length-2 c = c .before .before .put2 .kept .0 ∙ simp length-set (c .before .before .before .before .before .before .copy-down .kept .0)
 
 returns-2 : tie.Need-returns-2
-returns-2 c = c .before .before .put2 .ensures ∙ path-full (c .before .before .before .before .before .before .before .before .before .before .before .before .before .args .paths .now) (c .before .before .before .before .before .before .before .before .before .before .before .before .before .args .m) (c .before .before .before .before .before .before .before .before .before .before .before .before .before .args .ps) (c .before .before .before .before .before .before .before .before .before .before .before .before .before .args .pl) (c .before .before .before .before .before .before .before .before .before .before .before .before .before .args .name .now) (c .before .before .before .before .before .before .before .before .before .before .if1 .left) (c .before .before .before .before .before .before .before .before .before .has-room .result) (c .before .before .before .before .before .before .before .before .before .has-room .ensures) (c .before .before .before .before .before .before .before .before .if2 .taken) _ (c .before .before .before .before .before .before .copy-down .ensures)
+returns-2 c =
+    let args = c .before .before .before .before .before .before .before .before .before .before .before .before .before .args in
+    let if1 = c .before .before .before .before .before .before .before .before .before .before .if1 in
+    let has-room = c .before .before .before .before .before .before .before .before .before .has-room in
+    let if2 = c .before .before .before .before .before .before .before .before .if2 in
+    let copy-down = c .before .before .before .before .before .before .copy-down in
+    let put2 = c .before .before .put2 in
+    put2 .ensures ∙ path-full (args .paths .now) (args .m) (args .ps) (args .pl) (args .name .now) (if1 .left) (has-room .result) (has-room .ensures)
+    (if2 .taken) _ (copy-down .ensures)
 
 returns-3 : tie.Need-returns-3
-returns-3 c = path-shut (c .before .before .before .before .before .args .paths .now) (c .before .before .before .before .before .args .m) (c .before .before .before .before .before .args .ps) (c .before .before .before .before .before .args .pl) (c .before .before .before .before .before .args .name .now) (c .before .before .if1 .left) (c .before .has-room .result) (c .before .has-room .ensures) (c .if2 .left)
+returns-3 c =
+    let args = c .before .before .before .before .before .args in
+    let if1 = c .before .before .if1 in
+    let has-room = c .before .has-room in
+    let if2 = c .if2 in
+    path-shut (args .paths .now) (args .m) (args .ps) (args .pl) (args .name .now) (if1 .left) (has-room .result) (has-room .ensures) (if2 .left)
 
 pub put-path-spec : {M : Type 1} → statement M
 put-path-spec =

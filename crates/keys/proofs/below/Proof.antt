@@ -50,17 +50,36 @@ below-same-requires c κs = search needs
 returns : tie.Need-returns
 returns c =
     let args = c .before .before .before .before .before .before .args in
-    elements (args .text .now) (args .mark) (args .width) (args .x) (args .y) _ _ (c .before .before .before .before .begin .ensures) (c .before .before .before .begin2 .ensures) Below (sym (c .enum-told .given .1) ∙ c .before .before .names .ensures) _ _ refl refl
+    let begin = c .before .before .before .before .begin in
+    let begin2 = c .before .before .before .begin2 in
+    let names = c .before .before .names in
+    let enum-told = c .enum-told in
+    elements (args .text .now) (args .mark) (args .width) (args .x) (args .y) _ _ (begin .ensures) (begin2 .ensures) Below
+    (sym (enum-told .given .1) ∙ names .ensures) _ _ refl refl
 
 returns-2 : tie.Need-returns-2
 returns-2 c =
     let args = c .before .before .before .before .before .before .args in
-    elements (args .text .now) (args .mark) (args .width) (args .x) (args .y) _ _ (c .before .before .before .before .begin .ensures) (c .before .before .before .begin2 .ensures) Above (sym (c .enum-told2 .given .1) ∙ c .before .before .names .ensures) _ _ refl refl
+    let begin = c .before .before .before .before .begin in
+    let begin2 = c .before .before .before .begin2 in
+    let names = c .before .before .names in
+    let enum-told2 = c .enum-told2 in
+    elements (args .text .now) (args .mark) (args .width) (args .x) (args .y) _ _ (begin .ensures) (begin2 .ensures) Above
+    (sym (enum-told2 .given .1) ∙ names .ensures) _ _ refl refl
 
 returns-3 : tie.Need-returns-3
 returns-3 c =
     let args = c .before .before .before .before .before .before .before .before .before .args in
-    c .below-same .ensures ∙ elements (args .text .now) (args .mark) (args .width) (args .x) (args .y) _ _ (c .before .before .before .before .before .before .before .begin .ensures) (c .before .before .before .before .before .before .begin2 .ensures) Same (sym (c .before .before .before .enum-told3 .given .1) ∙ c .before .before .before .before .before .names .ensures) _ _ (name-length (args .text .now) (args .mark) (args .width) _ _ (args .x % 2) (c .before .before .end .ensures) (omega arith)) (name-length (args .text .now) (args .mark) (args .width) _ _ (args .y % 2) (c .before .end2 .ensures) (omega arith))
+    let begin = c .before .before .before .before .before .before .before .begin in
+    let begin2 = c .before .before .before .before .before .before .begin2 in
+    let names = c .before .before .before .before .before .names in
+    let enum-told3 = c .before .before .before .enum-told3 in
+    let end = c .before .before .end in
+    let end2 = c .before .end2 in
+    let below-same = c .below-same in
+    below-same .ensures ∙ elements (args .text .now) (args .mark) (args .width) (args .x) (args .y) _ _ (begin .ensures) (begin2 .ensures) Same
+    (sym (enum-told3 .given .1) ∙ names .ensures) _ _ (name-length (args .text .now) (args .mark) (args .width) _ _ (args .x % 2) (end .ensures) (omega arith))
+    (name-length (args .text .now) (args .mark) (args .width) _ _ (args .y % 2) (end2 .ensures) (omega arith))
 
 pub below-spec : {M : Type 1} → statement M
 below-spec =

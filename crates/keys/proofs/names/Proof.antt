@@ -34,7 +34,11 @@ returns : tie.Need-returns Inv-loop μ-loop
 returns c =
     let args = c .before .before .before .before .before .before .args in
     let loop = c .before .before .before .before .loop in
-    c .by-next .ensures ∙ walk-end _ _ (loop .i) (loop .inv) _ _ (c .before .before .before .next-at .ensures) (c .before .before .next-at2 .ensures) (args .atree) (args .btree) (c .before .if1 .taken)
+    let next-at = c .before .before .before .next-at in
+    let next-at2 = c .before .before .next-at2 in
+    let if1 = c .before .if1 in
+    let by-next = c .by-next in
+    by-next .ensures ∙ walk-end _ _ (loop .i) (loop .inv) _ _ (next-at .ensures) (next-at2 .ensures) (args .atree) (args .btree) (if1 .taken)
 
 by-next-requires-2 : tie.Need-by-next-requires-2 Inv-loop μ-loop
 by-next-requires-2 c κs = search needs
@@ -43,26 +47,43 @@ returns-2 : tie.Need-returns-2 Inv-loop μ-loop
 returns-2 c =
     let args = c .before .before .before .before .before .before .before .args in
     let loop = c .before .before .before .before .before .loop in
-    c .by-next2 .ensures ∙ walk-off _ _ (loop .i) (loop .inv) _ _ (c .before .before .before .before .next-at .ensures) (c .before .before .before .next-at2 .ensures) (args .atree) (args .btree) (c .before .if2 .taken)
+    let next-at = c .before .before .before .before .next-at in
+    let next-at2 = c .before .before .before .next-at2 in
+    let if2 = c .before .if2 in
+    let by-next2 = c .by-next2 in
+    by-next2 .ensures ∙ walk-off _ _ (loop .i) (loop .inv) _ _ (next-at .ensures) (next-at2 .ensures) (args .atree) (args .btree) (if2 .taken)
 
 add-i : tie.Need-add-i Inv-loop μ-loop
 add-i c =
     let args = c .before .before .before .before .before .before .args in
+    let good = c .before .before .before .before .before .before .good in
     let loop = c .before .before .before .before .loop in
-    let w = walk-more _ _ (loop .i) (loop .inv) _ _ (c .before .before .before .next-at .ensures) (c .before .before .next-at2 .ensures) (c .before .if1 .left) (c .if2 .left) in
-    omega (arith, w .left, cut-le (args .width) (drop (args .a) (args .text .now)), length-drop (args .a) (args .text .now), c .before .before .before .before .before .before .good)
+    let next-at = c .before .before .before .next-at in
+    let next-at2 = c .before .before .next-at2 in
+    let if1 = c .before .if1 in
+    let if2 = c .if2 in
+    let w = walk-more _ _ (loop .i) (loop .inv) _ _ (next-at .ensures) (next-at2 .ensures) (if1 .left) (if2 .left) in
+    omega (arith, w .left, cut-le (args .width) (drop (args .a) (args .text .now)), length-drop (args .a) (args .text .now), good)
 
 loop-less : tie.Need-loop-less Inv-loop μ-loop
 loop-less c =
     let args = c .before .before .before .before .before .before .args in
     let loop = c .before .before .before .before .loop in
-    let w = walk-more _ _ (loop .i) (loop .inv) _ _ (c .before .before .before .next-at .ensures) (c .before .before .next-at2 .ensures) (c .before .if1 .left) (c .if2 .left) in
+    let next-at = c .before .before .before .next-at in
+    let next-at2 = c .before .before .next-at2 in
+    let if1 = c .before .if1 in
+    let if2 = c .if2 in
+    let w = walk-more _ _ (loop .i) (loop .inv) _ _ (next-at .ensures) (next-at2 .ensures) (if1 .left) (if2 .left) in
     omega (arith, w .left, cut-le (args .width) (drop (args .a) (args .text .now)), length-drop (args .a) (args .text .now))
 
 loop-again : tie.Need-loop-again Inv-loop μ-loop
 loop-again c =
     let loop = c .before .before .before .before .loop in
-    walk-more _ _ (loop .i) (loop .inv) _ _ (c .before .before .before .next-at .ensures) (c .before .before .next-at2 .ensures) (c .before .if1 .left) (c .if2 .left)
+    let next-at = c .before .before .before .next-at in
+    let next-at2 = c .before .before .next-at2 in
+    let if1 = c .before .if1 in
+    let if2 = c .if2 in
+    walk-more _ _ (loop .i) (loop .inv) _ _ (next-at .ensures) (next-at2 .ensures) (if1 .left) (if2 .left)
 
 pub names-spec : {M : Type 1} → statement M
 names-spec =

@@ -41,7 +41,11 @@ add-result c =
 returns-3 : tie.Need-returns-3
 returns-3 c =
     let args = c .before .before .before .before .before .args in
-    next-byte-nul (args .text .now) (args .width) (args .from) (args .i) (c .before .before .before .if2 .taken) (c .before .before .before .before .if1 .left) (c .before .before .before .before .before .pre .1) (c .before .if3 .left)
+    let pre = c .before .before .before .before .before .pre in
+    let if1 = c .before .before .before .before .if1 in
+    let if2 = c .before .before .before .if2 in
+    let if3 = c .before .if3 in
+    next-byte-nul (args .text .now) (args .width) (args .from) (args .i) (if2 .taken) (if1 .left) (pre .1) (if3 .left)
 
 returns-4 : tie.Need-returns-4
 returns-4 c =
@@ -64,7 +68,10 @@ add-result-2 c =
 returns-5 : tie.Need-returns-5
 returns-5 c =
     let args = c .before .before .before .before .args in
-    next-byte-wide (args .text .now) (args .width) (args .from) (args .i) (c .before .before .if2 .left) (c .before .before .before .if1 .left) (c .before .if4 .left)
+    let if1 = c .before .before .before .if1 in
+    let if2 = c .before .before .if2 in
+    let if4 = c .before .if4 in
+    next-byte-wide (args .text .now) (args .width) (args .from) (args .i) (if2 .left) (if1 .left) (if4 .left)
 
 pub next-at-spec : {M : Type 1} → statement M
 next-at-spec =

@@ -3,7 +3,7 @@ use borrow.Author.Needs.{needs}
 use Rattle.listing_text.proofs.add_hex.Statement.{statement}
 use Rattle.listing_text.proofs.add_hex.Tie as tie
 use native.Mathlib.Omega.{arith}
-use mathlib.Core.Path.{_≡_, refl, sym, _∙_}
+use mathlib.Core.Path.{_≡_, refl, _∙_}
 use Prim.Native.Nat.{_+_, _-_, _*_, _≤_}
 use lib.ListN.{length, drop}
 use Rattle.hex_of_id.specs.Hex.{hexOf}
@@ -55,7 +55,8 @@ loop-again c =
       omega arith,
       omega (arith, e .place, l .inv .2),
       hex-turn (at-args .args .bytes .now)
-          (l .i) (at-loop-test .loop-test .taken) (omega (arith, at-digit-of .before .before .shared-slice-known2 .given (l .i))) (l .inv .3) (at-digit-of .digit-of .ensures) (at-digit-of2 .digit-of2 .ensures) e,
+          (l .i) (at-loop-test .loop-test .taken) (omega (arith, at-digit-of .before .before .shared-slice-known2 .given (l .i))) (l .inv .3)
+          (at-digit-of .digit-of .ensures) (at-digit-of2 .digit-of2 .ensures) e,
     )
 
 same-length : tie.Need-same-length Inv-loop μ-loop

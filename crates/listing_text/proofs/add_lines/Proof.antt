@@ -3,7 +3,7 @@ use borrow.Author.Needs.{needs}
 use Rattle.listing_text.proofs.add_lines.Statement.{statement}
 use Rattle.listing_text.proofs.add_lines.Tie as tie
 use native.Mathlib.Omega.{arith}
-use mathlib.Core.Path.{_≡_, refl, sym, _∙_}
+use mathlib.Core.Path.{_≡_, refl, _∙_}
 use Prim.Native.Nat.{_+_, _-_, _*_, _≤_}
 use lib.ListN.{length, drop}
 use Rattle.entry.specs.Record.{many, recordsOf}
@@ -28,8 +28,11 @@ add-line-requires : tie.Need-add-line-requires Inv-loop μ-loop
 add-line-requires c κs =
     let at-loop-test = c .before .before in
     let at-loop = at-loop-test .before in
-    let at-args = at-loop .before .before .before .before in
-    (omega (arith, at-loop .loop .inv .1, at-loop .loop .inv .3, at-loop-test .loop-test .taken, at-args .pre .0, at-args .pre .3), at-args .pre .1, at-args .pre .2)
+    let at-args = at-loop .before .before .before .before in (
+      omega (arith, at-loop .loop .inv .1, at-loop .loop .inv .3, at-loop-test .loop-test .taken, at-args .pre .0, at-args .pre .3),
+      at-args .pre .1,
+      at-args .pre .2,
+    )
 
 add-i : tie.Need-add-i Inv-loop μ-loop
 add-i c = search needs
@@ -59,10 +62,12 @@ same-length c = c .before .loop .inv .0
 
 returns : tie.Need-returns Inv-loop μ-loop
 returns c =
+    let loop-test = c .loop-test in
     let at-loop = c .before in
     let at-args = at-loop .before .before .before .before in
     let l = at-loop .loop in
-    rest-none (l .inv .4) (lines-end (at-args .args .h) (at-args .args .s .now) (at-args .args .records .now) (l .i) (omega (arith, l .inv .1, c .loop-test .left)))
+    rest-none (l .inv .4) (lines-end (at-args .args .h) (at-args .args .s .now) (at-args .args .records .now) (l .i)
+    (omega (arith, l .inv .1, loop-test .left)))
 
 pub add-lines-spec : {M : Type 1} → statement M
 add-lines-spec =

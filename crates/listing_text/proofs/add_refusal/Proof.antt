@@ -2,7 +2,6 @@
 use borrow.Author.Needs.{needs}
 use Rattle.listing_text.proofs.add_refusal.Statement.{statement}
 use Rattle.listing_text.proofs.add_refusal.Tie as tie
-use native.Mathlib.Omega.{arith}
 use Rattle.listing_text.specs.Text.{refusal}
 use Rattle.listing_text.proofs.Laws.{added-then}
 

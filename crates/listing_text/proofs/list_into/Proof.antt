@@ -3,7 +3,7 @@ use borrow.Author.Needs.{needs}
 use Rattle.listing_text.proofs.list_into.Statement.{statement}
 use Rattle.listing_text.proofs.list_into.Tie as tie
 use native.Mathlib.Omega.{arith}
-use mathlib.Core.Path.{_≡_, refl, sym, _∙_}
+use mathlib.Core.Path.{sym}
 use Prim.Native.Nat.{_*_}
 use Rattle.ground.proofs.Laws.{id-is, id-small}
 use Rattle.entry.specs.Record.{width}
@@ -78,8 +78,13 @@ add-lines-requires c κs =
     let a = at-args .args in
     let p = at-args .pre in
     let t = at-read-tree .read-tree in
-    let n = read-all (a .h) (p .0) (a .object .now) (a .records .now) (t .result) (p .1) (p .2) (t .ensures .0) (at-if1 .if1 .left) .2 in
-    (omega (arith, at-add-head .add-head .ensures .1), id-small (a .h) (id-is (a .h) (p .0)) .1, p .1, front-most (t .result .count * width) (room * width) (t .ensures .1) (omega (arith, n)))
+    let n = read-all (a .h) (p .0) (a .object .now) (a .records .now) (t .result) (p .1) (p .2) (t .ensures .0) (at-if1 .if1 .left) .2 in (
+      omega (arith, at-add-head .add-head .ensures .1),
+      id-small (a .h) (id-is (a .h) (p .0)) .1,
+      p .1,
+      front-most (t .result .count * width) (room * width)
+          (t .ensures .1) (omega (arith, n)),
+    )
 
 same-length-3 : tie.Need-same-length-3
 same-length-3 c = search needs

@@ -17,7 +17,10 @@ same-length c = search needs
 returns : tie.Need-returns
 returns c =
     let args = c .before .before .before .before .before .before .before .before .args in
-    told-any (args .h) (args .object .now) _ _ _ (sym (c .before .before .before .before .before .is-id-length .ensures) ∙ c .before .before .before .before .if1 .taken) (c .before .before .list-any .ensures .0) (c .before .before .list-any .ensures .1)
+    let is-id-length = c .before .before .before .before .before .is-id-length in
+    let if1 = c .before .before .before .before .if1 in
+    let list-any = c .before .before .list-any in
+    told-any (args .h) (args .object .now) _ _ _ (sym (is-id-length .ensures) ∙ if1 .taken) (list-any .ensures .0) (list-any .ensures .1)
 
 add-refusal-requires : tie.Need-add-refusal-requires
 add-refusal-requires c κs = search needs
@@ -28,7 +31,10 @@ same-length-2 c = search needs
 returns-2 : tie.Need-returns-2
 returns-2 c =
     let args = c .before .before .before .before .before .before .before .before .args in
-    told-other (args .h) (args .object .now) (sym (c .before .before .before .before .before .is-id-length .ensures) ∙ c .before .before .before .before .if1 .left) (c .before .before .add-refusal .ensures)
+    let is-id-length = c .before .before .before .before .before .is-id-length in
+    let if1 = c .before .before .before .before .if1 in
+    let add-refusal = c .before .before .add-refusal in
+    told-other (args .h) (args .object .now) (sym (is-id-length .ensures) ∙ if1 .left) (add-refusal .ensures)
 
 pub put-listing-spec : {M : Type 1} → statement M
 put-listing-spec =

@@ -71,15 +71,25 @@ loop-less c = search needs
 loop-again : tie.Need-loop-again Inv-loop μ-loop
 unfolding nameOf
 loop-again c =
-    let loop = c .before .before .before .before .before .before .before .before .before .loop in
-    let record-at = c .before .before .before .before .before .before .before .record-at in
-    let good = sym (c .before .before .before .before .before .before .well-formed .ensures) ∙ c .before .before .before .before .before .if1 .taken in
-    let folder = c .before .before .before .before .is-folder .ensures in
-    let ordered = c .before .before .name-order .ensures in
-    let told = c .enum-told .given .1 in
     let args = c .before .before .before .before .before .before .before .before .before .before .before .before .before .args in
-    let more = c .before .before .before .before .before .before .before .before .loop-test .taken in
-    (loop .inv .0, omega (arith, loop .inv .1), loop .inv .2 ∙ search-told _ _ (recordsOf (args .records .now)) _ _ _ _ _ more _ (record-at .ensures) good Below folder ordered told)
+    let loop = c .before .before .before .before .before .before .before .before .before .loop in
+    let loop-test = c .before .before .before .before .before .before .before .before .loop-test in
+    let record-at = c .before .before .before .before .before .before .before .record-at in
+    let well-formed = c .before .before .before .before .before .before .well-formed in
+    let if1 = c .before .before .before .before .before .if1 in
+    let is-folder = c .before .before .before .before .is-folder in
+    let name-order = c .before .before .name-order in
+    let enum-told = c .enum-told in
+    let good = sym (well-formed .ensures) ∙ if1 .taken in
+    let folder = is-folder .ensures in
+    let ordered = name-order .ensures in
+    let told = enum-told .given .1 in
+    let more = loop-test .taken in (
+      loop .inv .0,
+      omega (arith, loop .inv .1),
+      loop .inv .2 ∙ search-told _ _ (recordsOf (args .records .now)) _ _ _ _ _ more _ (record-at .ensures) good Below
+          folder ordered told,
+    )
 
 enum-told-2 : tie.Need-enum-told-2 Inv-loop μ-loop
 enum-told-2 c = search needs
@@ -106,22 +116,37 @@ loop-less-2 c = search needs
 loop-again-2 : tie.Need-loop-again-2 Inv-loop μ-loop
 unfolding nameOf
 loop-again-2 c =
-    let loop = c .before .before .before .before .before .before .before .before .before .loop in
-    let record-at = c .before .before .before .before .before .before .before .record-at in
-    let good = sym (c .before .before .before .before .before .before .well-formed .ensures) ∙ c .before .before .before .before .before .if1 .taken in
-    let folder = c .before .before .before .before .is-folder .ensures in
-    let ordered = c .before .before .name-order .ensures in
-    let told = c .enum-told3 .given .1 in
     let args = c .before .before .before .before .before .before .before .before .before .before .before .before .before .args in
-    let more = c .before .before .before .before .before .before .before .before .loop-test .taken in
-    (omega (arith, loop .inv .0), omega (arith, loop .inv .1), loop .inv .2 ∙ search-told _ _ (recordsOf (args .records .now)) _ _ _ _ _ more _ (record-at .ensures) good Above folder ordered told)
+    let loop = c .before .before .before .before .before .before .before .before .before .loop in
+    let loop-test = c .before .before .before .before .before .before .before .before .loop-test in
+    let record-at = c .before .before .before .before .before .before .before .record-at in
+    let well-formed = c .before .before .before .before .before .before .well-formed in
+    let if1 = c .before .before .before .before .before .if1 in
+    let is-folder = c .before .before .before .before .is-folder in
+    let name-order = c .before .before .name-order in
+    let enum-told3 = c .enum-told3 in
+    let good = sym (well-formed .ensures) ∙ if1 .taken in
+    let folder = is-folder .ensures in
+    let ordered = name-order .ensures in
+    let told = enum-told3 .given .1 in
+    let more = loop-test .taken in (
+      omega (arith, loop .inv .0),
+      omega (arith, loop .inv .1),
+      loop .inv .2 ∙ search-told _ _ (recordsOf (args .records .now)) _ _ _ _ _ more _
+          (record-at .ensures) good Above folder ordered told,
+    )
 
 returns-2 : tie.Need-returns-2 Inv-loop μ-loop
 returns-2 c =
     let args = c .before .before .before .before .before .before .before .before .args in
-    let more = c .before .before .before .loop-test .taken in
-    let broken = sym (c .before .well-formed .ensures) ∙ c .if1 .left in
-    sym (c .before .before .before .before .loop .inv .2 ∙ search-bad _ _ (recordsOf (args .records .now)) _ _ _ _ _ more _ (c .before .before .record-at .ensures) broken)
+    let loop = c .before .before .before .before .loop in
+    let loop-test = c .before .before .before .loop-test in
+    let record-at = c .before .before .record-at in
+    let well-formed = c .before .well-formed in
+    let if1 = c .if1 in
+    let more = loop-test .taken in
+    let broken = sym (well-formed .ensures) ∙ if1 .left in
+    sym (loop .inv .2 ∙ search-bad _ _ (recordsOf (args .records .now)) _ _ _ _ _ more _ (record-at .ensures) broken)
 
 returns-3 : tie.Need-returns-3 Inv-loop μ-loop
 returns-3 c = sym (c .before .loop .inv .2 ∙ search-end _ _ _ _ (c .loop-test .left))

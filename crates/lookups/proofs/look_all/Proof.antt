@@ -34,15 +34,20 @@ same-length c = search needs
 
 returns-2 : tie.Need-returns-2
 returns-2 c =
+    let each = c .before .before .before .before .before .before .before .before .before .before .before .before .each in
+    let if1 = c .before .before .before .before .before .before .before .before .before .if1 in
+    let copy = c .before .before .before .before .before .before .copy in
+    let each2 = c .before .before .each2 in
     let start = c .before .before .before .before .before .before .before .before .before .before .before .before .before .before .before .before .before .before .before in
     let args = start .args in
-    let first = c .before .before .before .before .before .before .before .before .before .before .before .before .each .ensures in
-    let copied = c .before .before .before .before .before .before .copy .ensures in
-    let last = c .before .before .each2 .ensures in
-    let z = c .before .before .before .before .before .before .before .before .before .if1 .left in
+    let first = each .ensures in
+    let copied = copy .ensures in
+    let last = each2 .ensures in
+    let z = if1 .left in
     let f = oneAnswer (args .h) (args .object .now) (args .records .now) (args .names .now) in (
       first .0,
-      both-passes f (args .sought .now) _ (args .answers .now) _ _ _ 64 _ _ _ refl refl (omega (arith, start .pre)) z (first .0) (first .1) copied (last .0) (last .1),
+      both-passes f (args .sought .now) _ (args .answers .now) _ _ _ 64 _ _ _ refl refl (omega (arith, start .pre)) z (first .0) (first .1) copied (last .0)
+          (last .1),
     )
 
 pub look-all-spec : {M : Type 1} → statement M

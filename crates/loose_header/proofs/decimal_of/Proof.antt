@@ -36,8 +36,16 @@ loop-less c = search needs
 
 loop-again : tie.Need-loop-again Inv-loop μ-loop
 loop-again c =
-    let l = c .before .loop in let h = two-digits (l .at) (l .rest) (l .inv .3) (c .loop-test .taken) in
-    (omega arith, omega arith, simp length-set (l .inv .2), tenth-at (l .at) (l .rest) (l .inv .0) (l .inv .3), l .inv .4 ∙ store-more (l .text) (l .at) (l .rest) (l .inv .0) (omega arith) (c .loop-test .taken))
+    let l = c .before .loop in
+    let loop-test = c .loop-test in
+    let h = two-digits (l .at) (l .rest) (l .inv .3) (loop-test .taken) in (
+      omega arith,
+      omega arith,
+      simp length-set (l .inv .2),
+      tenth-at (l .at) (l .rest) (l .inv .0) (l .inv .3),
+      l .inv .4 ∙ store-more (l .text) (l .at)
+          (l .rest) (l .inv .0) (omega arith) (loop-test .taken),
+    )
 
 sub-at-2 : tie.Need-sub-at-2 Inv-loop μ-loop
 sub-at-2 c = search needs

@@ -34,9 +34,14 @@ fit-requires c κs = search needs
 
 returns-2 : tie.Need-returns-2
 returns-2 c =
-    let w = c .before .before .before .before .kind-word .ensures in
-    let d = c .before .before .decimal-of .ensures in
-    refused-both _ _ _ (header-kind _ _ _ (λ q. c .before .before .before .if1 .left (w .0 ∙ q)) _ (header-need _ _ _ _ _ (w .0) (d .1) (d .2)) ∙ sym (c .before .fit .ensures)) (c .if2 .taken)
+    let kind-word = c .before .before .before .before .kind-word in
+    let if1 = c .before .before .before .if1 in
+    let decimal-of = c .before .before .decimal-of in
+    let fit = c .before .fit in
+    let if2 = c .if2 in
+    let w = kind-word .ensures in
+    let d = decimal-of .ensures in
+    refused-both _ _ _ (header-kind _ _ _ (λ q. if1 .left (w .0 ∙ q)) _ (header-need _ _ _ _ _ (w .0) (d .1) (d .2)) ∙ sym (fit .ensures)) (if2 .taken)
 
 array-share-prefix-letters : tie.Need-array-share-prefix-letters
 array-share-prefix-letters c = search needs
@@ -64,6 +69,7 @@ same-length c = search needs
 
 returns-3 : tie.Need-returns-3
 returns-3 c =
+    let put-ended2 = c .before .before .put-ended2 in
     let at-put-ended = c .before .before .before .before .before .before .before .before in
     let at-if2 = at-put-ended .before .before .before .before .before in
     let at-fit = at-if2 .before in
@@ -78,7 +84,8 @@ returns-3 c =
     let f = at-fit .fit .ensures in
     let n = header-need (a .kind) (a .size) _ _ _ (w .0) (d .1) (d .2) in
     fitted-both _ _ _ (a .out .now) _ (header-kind _ _ _ (λ q. at-if1 .if1 .left (w .0 ∙ q)) _ n ∙ sym f) f (at-if2 .if2 .left) (λ z. sym n)
-    (header-stored _ _ _ _ _ _ _ _ (w .3) (digits-part (a .size) (t .at) (t .text) (d .1) (d .2)) (omega arith) (at-put-ended .put-ended .ensures) (c .before .before .put-ended2 .ensures))
+    (header-stored _ _ _ _ _ _ _ _ (w .3) (digits-part (a .size) (t .at) (t .text) (d .1) (d .2)) (omega arith) (at-put-ended .put-ended .ensures)
+    (put-ended2 .ensures))
 
 pub loose-header-spec : {M : Type 1} → statement M
 loose-header-spec =

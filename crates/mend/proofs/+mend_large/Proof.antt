@@ -1,8 +1,7 @@
 -- `mend::mend_large` meets its contract: it calls itself only on a way that its `requires` shuts. Assumes nothing.
-use Prim.Native.Nat.{ℕ, _<_, _≤_}
+use Prim.Native.Nat.{ℕ, _<_}
 use borrow.Fn.Kinds.{In}
 use borrow.Fn.PlainCycle.{Measures, is, falls, and}
-use Rattle.ground.specs.Verdict.{mostRecords}
 use Rattle.mend.proofs.Whole.{over}
 use Rattle.mend.proofs.mend_large.Reads as mend-large
 use Rattle.mend.proofs.mend_large.Kinds as mend-large-kinds

@@ -5,7 +5,7 @@ use Rattle.mend.proofs.choose.Tie as tie
 use Rattle.mend.proofs.choose.Reads as reads
 use Rattle.mend.proofs.choose.Lts as lts
 use Rattle.fate.proofs.may_stay.Reads as may-stay-reads
-use mathlib.Core.Path.{refl, sym, _∙_}
+use mathlib.Core.Path.{_∙_}
 use Rattle.mend_kept.proofs.Walk.{chosen-in, chosen-out, chosen-first}
 
 mul-result : tie.Need-mul-result

@@ -2,8 +2,6 @@
 use borrow.Author.Needs.{needs}
 use Rattle.mend.proofs.entry_fate.Statement.{statement}
 use Rattle.mend.proofs.entry_fate.Tie as tie
-use native.Mathlib.Omega.{arith}
-use mathlib.Core.Path.{refl, sym, _∙_}
 use Rattle.mend_kept.proofs.Walk.{fate-is, key-is-name}
 
 element-requires : tie.Need-element-requires
@@ -22,7 +20,10 @@ part-repeated-end : tie.Need-part-repeated-end
 part-repeated-end c = search needs
 
 repeated-requires : tie.Need-repeated-requires
-repeated-requires c κs = (c .before .before .before .before .pre .0, key-is-name _ _ _ (c .before .element .ensures) (c .before .before .before .before .pre .1 .1 .1))
+repeated-requires c κs =
+    let pre = c .before .before .before .before .pre in
+    let element = c .before .element in
+    (pre .0, key-is-name _ _ _ (element .ensures) (pre .1 .1 .1))
 
 sub-fate-of : tie.Need-sub-fate-of
 sub-fate-of c = search needs
@@ -46,7 +47,11 @@ fate-of-requires : tie.Need-fate-of-requires
 fate-of-requires c κs = search needs
 
 returns : tie.Need-returns
-returns c = fate-is _ _ _ _ _ _ (c .before .before .before .before .before .element .ensures) (c .before .before .before .repeated .ensures) (c .fate-of .ensures)
+returns c =
+    let element = c .before .before .before .before .before .element in
+    let repeated = c .before .before .before .repeated in
+    let fate-of = c .fate-of in
+    fate-is _ _ _ _ _ _ (element .ensures) (repeated .ensures) (fate-of .ensures)
 
 pub entry-fate-spec : {M : Type 1} → statement M
 entry-fate-spec =

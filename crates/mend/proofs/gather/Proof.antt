@@ -40,7 +40,12 @@ same-length-2 : tie.Need-same-length-2 Inv-loop μ-loop
 same-length-2 c = c .before .before .before .before .before .loop .inv .size
 
 returns-2 : tie.Need-returns-2 Inv-loop μ-loop
-returns-2 c = gathering-end _ _ _ _ _ _ _ _ _ (c .before .before .before .before .before .loop .inv) (none-left _ _ _ _ (c .before .before .before .if1 .left) (sym (c .before .before .decode .ensures) ∙ c .enum-told .given .1))
+returns-2 c =
+    let loop = c .before .before .before .before .before .loop in
+    let if1 = c .before .before .before .if1 in
+    let decode = c .before .before .decode in
+    let enum-told = c .enum-told in
+    gathering-end _ _ _ _ _ _ _ _ _ (loop .inv) (none-left _ _ _ _ (if1 .left) (sym (decode .ensures) ∙ enum-told .given .1))
 
 enum-known-e : tie.Need-enum-known-e Inv-loop μ-loop
 enum-known-e c = search needs
@@ -49,10 +54,18 @@ choose-requires : tie.Need-choose-requires Inv-loop μ-loop
 choose-requires c κs = decoded-inside _ _ _ _ _ (sym (c .before .before .before .decode .ensures) ∙ c .before .e .given .1)
 
 element-requires : tie.Need-element-requires Inv-loop μ-loop
-element-requires c κs = let w = decoded-place _ _ _ _ _ (sym (c .before .before .before .before .decode .ensures) ∙ c .before .before .e .given .1) in omega (arith, w, c .before .before .before .before .before .before .before .before .before .before .before .pre)
+element-requires c κs =
+    let pre = c .before .before .before .before .before .before .before .before .before .before .before .pre in
+    let decode = c .before .before .before .before .decode in
+    let e = c .before .before .e in
+    let w = decoded-place _ _ _ _ _ (sym (decode .ensures) ∙ e .given .1) in
+    omega (arith, w, pre)
 
 push-requires : tie.Need-push-requires Inv-loop μ-loop
-push-requires c κs = omega (arith, c .before .before .before .before .before .before .before .before .before .loop .inv .few, c .before .before .before .before .before .before .before .if1 .left)
+push-requires c κs =
+    let loop = c .before .before .before .before .before .before .before .before .before .loop in
+    let if1 = c .before .before .before .before .before .before .before .if1 in
+    omega (arith, loop .inv .few, if1 .left)
 
 add-n : tie.Need-add-n Inv-loop μ-loop
 add-n c = search needs
@@ -61,7 +74,16 @@ loop-less : tie.Need-loop-less Inv-loop μ-loop
 loop-less c = omega (arith, c .before .before .before .before .before .before .before .before .before .before .if1 .left)
 
 loop-again : tie.Need-loop-again Inv-loop μ-loop
-loop-again c = gathering-turn _ _ _ _ _ _ _ _ _ (c .before .before .before .before .before .before .before .before .before .before .before .before .loop .inv) _ _ (c .before .before .before .before .before .before .before .before .before .before .if1 .left) (sym (c .before .before .before .before .before .before .before .before .before .decode .ensures) ∙ c .before .before .before .before .before .before .before .e .given .1) _ (c .before .before .before .before .before .choose .ensures) _ (c .before .before .before .before .element .ensures) _ (c .before .before .push .ensures .0) _ (c .before .before .push .ensures .1)
+loop-again c =
+    let loop = c .before .before .before .before .before .before .before .before .before .before .before .before .loop in
+    let if1 = c .before .before .before .before .before .before .before .before .before .before .if1 in
+    let decode = c .before .before .before .before .before .before .before .before .before .decode in
+    let e = c .before .before .before .before .before .before .before .e in
+    let choose = c .before .before .before .before .before .choose in
+    let element = c .before .before .before .before .element in
+    let push = c .before .before .push in
+    gathering-turn _ _ _ _ _ _ _ _ _ (loop .inv) _ _ (if1 .left) (sym (decode .ensures) ∙ e .given .1) _ (choose .ensures) _ (element .ensures) _
+    (push .ensures .0) _ (push .ensures .1)
 
 same-length-3 : tie.Need-same-length-3 Inv-loop μ-loop
 same-length-3 c = c .before .loop .inv .size

@@ -6,7 +6,6 @@ use Rattle.mend.proofs.kept_size.Reads as reads
 use Rattle.mend.proofs.kept_size.Lts as lts
 use Rattle.fate.proofs.own_text.Reads as own-text-reads
 use native.Mathlib.Omega.{arith}
-use mathlib.Core.Path.{sym, _∙_}
 use Rattle.fate.proofs.Laws.{own-fits, own-length}
 use Rattle.mend_kept.proofs.Walk.{size-kept-is, size-none-is}
 

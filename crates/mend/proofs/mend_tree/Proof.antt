@@ -2,8 +2,7 @@
 use borrow.Author.Needs.{needs}
 use Rattle.mend.proofs.mend_tree.Statement.{statement}
 use Rattle.mend.proofs.mend_tree.Tie as tie
-use native.Mathlib.Omega.{arith}
-use mathlib.Core.Path.{refl, sym, ap, _∙_}
+use mathlib.Core.Path.{sym, _∙_}
 use Rattle.mend.proofs.Whole.{gate-refuses, gate-sizes, gate-answer, gate-read, shut-all, answer-all}
 use lib.ListN.{length}
 
@@ -29,10 +28,28 @@ read-tree-requires : tie.Need-read-tree-requires
 read-tree-requires c κs = search needs
 
 mend-read-requires : tie.Need-mend-read-requires
-mend-read-requires c κs = let g = sym (c .before .before .before .before .before .before .before .bounds .ensures) ∙ c .before .before .before .before .before .enum-told .given .1 in (gate-sizes (c .before .before .before .before .before .before .before .before .before .before .before .before .args .h) (c .before .before .before .before .before .before .before .before .before .before .before .before .args .bytes .now) (length (c .before .before .before .before .before .before .before .before .before .before .before .before .args .fates .now)) (length (c .before .before .before .before .before .before .before .before .before .before .before .before .args .out .now)) _ (c .before .before .before .before .before .before .before .before .longer .ensures) g, gate-read (c .before .before .before .before .before .before .before .before .before .before .before .before .args .h) (c .before .before .before .before .before .before .before .before .before .before .before .before .args .bytes .now) (length (c .before .before .before .before .before .before .before .before .before .before .before .before .args .fates .now)) (length (c .before .before .before .before .before .before .before .before .before .before .before .before .args .out .now)) _ (c .before .before .before .before .before .before .before .before .longer .ensures) g _ (c .before .before .before .read-tree .ensures .0))
+mend-read-requires c κs =
+    let args = c .before .before .before .before .before .before .before .before .before .before .before .before .args in
+    let longer = c .before .before .before .before .before .before .before .before .longer in
+    let bounds = c .before .before .before .before .before .before .before .bounds in
+    let enum-told = c .before .before .before .before .before .enum-told in
+    let read-tree = c .before .before .before .read-tree in
+    let g = sym (bounds .ensures) ∙ enum-told .given .1 in (
+      gate-sizes (args .h) (args .bytes .now) (length (args .fates .now)) (length (args .out .now)) _ (longer .ensures) g,
+      gate-read (args .h) (args .bytes .now)
+          (length (args .fates .now)) (length (args .out .now)) _ (longer .ensures) g _ (read-tree .ensures .0),
+    )
 
 returns : tie.Need-returns
-returns c = let w = gate-refuses (c .before .before .before .before .before .before .before .before .before .args .h) (c .before .before .before .before .before .before .before .before .before .args .bytes .now) (length (c .before .before .before .before .before .before .before .before .before .args .fates .now)) (length (c .before .before .before .before .before .before .before .before .before .args .out .now)) _ (c .before .before .before .before .before .longer .ensures) _ (sym (c .before .before .before .before .bounds .ensures) ∙ c .before .before .v .given .1) in shut-all _ _ _ _ _ _ _ (c .no-mending .ensures) (w .0) (w .1)
+returns c =
+    let args = c .before .before .before .before .before .before .before .before .before .args in
+    let longer = c .before .before .before .before .before .longer in
+    let bounds = c .before .before .before .before .bounds in
+    let v = c .before .before .v in
+    let no-mending = c .no-mending in
+    let w = gate-refuses (args .h) (args .bytes .now) (length (args .fates .now)) (length (args .out .now)) _ (longer .ensures) _
+    (sym (bounds .ensures) ∙ v .given .1) in
+    shut-all _ _ _ _ _ _ _ (no-mending .ensures) (w .0) (w .1)
 
 same-length : tie.Need-same-length
 same-length c = search needs
@@ -41,7 +58,16 @@ same-length-2 : tie.Need-same-length-2
 same-length-2 c = search needs
 
 returns-2 : tie.Need-returns-2
-returns-2 c = let g = sym (c .before .before .before .before .before .before .before .before .before .before .before .before .bounds .ensures) ∙ c .before .before .before .before .before .before .before .before .before .before .enum-told .given .1 in answer-all _ _ _ _ _ _ _ _ _ (gate-answer (c .before .before .before .before .before .before .before .before .before .before .before .before .before .before .before .before .before .args .h) (c .before .before .before .before .before .before .before .before .before .before .before .before .before .before .before .before .before .args .bytes .now) (length (c .before .before .before .before .before .before .before .before .before .before .before .before .before .before .before .before .before .args .fates .now)) (length (c .before .before .before .before .before .before .before .before .before .before .before .before .before .before .before .before .before .args .out .now)) _ (c .before .before .before .before .before .before .before .before .before .before .before .before .before .longer .ensures) g) (c .before .before .before .before .mend-read .ensures)
+returns-2 c =
+    let args = c .before .before .before .before .before .before .before .before .before .before .before .before .before .before .before .before
+    .before .args in
+    let longer = c .before .before .before .before .before .before .before .before .before .before .before .before .before .longer in
+    let bounds = c .before .before .before .before .before .before .before .before .before .before .before .before .bounds in
+    let enum-told = c .before .before .before .before .before .before .before .before .before .before .enum-told in
+    let mend-read = c .before .before .before .before .mend-read in
+    let g = sym (bounds .ensures) ∙ enum-told .given .1 in
+    answer-all _ _ _ _ _ _ _ _ _ (gate-answer (args .h) (args .bytes .now) (length (args .fates .now)) (length (args .out .now)) _ (longer .ensures) g)
+    (mend-read .ensures)
 
 pub mend-tree-spec : {M : Type 1} → statement M
 mend-tree-spec =

@@ -2,7 +2,6 @@
 use borrow.Author.Needs.{needs}
 use Rattle.mend.proofs.push.Statement.{statement}
 use Rattle.mend.proofs.push.Tie as tie
-use mathlib.Core.Path.{refl, sym, _∙_}
 use Rattle.mend_kept.proofs.Walk.{push-stored, push-over, push-none}
 
 mul-list : tie.Need-mul-list
@@ -18,13 +17,20 @@ same-length : tie.Need-same-length
 same-length c = search needs
 
 returns : tie.Need-returns
-returns c = push-stored (c .before .before .args .taken) (c .before .before .args .list .now) (c .before .before .args .m) (c .before .before .args .x) (c .before .if1 .taken)
+returns c =
+    let args = c .before .before .args in
+    let if1 = c .before .if1 in
+    push-stored (args .taken) (args .list .now) (args .m) (args .x) (if1 .taken)
 
 add-result-2 : tie.Need-add-result-2
 add-result-2 c = search needs
 
 returns-2 : tie.Need-returns-2
-returns-2 c = push-over (c .before .before .args .taken) (c .before .before .args .list .now) (c .before .before .args .m) (c .before .before .args .x) (c .before .if1 .taken) (c .if2 .left)
+returns-2 c =
+    let args = c .before .before .args in
+    let if1 = c .before .if1 in
+    let if2 = c .if2 in
+    push-over (args .taken) (args .list .now) (args .m) (args .x) (if1 .taken) (if2 .left)
 
 returns-3 : tie.Need-returns-3
 returns-3 c = push-none (c .before .args .taken) (c .before .args .list .now) (c .before .args .m) (c .before .args .x) (c .if1 .left)

@@ -31,7 +31,14 @@ same-length : tie.Need-same-length
 same-length c = search needs
 
 returns : tie.Need-returns
-returns c = ((omega (arith, own-length _ _ (c .before .before .before .before .before .before .own-text .ensures)), omega (arith, own-fits _ _ (c .before .before .before .before .before .before .own-text .ensures) .0)), c .before .before .put-ended .ensures ∙ ap (λ (t : List ℕ). sets (c .before .before .before .before .before .before .before .before .args .out .now) (c .before .before .before .before .before .before .before .before .args .at) (t ++ 32 ∷ [])) (own-shown _ _ (c .before .before .before .before .before .before .own-text .ensures)))
+returns c =
+    let args = c .before .before .before .before .before .before .before .before .args in
+    let own-text = c .before .before .before .before .before .before .own-text in
+    let put-ended = c .before .before .put-ended in (
+      (omega (arith, own-length _ _ (own-text .ensures)), omega (arith, own-fits _ _ (own-text .ensures) .0)),
+      put-ended .ensures ∙ ap
+          (λ (t : List ℕ). sets (args .out .now) (args .at) (t ++ 32 ∷ [])) (own-shown _ _ (own-text .ensures)),
+    )
 
 pub put-own-spec : {M : Type 1} → statement M
 put-own-spec =

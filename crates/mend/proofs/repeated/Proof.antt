@@ -2,8 +2,7 @@
 use borrow.Author.Needs.{needs}
 use Rattle.mend.proofs.repeated.Statement.{statement}
 use Rattle.mend.proofs.repeated.Tie as tie
-use native.Mathlib.Omega.{arith}
-use mathlib.Core.Path.{refl, sym, _∙_, subst}
+use mathlib.Core.Path.{_∙_}
 use Rattle.mend_kept.proofs.Bisect.{repeated-none, repeated-some}
 
 search-requires : tie.Need-search-requires
@@ -25,7 +24,12 @@ same-name-requires : tie.Need-same-name-requires
 same-name-requires c κs = search needs
 
 returns-2 : tie.Need-returns-2
-returns-2 c = c .same-name .ensures ∙ repeated-some _ _ _ _ _ _ (c .before .before .before .before .before .before .before .pre .0) (c .before .before .before .before .before .before .before .pre .1) (c .before .before .before .search .ensures) (c .before .before .if1 .left)
+returns-2 c =
+    let pre = c .before .before .before .before .before .before .before .pre in
+    let found = c .before .before .before .search in
+    let if1 = c .before .before .if1 in
+    let same-name = c .same-name in
+    same-name .ensures ∙ repeated-some _ _ _ _ _ _ (pre .0) (pre .1) (found .ensures) (if1 .left)
 
 pub repeated-spec : {M : Type 1} → statement M
 repeated-spec =

@@ -7,8 +7,7 @@ use Rattle.mend.proofs.same_name.Lts as lts
 use Rattle.entry.proofs.Cursor.decode.Reads as decode-reads
 use Rattle.scan.proofs.same_bytes.Reads as same-bytes-reads
 use native.Mathlib.Omega.{arith}
-use mathlib.Core.Path.{refl, sym, _∙_}
-use Rattle.entry.proofs.Laws.{decode-inside}
+use mathlib.Core.Path.{sym, _∙_}
 use Rattle.strict.proofs.Strictly.{decoded-within}
 use Rattle.mend_kept.proofs.Bisect.{has-broken, has-whole}
 
@@ -37,7 +36,11 @@ returns : tie.Need-returns
 returns c = has-broken _ _ _ _ (sym (c .before .before .decode .ensures) ∙ c .enum-told .given .1)
 
 returns-2 : tie.Need-returns-2
-returns-2 c = c .same-bytes .ensures ∙ has-whole _ _ _ _ _ (sym (c .before .before .before .before .before .decode .ensures) ∙ c .before .before .before .e .given .1)
+returns-2 c =
+    let decode = c .before .before .before .before .before .decode in
+    let e = c .before .before .before .e in
+    let same-bytes = c .same-bytes in
+    same-bytes .ensures ∙ has-whole _ _ _ _ _ (sym (decode .ensures) ∙ e .given .1)
 
 pub same-name-spec : {M : Type 1} → statement M
 same-name-spec =

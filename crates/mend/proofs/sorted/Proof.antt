@@ -3,7 +3,6 @@ use borrow.Author.Needs.{needs}
 use Rattle.mend.proofs.sorted.Statement.{statement}
 use Rattle.mend.proofs.sorted.Tie as tie
 use native.Mathlib.Omega.{arith}
-use mathlib.Core.Path.{sym, _∙_}
 use Rattle.mend.proofs.Whole.{sorted-front}
 use Rattle.mend.proofs.Whole.{sorted-front, sorted-length}
 use Rattle.keys.specs.Key.{keyAt, belowBy}
@@ -20,7 +19,21 @@ same-length : tie.Need-same-length
 same-length c = search needs
 
 returns : tie.Need-returns
-returns c = (omega (arith, c .before .before .before .before .before .before .gather .ensures .0, c .before .before .before .before .before .before .before .before .before .before .before .pre .1, sorted-length (belowBy (keyAt (c .before .before .before .before .before .before .before .before .before .before .before .args .s .now) 32 0)) (c .before .before .before .before .before .before .before .before .before .before .before .args .list .now) (elements (c .before .before .before .before .before .before .before .before .before .before .before .args .second) (c .before .before .before .before .before .before .before .before .before .before .before .args .s .now) (c .before .before .before .before .before .before .before .before .before .before .before .args .fates .now) 0 (recordsIn (listing (c .before .before .before .before .before .before .before .before .before .before .before .args .h) (c .before .before .before .before .before .before .before .before .before .before .before .args .s .now)))) (c .before .before .before .before .before .before .before .before .before .before .before .pre .1) _ (c .before .before .before .before .before .before .gather .ensures .0) _ _ (c .before .before .before .before .before .before .gather .ensures .1) (c .before .before .sort-front .ensures)), sorted-front _ _ _ (c .before .before .before .before .before .before .before .before .before .before .before .pre .1) _ (c .before .before .before .before .before .before .gather .ensures .0) _ _ (c .before .before .before .before .before .before .gather .ensures .1) (c .before .before .sort-front .ensures))
+returns c =
+    let args = c .before .before .before .before .before .before .before .before .before .before .before .args in
+    let pre = c .before .before .before .before .before .before .before .before .before .before .before .pre in
+    let gather = c .before .before .before .before .before .before .gather in
+    let sort-front = c .before .before .sort-front in (
+      omega (
+        arith,
+        gather .ensures .0,
+        pre .1,
+        sorted-length (belowBy (keyAt (args .s .now) 32 0)) (args .list .now)
+            (elements (args .second) (args .s .now) (args .fates .now) 0 (recordsIn (listing (args .h) (args .s .now)))) (pre .1) _ (gather .ensures .0) _ _
+            (gather .ensures .1) (sort-front .ensures),
+      ),
+      sorted-front _ _ _ (pre .1) _ (gather .ensures .0) _ _ (gather .ensures .1) (sort-front .ensures),
+    )
 
 pub sorted-spec : {M : Type 1} → statement M
 sorted-spec =

@@ -6,7 +6,7 @@ use Rattle.mend.proofs.write_all.Lts as lts
 use Rattle.mend.proofs.write_one.Reads as write-one-reads
 use native.Mathlib.Omega.{arith}
 use Prim.Native.Nat.{_-_}
-use mathlib.Core.Path.{refl, sym, _∙_}
+use mathlib.Core.Path.{refl}
 use lib.ListN.{length}
 use Rattle.mend_kept.proofs.Bytes.{Writing, writing-start, writing-end, writing-turn}
 use borrow.Author.Needs.{needs}
@@ -27,7 +27,10 @@ shared-slice-read-x : tie.Need-shared-slice-read-x Inv-loop μ-loop
 shared-slice-read-x c = search needs
 
 write-one-requires : tie.Need-write-one-requires Inv-loop μ-loop
-write-one-requires c κs = (c .before .before .before .before .before .before .before .pre .0, omega (arith, c .before .before .before .loop .inv .few, c .before .before .before .before .before .before .before .pre))
+write-one-requires c κs =
+    let pre = c .before .before .before .before .before .before .before .pre in
+    let loop = c .before .before .before .loop in
+    (pre .0, omega (arith, loop .inv .few, pre))
 
 add-i : tie.Need-add-i Inv-loop μ-loop
 add-i c = search needs
@@ -36,7 +39,12 @@ loop-less : tie.Need-loop-less Inv-loop μ-loop
 loop-less c = omega arith
 
 loop-again : tie.Need-loop-again Inv-loop μ-loop
-loop-again c = writing-turn _ _ _ _ _ _ _ (c .before .before .before .before .before .before .loop .inv) (c .before .before .before .before .before .loop-test .taken) (c .before .before .before .before .before .before .before .before .before .before .pre .0) _ refl _ (c .before .before .write-one .ensures .0) _ (c .before .before .write-one .kept .0) (c .before .before .write-one .ensures .1)
+loop-again c =
+    let pre = c .before .before .before .before .before .before .before .before .before .before .pre in
+    let loop = c .before .before .before .before .before .before .loop in
+    let loop-test = c .before .before .before .before .before .loop-test in
+    let write-one = c .before .before .write-one in
+    writing-turn _ _ _ _ _ _ _ (loop .inv) (loop-test .taken) (pre .0) _ refl _ (write-one .ensures .0) _ (write-one .kept .0) (write-one .ensures .1)
 
 same-length : tie.Need-same-length Inv-loop μ-loop
 same-length c = c .before .loop .inv .size

@@ -21,22 +21,46 @@ put-own-requires : tie.Need-put-own-requires
 put-own-requires c κs = search needs
 
 sub-put : tie.Need-sub-put
-sub-put c = omega (arith, decoded-within _ _ _ _ _ (sym (c .before .before .before .before .before .before .before .before .decode .ensures) ∙ c .before .before .before .before .before .before .e .given .1), decode-inside _ _ _ _ _ (sym (c .before .before .before .before .before .before .before .before .decode .ensures) ∙ c .before .before .before .before .before .before .e .given .1))
+sub-put c =
+    let decode = c .before .before .before .before .before .before .before .before .decode in
+    let e = c .before .before .before .before .before .before .e in
+    omega (arith, decoded-within _ _ _ _ _ (sym (decode .ensures) ∙ e .given .1), decode-inside _ _ _ _ _ (sym (decode .ensures) ∙ e .given .1))
 
 part-put-start : tie.Need-part-put-start
-part-put-start c = omega (arith, decoded-within _ _ _ _ _ (sym (c .before .before .before .before .before .before .before .before .decode .ensures) ∙ c .before .before .before .before .before .before .e .given .1), decode-inside _ _ _ _ _ (sym (c .before .before .before .before .before .before .before .before .decode .ensures) ∙ c .before .before .before .before .before .before .e .given .1))
+part-put-start c =
+    let decode = c .before .before .before .before .before .before .before .before .decode in
+    let e = c .before .before .before .before .before .before .e in
+    omega (arith, decoded-within _ _ _ _ _ (sym (decode .ensures) ∙ e .given .1), decode-inside _ _ _ _ _ (sym (decode .ensures) ∙ e .given .1))
 
 part-put-end : tie.Need-part-put-end
-part-put-end c = omega (arith, decoded-within _ _ _ _ _ (sym (c .before .before .before .before .before .before .before .before .decode .ensures) ∙ c .before .before .before .before .before .before .e .given .1), decode-inside _ _ _ _ _ (sym (c .before .before .before .before .before .before .before .before .decode .ensures) ∙ c .before .before .before .before .before .before .e .given .1))
+part-put-end c =
+    let decode = c .before .before .before .before .before .before .before .before .decode in
+    let e = c .before .before .before .before .before .before .e in
+    omega (arith, decoded-within _ _ _ _ _ (sym (decode .ensures) ∙ e .given .1), decode-inside _ _ _ _ _ (sym (decode .ensures) ∙ e .given .1))
 
 put-requires : tie.Need-put-requires
 put-requires c κs = search needs
 
 sub-result : tie.Need-sub-result
-sub-result c = omega (arith, decoded-within _ _ _ _ _ (sym (c .before .before .before .before .before .before .before .before .before .before .before .before .decode .ensures) ∙ c .before .before .before .before .before .before .before .before .before .before .e .given .1), decode-inside _ _ _ _ _ (sym (c .before .before .before .before .before .before .before .before .before .before .before .before .decode .ensures) ∙ c .before .before .before .before .before .before .before .before .before .before .e .given .1))
+sub-result c =
+    let decode = c .before .before .before .before .before .before .before .before .before .before .before .before .decode in
+    let e = c .before .before .before .before .before .before .before .before .before .before .e in
+    omega (arith, decoded-within _ _ _ _ _ (sym (decode .ensures) ∙ e .given .1), decode-inside _ _ _ _ _ (sym (decode .ensures) ∙ e .given .1))
 
 add-result : tie.Need-add-result
-add-result c = omega (arith, c .before .before .before .before .before .before .before .put-own .ensures .0 .1, decoded-within _ _ _ _ _ (sym (c .before .before .before .before .before .before .before .before .before .before .before .before .decode .ensures) ∙ c .before .before .before .before .before .before .before .before .before .before .e .given .1), decode-inside _ _ _ _ _ (sym (c .before .before .before .before .before .before .before .before .before .before .before .before .decode .ensures) ∙ c .before .before .before .before .before .before .before .before .before .before .e .given .1), c .before .before .before .before .before .before .before .before .before .before .before .before .before .before .before .pre)
+add-result c =
+    let pre = c .before .before .before .before .before .before .before .before .before .before .before .before .before .before .before .pre in
+    let decode = c .before .before .before .before .before .before .before .before .before .before .before .before .decode in
+    let e = c .before .before .before .before .before .before .before .before .before .before .e in
+    let put-own = c .before .before .before .before .before .before .before .put-own in
+    omega (
+      arith,
+      put-own .ensures .0 .1,
+      decoded-within _ _ _ _ _ (sym (decode .ensures) ∙ e .given .1),
+      decode-inside _ _ _ _ _
+          (sym (decode .ensures) ∙ e .given .1),
+      pre,
+    )
 
 returns : tie.Need-returns
 returns c = one-broken _ _ _ _ _ _ (sym (c .before .before .decode .ensures) ∙ c .enum-told .given .1)
@@ -45,7 +69,12 @@ same-length : tie.Need-same-length
 same-length c = search needs
 
 returns-2 : tie.Need-returns-2
-returns-2 c = one-whole _ _ _ _ _ _ _ (sym (c .before .before .before .before .before .before .before .before .before .before .before .before .decode .ensures) ∙ c .before .before .before .before .before .before .before .before .before .before .e .given .1) _ refl _ _ _ _ (c .before .before .before .before .before .before .before .put-own .ensures .1) (c .before .before .before .before .before .before .before .put-own .ensures .0 .0) (c .before .before .put .ensures) refl
+returns-2 c =
+    let decode = c .before .before .before .before .before .before .before .before .before .before .before .before .decode in
+    let e = c .before .before .before .before .before .before .before .before .before .before .e in
+    let put-own = c .before .before .before .before .before .before .before .put-own in
+    let put = c .before .before .put in
+    one-whole _ _ _ _ _ _ _ (sym (decode .ensures) ∙ e .given .1) _ refl _ _ _ _ (put-own .ensures .1) (put-own .ensures .0 .0) (put .ensures) refl
 
 pub write-one-spec : {M : Type 1} → statement M
 write-one-spec =

@@ -2,9 +2,7 @@
 use borrow.Author.Needs.{needs}
 use Rattle.mend.proofs.write_sorted.Statement.{statement}
 use Rattle.mend.proofs.write_sorted.Tie as tie
-use native.Mathlib.Omega.{arith}
-use mathlib.Core.Path.{sym, ap, _∙_}
-use lib.ListN.{length-take}
+use mathlib.Core.Path.{sym}
 use Rattle.mend.proofs.Whole.{written-front}
 use lib.Seq.{length-take-le}
 use Rattle.mend.proofs.Whole.{written-front, front-few}
@@ -19,7 +17,11 @@ slice-aggregate-write-all : tie.Need-slice-aggregate-write-all
 slice-aggregate-write-all c = sym (length-take-le _ _ (c .before .before .before .before .sorted .ensures .0))
 
 write-all-requires : tie.Need-write-all-requires
-write-all-requires c κs = (c .before .before .before .before .before .before .before .before .before .before .pre .0, front-few (c .before .before .before .before .sorted .result) (c .before .before .before .before .sorted .last .1 .1 .1 .1 .0) (c .before .before .before .before .before .before .before .before .before .before .args .list .now) (c .before .before .before .before .sorted .ensures .0) (c .before .before .before .before .sorted .kept .1 .1 .1 .1 .0) (c .before .before .before .before .before .before .before .before .before .before .pre .2))
+write-all-requires c κs =
+    let args = c .before .before .before .before .before .before .before .before .before .before .args in
+    let pre = c .before .before .before .before .before .before .before .before .before .before .pre in
+    let sorted = c .before .before .before .before .sorted in
+    (pre .0, front-few (sorted .result) (sorted .last .1 .1 .1 .1 .0) (args .list .now) (sorted .ensures .0) (sorted .kept .1 .1 .1 .1 .0) (pre .2))
 
 same-length : tie.Need-same-length
 same-length c = search needs

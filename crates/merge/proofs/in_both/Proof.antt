@@ -18,37 +18,91 @@ side-of-requires-2 : tie.Need-side-of-requires-2
 side-of-requires-2 c κs = search needs
 
 sub-same-bytes : tie.Need-sub-same-bytes
-sub-same-bytes c = let f = laws.side-within (c .before .before .before .args .h) (length (c .before .before .before .args .bundle .now)) (c .before .before .before .args .a) (c .before .side-of .result) (c .before .side-of .ensures) (c .before .before .before .pre .0 .2) in omega (arith, f .0, f .1)
+sub-same-bytes c =
+    let args = c .before .before .before .args in
+    let pre = c .before .before .before .pre in
+    let side-of = c .before .side-of in
+    let f = laws.side-within (args .h) (length (args .bundle .now)) (args .a) (side-of .result) (side-of .ensures) (pre .0 .2) in
+    omega (arith, f .0, f .1)
 
 part-same-bytes-start : tie.Need-part-same-bytes-start
-part-same-bytes-start c = let f = laws.side-within (c .before .before .before .args .h) (length (c .before .before .before .args .bundle .now)) (c .before .before .before .args .a) (c .before .side-of .result) (c .before .side-of .ensures) (c .before .before .before .pre .0 .2) in omega (arith, f .0, f .1)
+part-same-bytes-start c =
+    let args = c .before .before .before .args in
+    let pre = c .before .before .before .pre in
+    let side-of = c .before .side-of in
+    let f = laws.side-within (args .h) (length (args .bundle .now)) (args .a) (side-of .result) (side-of .ensures) (pre .0 .2) in
+    omega (arith, f .0, f .1)
 
 part-same-bytes-end : tie.Need-part-same-bytes-end
-part-same-bytes-end c = let f = laws.side-within (c .before .before .before .args .h) (length (c .before .before .before .args .bundle .now)) (c .before .before .before .args .a) (c .before .side-of .result) (c .before .side-of .ensures) (c .before .before .before .pre .0 .2) in omega (arith, f .0, f .1)
+part-same-bytes-end c =
+    let args = c .before .before .before .args in
+    let pre = c .before .before .before .pre in
+    let side-of = c .before .side-of in
+    let f = laws.side-within (args .h) (length (args .bundle .now)) (args .a) (side-of .result) (side-of .ensures) (pre .0 .2) in
+    omega (arith, f .0, f .1)
 
 sub-same-bytes-2 : tie.Need-sub-same-bytes-2
-sub-same-bytes-2 c = let f = laws.side-within (c .before .before .before .before .args .h) (length (c .before .before .before .before .args .bundle .now)) (c .before .before .before .before .args .b) (c .before .side-of2 .result) (c .before .side-of2 .ensures) (c .before .before .before .before .pre .1 .2) in omega (arith, f .0, f .1)
+sub-same-bytes-2 c =
+    let args = c .before .before .before .before .args in
+    let pre = c .before .before .before .before .pre in
+    let side-of2 = c .before .side-of2 in
+    let f = laws.side-within (args .h) (length (args .bundle .now)) (args .b) (side-of2 .result) (side-of2 .ensures) (pre .1 .2) in
+    omega (arith, f .0, f .1)
 
 part-same-bytes-start-2 : tie.Need-part-same-bytes-start-2
-part-same-bytes-start-2 c = let f = laws.side-within (c .before .before .before .before .args .h) (length (c .before .before .before .before .args .bundle .now)) (c .before .before .before .before .args .b) (c .before .side-of2 .result) (c .before .side-of2 .ensures) (c .before .before .before .before .pre .1 .2) in omega (arith, f .0, f .1)
+part-same-bytes-start-2 c =
+    let args = c .before .before .before .before .args in
+    let pre = c .before .before .before .before .pre in
+    let side-of2 = c .before .side-of2 in
+    let f = laws.side-within (args .h) (length (args .bundle .now)) (args .b) (side-of2 .result) (side-of2 .ensures) (pre .1 .2) in
+    omega (arith, f .0, f .1)
 
 part-same-bytes-end-2 : tie.Need-part-same-bytes-end-2
-part-same-bytes-end-2 c = let f = laws.side-within (c .before .before .before .before .args .h) (length (c .before .before .before .before .args .bundle .now)) (c .before .before .before .before .args .b) (c .before .side-of2 .result) (c .before .side-of2 .ensures) (c .before .before .before .before .pre .1 .2) in omega (arith, f .0, f .1)
+part-same-bytes-end-2 c =
+    let args = c .before .before .before .before .args in
+    let pre = c .before .before .before .before .pre in
+    let side-of2 = c .before .side-of2 in
+    let f = laws.side-within (args .h) (length (args .bundle .now)) (args .b) (side-of2 .result) (side-of2 .ensures) (pre .1 .2) in
+    omega (arith, f .0, f .1)
 
 same-bytes-requires : tie.Need-same-bytes-requires
 same-bytes-requires c κs = search needs
 
 returns : tie.Need-returns
-returns c = laws.both-same (c .before .before .before .before .before .before .before .before .before .before .args .h) (c .before .before .before .before .before .before .before .before .before .before .args .bundle .now) (c .before .before .before .before .before .before .before .before .before .before .args .a) (c .before .before .before .before .before .before .before .before .before .before .args .b) (c .before .before .before .before .before .before .before .before .before .before .args .l) (c .before .before .before .before .before .before .before .before .before .before .args .r) (c .before .before .before .before .before .before .before .before .side-of .result) (c .before .before .before .before .before .before .before .side-of2 .result) (c .before .before .before .before .before .before .before .before .side-of .ensures) (c .before .before .before .before .before .before .before .side-of2 .ensures) (c .before .before .before .before .same-bytes .result) (c .before .before .before .before .same-bytes .ensures) (c .before .before .before .if1 .taken) (c .if2 .taken)
+returns c =
+    let args = c .before .before .before .before .before .before .before .before .before .before .args in
+    let side-of = c .before .before .before .before .before .before .before .before .side-of in
+    let side-of2 = c .before .before .before .before .before .before .before .side-of2 in
+    let same-bytes = c .before .before .before .before .same-bytes in
+    let if1 = c .before .before .before .if1 in
+    let if2 = c .if2 in
+    laws.both-same (args .h) (args .bundle .now) (args .a) (args .b) (args .l) (args .r) (side-of .result) (side-of2 .result) (side-of .ensures)
+    (side-of2 .ensures) (same-bytes .result) (same-bytes .ensures) (if1 .taken) (if2 .taken)
 
 returns-2 : tie.Need-returns-2
-returns-2 c = laws.both-mode (c .before .before .before .before .before .before .before .before .before .before .args .h) (c .before .before .before .before .before .before .before .before .before .before .args .bundle .now) (c .before .before .before .before .before .before .before .before .before .before .args .a) (c .before .before .before .before .before .before .before .before .before .before .args .b) (c .before .before .before .before .before .before .before .before .before .before .args .l) (c .before .before .before .before .before .before .before .before .before .before .args .r) (c .before .before .before .before .before .before .before .before .side-of .result) (c .before .before .before .before .before .before .before .side-of2 .result) (c .before .before .before .before .before .before .before .before .side-of .ensures) (c .before .before .before .before .before .before .before .side-of2 .ensures) (c .before .before .before .before .same-bytes .result) (c .before .before .before .before .same-bytes .ensures) (c .before .before .before .if1 .taken) (c .if2 .left)
+returns-2 c =
+    let args = c .before .before .before .before .before .before .before .before .before .before .args in
+    let side-of = c .before .before .before .before .before .before .before .before .side-of in
+    let side-of2 = c .before .before .before .before .before .before .before .side-of2 in
+    let same-bytes = c .before .before .before .before .same-bytes in
+    let if1 = c .before .before .before .if1 in
+    let if2 = c .if2 in
+    laws.both-mode (args .h) (args .bundle .now) (args .a) (args .b) (args .l) (args .r) (side-of .result) (side-of2 .result) (side-of .ensures)
+    (side-of2 .ensures) (same-bytes .result) (same-bytes .ensures) (if1 .taken) (if2 .left)
 
 is-folder-requires : tie.Need-is-folder-requires
 is-folder-requires c κs = search needs
 
 returns-3 : tie.Need-returns-3
-returns-3 c = laws.both-id (c .before .before .before .before .before .before .before .before .args .h) (c .before .before .before .before .before .before .before .before .args .bundle .now) (c .before .before .before .before .before .before .before .before .args .a) (c .before .before .before .before .before .before .before .before .args .b) (c .before .before .before .before .before .before .before .before .args .l) (c .before .before .before .before .before .before .before .before .args .r) (c .before .before .before .before .before .before .side-of .result) (c .before .before .before .before .before .side-of2 .result) (c .before .before .before .before .before .before .side-of .ensures) (c .before .before .before .before .before .side-of2 .ensures) (c .before .before .same-bytes .result) (c .before .before .same-bytes .ensures) (c .before .if1 .left) (c .is-folder .result) (c .is-folder .ensures)
+returns-3 c =
+    let args = c .before .before .before .before .before .before .before .before .args in
+    let side-of = c .before .before .before .before .before .before .side-of in
+    let side-of2 = c .before .before .before .before .before .side-of2 in
+    let same-bytes = c .before .before .same-bytes in
+    let if1 = c .before .if1 in
+    let is-folder = c .is-folder in
+    laws.both-id (args .h) (args .bundle .now) (args .a) (args .b) (args .l) (args .r) (side-of .result) (side-of2 .result) (side-of .ensures)
+    (side-of2 .ensures) (same-bytes .result) (same-bytes .ensures) (if1 .left) (is-folder .result) (is-folder .ensures)
 
 pub in-both-spec : {M : Type 1} → statement M
 in-both-spec =

@@ -9,10 +9,19 @@ returns : tie.Need-returns
 returns c = (laws.ahead-none (c .before .before .args .h) (c .before .before .args .bundle .now) (c .before .before .args .c) (c .if1 .taken), tt)
 
 returns-2 : tie.Need-returns-2
-returns-2 c = (laws.ahead-crossed (c .before .before .before .args .h) (c .before .before .before .args .bundle .now) (c .before .before .before .args .c) (c .before .if1 .left) (c .if2 .taken), tt)
+returns-2 c =
+    let args = c .before .before .before .args in
+    let if1 = c .before .if1 in
+    let if2 = c .if2 in
+    (laws.ahead-crossed (args .h) (args .bundle .now) (args .c) (if1 .left) (if2 .taken), tt)
 
 returns-3 : tie.Need-returns-3
-returns-3 c = (laws.ahead-outside (c .before .before .before .before .args .h) (c .before .before .before .before .args .bundle .now) (c .before .before .before .before .args .c) (c .before .before .if1 .left) (c .before .if2 .left) (c .if3 .taken), tt)
+returns-3 c =
+    let args = c .before .before .before .before .args in
+    let if1 = c .before .before .if1 in
+    let if2 = c .before .if2 in
+    let if3 = c .if3 in
+    (laws.ahead-outside (args .h) (args .bundle .now) (args .c) (if1 .left) (if2 .left) (if3 .taken), tt)
 
 part-decode-start : tie.Need-part-decode-start
 part-decode-start c = search needs
@@ -30,25 +39,90 @@ enum-known-e : tie.Need-enum-known-e
 enum-known-e c = search needs
 
 add-name-start : tie.Need-add-name-start
-add-name-start c = let f = laws.ahead-inside (c .before .before .before .before .before .before .before .before .before .before .args .h) (c .before .before .before .before .before .before .before .before .before .before .args .bundle .now) (c .before .before .before .before .before .before .before .before .before .before .args .c) (c .before .before .before .before .before .before .before .before .if1 .left) (c .before .before .before .before .before .before .before .if2 .left) (c .before .before .before .before .before .before .if3 .left) (c .before .before .before .before .decode .result) (c .before .before .before .before .decode .ensures) (c .before .before .e .given .0 .0) (c .before .before .e .given .0 .1 .0) (c .before .before .e .given .1) in omega (arith, f .0, f .1, c .before .before .before .before .before .before .before .before .before .before .good .0 .0)
+add-name-start c =
+    let args = c .before .before .before .before .before .before .before .before .before .before .args in
+    let good = c .before .before .before .before .before .before .before .before .before .before .good in
+    let if1 = c .before .before .before .before .before .before .before .before .if1 in
+    let if2 = c .before .before .before .before .before .before .before .if2 in
+    let if3 = c .before .before .before .before .before .before .if3 in
+    let decode = c .before .before .before .before .decode in
+    let e = c .before .before .e in
+    let f = laws.ahead-inside (args .h) (args .bundle .now) (args .c) (if1 .left) (if2 .left) (if3 .left) (decode .result) (decode .ensures) (e .given .0 .0)
+    (e .given .0 .1 .0) (e .given .1) in
+    omega (arith, f .0, f .1, good .0 .0)
 
 add-name-end : tie.Need-add-name-end
-add-name-end c = let f = laws.ahead-inside (c .before .before .before .before .before .before .before .before .before .before .before .args .h) (c .before .before .before .before .before .before .before .before .before .before .before .args .bundle .now) (c .before .before .before .before .before .before .before .before .before .before .before .args .c) (c .before .before .before .before .before .before .before .before .before .if1 .left) (c .before .before .before .before .before .before .before .before .if2 .left) (c .before .before .before .before .before .before .before .if3 .left) (c .before .before .before .before .before .decode .result) (c .before .before .before .before .before .decode .ensures) (c .before .before .before .e .given .0 .0) (c .before .before .before .e .given .0 .1 .0) (c .before .before .before .e .given .1) in omega (arith, f .1, c .before .before .before .before .before .before .before .before .before .before .before .good .0 .0)
+add-name-end c =
+    let args = c .before .before .before .before .before .before .before .before .before .before .before .args in
+    let good = c .before .before .before .before .before .before .before .before .before .before .before .good in
+    let if1 = c .before .before .before .before .before .before .before .before .before .if1 in
+    let if2 = c .before .before .before .before .before .before .before .before .if2 in
+    let if3 = c .before .before .before .before .before .before .before .if3 in
+    let decode = c .before .before .before .before .before .decode in
+    let e = c .before .before .before .e in
+    let f = laws.ahead-inside (args .h) (args .bundle .now) (args .c) (if1 .left) (if2 .left) (if3 .left) (decode .result) (decode .ensures) (e .given .0 .0)
+    (e .given .0 .1 .0) (e .given .1) in
+    omega (arith, f .1, good .0 .0)
 
 add-id-start : tie.Need-add-id-start
-add-id-start c = let f = laws.ahead-inside (c .before .before .before .before .before .before .before .before .before .before .before .before .args .h) (c .before .before .before .before .before .before .before .before .before .before .before .before .args .bundle .now) (c .before .before .before .before .before .before .before .before .before .before .before .before .args .c) (c .before .before .before .before .before .before .before .before .before .before .if1 .left) (c .before .before .before .before .before .before .before .before .before .if2 .left) (c .before .before .before .before .before .before .before .before .if3 .left) (c .before .before .before .before .before .before .decode .result) (c .before .before .before .before .before .before .decode .ensures) (c .before .before .before .before .e .given .0 .0) (c .before .before .before .before .e .given .0 .1 .0) (c .before .before .before .before .e .given .1) in omega (arith, f .2, c .before .before .before .before .before .before .before .before .before .before .before .before .good .0 .0)
+add-id-start c =
+    let args = c .before .before .before .before .before .before .before .before .before .before .before .before .args in
+    let good = c .before .before .before .before .before .before .before .before .before .before .before .before .good in
+    let if1 = c .before .before .before .before .before .before .before .before .before .before .if1 in
+    let if2 = c .before .before .before .before .before .before .before .before .before .if2 in
+    let if3 = c .before .before .before .before .before .before .before .before .if3 in
+    let decode = c .before .before .before .before .before .before .decode in
+    let e = c .before .before .before .before .e in
+    let f = laws.ahead-inside (args .h) (args .bundle .now) (args .c) (if1 .left) (if2 .left) (if3 .left) (decode .result) (decode .ensures) (e .given .0 .0)
+    (e .given .0 .1 .0) (e .given .1) in
+    omega (arith, f .2, good .0 .0)
 
 add-text-start : tie.Need-add-text-start
-add-text-start c = let f = laws.ahead-text (c .before .before .before .before .before .before .before .before .before .before .before .before .before .args .h) (c .before .before .before .before .before .before .before .before .before .before .before .before .before .args .bundle .now) (c .before .before .before .before .before .before .before .before .before .before .before .before .before .args .c) (c .before .before .before .before .before .before .before .before .before .before .before .if1 .left) (c .before .before .before .before .before .before .before .before .before .before .if2 .left) (c .before .before .before .before .before .before .before .before .before .if3 .left) (c .before .before .before .before .before .before .before .decode .result) (c .before .before .before .before .before .before .before .decode .ensures) (c .before .before .before .before .before .e .given .0 .0) (c .before .before .before .before .before .e .given .0 .1 .0) (c .before .before .before .before .before .e .given .1) in omega (arith, f, c .before .before .before .before .before .before .before .before .before .before .before .before .before .good .0 .0)
+add-text-start c =
+    let args = c .before .before .before .before .before .before .before .before .before .before .before .before .before .args in
+    let good = c .before .before .before .before .before .before .before .before .before .before .before .before .before .good in
+    let if1 = c .before .before .before .before .before .before .before .before .before .before .before .if1 in
+    let if2 = c .before .before .before .before .before .before .before .before .before .before .if2 in
+    let if3 = c .before .before .before .before .before .before .before .before .before .if3 in
+    let decode = c .before .before .before .before .before .before .before .decode in
+    let e = c .before .before .before .before .before .e in
+    let f = laws.ahead-text (args .h) (args .bundle .now) (args .c) (if1 .left) (if2 .left) (if3 .left) (decode .result) (decode .ensures) (e .given .0 .0)
+    (e .given .0 .1 .0) (e .given .1) in
+    omega (arith, f, good .0 .0)
 
 sub-fewer : tie.Need-sub-fewer
 sub-fewer c = search needs
 
 returns-4 : tie.Need-returns-4
-returns-4 c = (laws.ahead-broken (c .before .before .before .before .before .before .before .before .args .h) (c .before .before .before .before .before .before .before .before .args .bundle .now) (c .before .before .before .before .before .before .before .before .args .c) (c .before .before .before .before .before .before .if1 .left) (c .before .before .before .before .before .if2 .left) (c .before .before .before .before .if3 .left) (c .before .before .decode .result) (c .before .before .decode .ensures) (c .enum-told .given .0 .0) (c .enum-told .given .1), tt)
+returns-4 c =
+    let args = c .before .before .before .before .before .before .before .before .args in
+    let if1 = c .before .before .before .before .before .before .if1 in
+    let if2 = c .before .before .before .before .before .if2 in
+    let if3 = c .before .before .before .before .if3 in
+    let decode = c .before .before .decode in
+    let enum-told = c .enum-told in (
+      laws.ahead-broken (args .h) (args .bundle .now) (args .c) (if1 .left) (if2 .left) (if3 .left) (decode .result) (decode .ensures) (enum-told .given .0 .0)
+          (enum-told .given .1),
+      tt,
+    )
 
 returns-5 : tie.Need-returns-5
-returns-5 c = (laws.ahead-whole (c .before .before .before .before .before .before .before .before .before .before .before .before .before .args .h) (c .before .before .before .before .before .before .before .before .before .before .before .before .before .args .bundle .now) (c .before .before .before .before .before .before .before .before .before .before .before .before .before .args .c) (c .before .before .before .before .before .before .before .before .before .before .before .if1 .left) (c .before .before .before .before .before .before .before .before .before .before .if2 .left) (c .before .before .before .before .before .before .before .before .before .if3 .left) (c .before .before .before .before .before .before .before .decode .result) (c .before .before .before .before .before .before .before .decode .ensures) (c .before .before .before .before .before .e .given .0 .0) (c .before .before .before .before .before .e .given .0 .1 .0) (c .before .before .before .before .before .e .given .1), (laws.ahead-inside (c .before .before .before .before .before .before .before .before .before .before .before .before .before .args .h) (c .before .before .before .before .before .before .before .before .before .before .before .before .before .args .bundle .now) (c .before .before .before .before .before .before .before .before .before .before .before .before .before .args .c) (c .before .before .before .before .before .before .before .before .before .before .before .if1 .left) (c .before .before .before .before .before .before .before .before .before .before .if2 .left) (c .before .before .before .before .before .before .before .before .before .if3 .left) (c .before .before .before .before .before .before .before .decode .result) (c .before .before .before .before .before .before .before .decode .ensures) (c .before .before .before .before .before .e .given .0 .0) (c .before .before .before .before .before .e .given .0 .1 .0) (c .before .before .before .before .before .e .given .1), (c .before .before .before .before .before .before .before .before .before .before .if2 .left, c .before .before .before .before .before .before .before .before .before .if3 .left), omega (arith, c .before .before .before .before .before .before .before .before .before .before .before .if1 .left)))
+returns-5 c =
+    let args = c .before .before .before .before .before .before .before .before .before .before .before .before .before .args in
+    let if1 = c .before .before .before .before .before .before .before .before .before .before .before .if1 in
+    let if2 = c .before .before .before .before .before .before .before .before .before .before .if2 in
+    let if3 = c .before .before .before .before .before .before .before .before .before .if3 in
+    let decode = c .before .before .before .before .before .before .before .decode in
+    let e = c .before .before .before .before .before .e in (
+      laws.ahead-whole (args .h) (args .bundle .now) (args .c) (if1 .left) (if2 .left) (if3 .left) (decode .result) (decode .ensures) (e .given .0 .0)
+          (e .given .0 .1 .0) (e .given .1),
+      (
+        laws.ahead-inside (args .h) (args .bundle .now) (args .c) (if1 .left) (if2 .left) (if3 .left) (decode .result)
+            (decode .ensures) (e .given .0 .0) (e .given .0 .1 .0) (e .given .1),
+        (if2 .left, if3 .left),
+        omega (arith, if1 .left),
+      ),
+    )
 
 pub next-entry-spec : {M : Type 1} → statement M
 next-entry-spec =

@@ -19,7 +19,12 @@ is-folder-requires : tie.Need-is-folder-requires
 is-folder-requires c κs = search needs
 
 returns : tie.Need-returns
-returns c = laws.one-sided (c .before .before .before .args .e) _ _ _ (c .before .before .side-of .ensures) (c .before .no-side .ensures) (c .is-folder .ensures)
+returns c =
+    let args = c .before .before .before .args in
+    let side-of = c .before .before .side-of in
+    let no-side = c .before .no-side in
+    let is-folder = c .is-folder in
+    laws.one-sided (args .e) _ _ _ (side-of .ensures) (no-side .ensures) (is-folder .ensures)
 
 pub only-left-spec : {M : Type 1} → statement M
 only-left-spec = tie.close (tie.spec side-of-requires no-side-requires is-folder-requires returns)

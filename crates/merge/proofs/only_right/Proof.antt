@@ -19,7 +19,12 @@ is-folder-requires : tie.Need-is-folder-requires
 is-folder-requires c κs = search needs
 
 returns : tie.Need-returns
-returns c = laws.one-sided (c .before .before .before .args .e) _ _ _ (c .before .before .no-side .ensures) (c .before .side-of .ensures) (c .is-folder .ensures)
+returns c =
+    let args = c .before .before .before .args in
+    let no-side = c .before .before .no-side in
+    let side-of = c .before .side-of in
+    let is-folder = c .is-folder in
+    laws.one-sided (args .e) _ _ _ (no-side .ensures) (side-of .ensures) (is-folder .ensures)
 
 pub only-right-spec : {M : Type 1} → statement M
 only-right-spec = tie.close (tie.spec no-side-requires side-of-requires is-folder-requires returns)

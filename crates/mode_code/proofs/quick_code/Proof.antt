@@ -40,7 +40,10 @@ six-code-requires : tie.Need-six-code-requires
 six-code-requires c κs = search needs
 
 returns-5 : tie.Need-returns-5
-returns-5 c = c .six-code .ensures ∙ quick-six _ _ (omega arith) (c .before .before .before .before .before .before .shared-slice-known .given) _ _ (omega arith) (omega arith) (λ e. omega arith)
+returns-5 c =
+    let shared-slice-known = c .before .before .before .before .before .before .shared-slice-known in
+    let six-code = c .six-code in
+    six-code .ensures ∙ quick-six _ _ (omega arith) (shared-slice-known .given) _ _ (omega arith) (omega arith) (λ e. omega arith)
 
 pub quick-code-spec : {M : Type 1} → statement M
 quick-code-spec =

@@ -36,8 +36,10 @@ same-bytes-requires c κs = search needs
 
 returns : tie.Need-returns Inv-loop μ-loop
 returns c =
+    let same-bytes = c .before .same-bytes in
+    let if1 = c .if1 in
     let p = c .before .before .before .before .before in
-    sym (p .before .before .loop .inv .1 ∙ find-here _ _ _ (p .row-at .ensures) (p .before .loop-test .taken) (sym (c .before .same-bytes .ensures) ∙ c .if1 .taken))
+    sym (p .before .before .loop .inv .1 ∙ find-here _ _ _ (p .row-at .ensures) (p .before .loop-test .taken) (sym (same-bytes .ensures) ∙ if1 .taken))
 
 add-i : tie.Need-add-i Inv-loop μ-loop
 add-i c = omega arith
@@ -47,8 +49,10 @@ loop-less c = omega arith
 
 loop-again : tie.Need-loop-again Inv-loop μ-loop
 loop-again c =
+    let same-bytes = c .before .same-bytes in
+    let if1 = c .if1 in
     let p = c .before .before .before .before .before in
-    (omega arith, p .before .before .loop .inv .1 ∙ find-more _ _ _ (p .row-at .ensures) (p .before .loop-test .taken) (sym (c .before .same-bytes .ensures) ∙ c .if1 .left))
+    (omega arith, p .before .before .loop .inv .1 ∙ find-more _ _ _ (p .row-at .ensures) (p .before .loop-test .taken) (sym (same-bytes .ensures) ∙ if1 .left))
 
 returns-2 : tie.Need-returns-2 Inv-loop μ-loop
 returns-2 c = sym (c .before .loop .inv .1 ∙ find-end _ _ (c .loop-test .left))

@@ -42,10 +42,12 @@ enum-told c = search needs
 
 returns-3 : tie.Need-returns-3
 returns-3 c =
+    let v = c .before .before .v in
+    let settled = c .settled in
     let q = c .before .before .before .before in
     let p = q .before .before .before .before in
-    let number = read-number _ (p .before .before .if1 .left) _ (p .before .text-len .ensures) (omega arith) _ (sym (q .octal-of .ensures) ∙ c .before .before .v .given .1) in
-    cc (number, c .settled .ensures, q .before .before .rest-at .ensures)
+    let number = read-number _ (p .before .before .if1 .left) _ (p .before .text-len .ensures) (omega arith) _ (sym (q .octal-of .ensures) ∙ v .given .1) in
+    cc (number, settled .ensures, q .before .before .rest-at .ensures)
 
 returns-4 : tie.Need-returns-4
 returns-4 c =

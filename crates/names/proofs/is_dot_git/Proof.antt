@@ -33,7 +33,14 @@ in-lower-requires-4 : tie.Need-in-lower-requires-4
 in-lower-requires-4 c κs = search needs
 
 returns-2 : tie.Need-returns-2
-returns-2 c = rw (c .before .before .before .before .before .before .in-lower .ensures, c .before .before .before .before .in-lower2 .ensures, c .before .before .in-lower3 .ensures, c .in-lower4 .ensures) (git-four (c .before .before .before .before .before .before .before .before .before .before .args .name .now) (c .before .before .before .before .before .before .before .before .if1 .left))
+returns-2 c =
+    let args = c .before .before .before .before .before .before .before .before .before .before .args in
+    let if1 = c .before .before .before .before .before .before .before .before .if1 in
+    let in-lower = c .before .before .before .before .before .before .in-lower in
+    let in-lower2 = c .before .before .before .before .in-lower2 in
+    let in-lower3 = c .before .before .in-lower3 in
+    let in-lower4 = c .in-lower4 in
+    rw (in-lower .ensures, in-lower2 .ensures, in-lower3 .ensures, in-lower4 .ensures) (git-four (args .name .now) (if1 .left))
 
 pub is-dot-git-spec : {M : Type 1} → statement M
 is-dot-git-spec =

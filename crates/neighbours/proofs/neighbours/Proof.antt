@@ -20,7 +20,10 @@ shorter-requires : tie.Need-shorter-requires Inv-loop μ-loop
 shorter-requires c κs = search needs
 
 loop-holds : tie.Need-loop-holds Inv-loop μ-loop
-loop-holds c = (omega arith, ap (touches (sameShort (c .before .before .before .args .s .now) (c .before .before .before .args .h))) (most-is (c .before .before .before .args .n) _ (c .before .before .before .args .list .now) (c .shorter .ensures)))
+loop-holds c =
+    let args = c .before .before .before .args in
+    let shorter = c .shorter in
+    (omega arith, ap (touches (sameShort (args .s .now) (args .h))) (most-is (args .n) _ (args .list .now) (shorter .ensures)))
 
 sub-x : tie.Need-sub-x Inv-loop μ-loop
 sub-x c = search needs
@@ -41,7 +44,15 @@ same-ids-requires : tie.Need-same-ids-requires Inv-loop μ-loop
 same-ids-requires c κs = search needs
 
 returns : tie.Need-returns Inv-loop μ-loop
-returns c = sym (c .before .before .before .before .before .loop .inv .1 ∙ touch-here (sameShort (c .before .before .before .before .before .before .before .before .before .args .s .now) (c .before .before .before .before .before .before .before .before .before .args .h)) _ _ (omega (arith, c .before .before .before .before .before .before .shorter .ensures)) _ (c .before .before .before .before .before .loop .inv .0) (c .before .before .before .before .loop-test .taken) (sym (c .before .same-ids .ensures) ∙ c .if1 .taken))
+returns c =
+    let args = c .before .before .before .before .before .before .before .before .before .args in
+    let shorter = c .before .before .before .before .before .before .shorter in
+    let loop = c .before .before .before .before .before .loop in
+    let loop-test = c .before .before .before .before .loop-test in
+    let same-ids = c .before .same-ids in
+    let if1 = c .if1 in
+    sym (loop .inv .1 ∙ touch-here (sameShort (args .s .now) (args .h)) _ _ (omega (arith, shorter .ensures)) _ (loop .inv .0) (loop-test .taken)
+    (sym (same-ids .ensures) ∙ if1 .taken))
 
 add-i : tie.Need-add-i Inv-loop μ-loop
 add-i c = search needs
@@ -50,10 +61,25 @@ loop-less : tie.Need-loop-less Inv-loop μ-loop
 loop-less c = search needs
 
 loop-again : tie.Need-loop-again Inv-loop μ-loop
-loop-again c = (omega arith, c .before .before .before .before .before .loop .inv .1 ∙ touch-on (sameShort (c .before .before .before .before .before .before .before .before .before .args .s .now) (c .before .before .before .before .before .before .before .before .before .args .h)) _ _ (omega (arith, c .before .before .before .before .before .before .shorter .ensures)) _ (c .before .before .before .before .before .loop .inv .0) (c .before .before .before .before .loop-test .taken) (sym (c .before .same-ids .ensures) ∙ c .if1 .left))
+loop-again c =
+    let args = c .before .before .before .before .before .before .before .before .before .args in
+    let shorter = c .before .before .before .before .before .before .shorter in
+    let loop = c .before .before .before .before .before .loop in
+    let loop-test = c .before .before .before .before .loop-test in
+    let same-ids = c .before .same-ids in
+    let if1 = c .if1 in (
+      omega arith,
+      loop .inv .1 ∙ touch-on (sameShort (args .s .now) (args .h)) _ _ (omega (arith, shorter .ensures)) _ (loop .inv .0) (loop-test .taken)
+          (sym (same-ids .ensures) ∙ if1 .left),
+    )
 
 returns-2 : tie.Need-returns-2 Inv-loop μ-loop
-returns-2 c = sym (c .before .loop .inv .1 ∙ touch-none (sameShort (c .before .before .before .before .before .args .s .now) (c .before .before .before .before .before .args .h)) _ _ (omega (arith, c .before .before .shorter .ensures)) _ (c .before .loop .inv .0) (c .loop-test .left))
+returns-2 c =
+    let args = c .before .before .before .before .before .args in
+    let shorter = c .before .before .shorter in
+    let loop = c .before .loop in
+    let loop-test = c .loop-test in
+    sym (loop .inv .1 ∙ touch-none (sameShort (args .s .now) (args .h)) _ _ (omega (arith, shorter .ensures)) _ (loop .inv .0) (loop-test .left))
 
 pub neighbours-spec : {M : Type 1} → statement M
 neighbours-spec =

@@ -52,7 +52,14 @@ same-bytes-requires : tie.Need-same-bytes-requires
 same-bytes-requires c κs = search needs
 
 returns : tie.Need-returns
-returns c = c .same-bytes .ensures ∙ same-both (short-part _ _ _ _ _ _ (c .before .before .before .before .before .before .shorter .ensures) (c .before .before .before .before .shorter3 .ensures) refl) (short-part _ _ _ _ _ _ (c .before .before .before .before .before .shorter2 .ensures) (c .before .before .before .shorter4 .ensures) refl)
+returns c =
+    let shorter = c .before .before .before .before .before .before .shorter in
+    let shorter2 = c .before .before .before .before .before .shorter2 in
+    let shorter3 = c .before .before .before .before .shorter3 in
+    let shorter4 = c .before .before .before .shorter4 in
+    let same-bytes = c .same-bytes in
+    same-bytes .ensures ∙ same-both (short-part _ _ _ _ _ _ (shorter .ensures) (shorter3 .ensures) refl)
+    (short-part _ _ _ _ _ _ (shorter2 .ensures) (shorter4 .ensures) refl)
 
 pub same-ids-spec : {M : Type 1} → statement M
 same-ids-spec =

@@ -26,10 +26,20 @@ returns : tie.Need-returns
 returns c = both-left _ _ _ _ _ _ _ (c .before .before .before .open-level .ensures) _ (c .before .v .given .1)
 
 returns-2 : tie.Need-returns-2
-returns-2 c = both-right _ _ _ _ _ _ _ (c .before .before .before .before .before .before .before .open-level .ensures) _ (c .before .before .before .before .before .l .given .1) _ (c .before .before .before .open-level2 .ensures) _ (c .before .w .given .1)
+returns-2 c =
+    let open-level = c .before .before .before .before .before .before .before .open-level in
+    let l = c .before .before .before .before .before .l in
+    let open-level2 = c .before .before .before .open-level2 in
+    let w = c .before .w in
+    both-right _ _ _ _ _ _ _ (open-level .ensures) _ (l .given .1) _ (open-level2 .ensures) _ (w .given .1)
 
 returns-3 : tie.Need-returns-3
-returns-3 c = both-open _ _ _ _ _ _ _ (c .before .before .before .before .before .before .before .open-level .ensures) _ (c .before .before .before .before .before .l .given .1) _ (c .before .before .before .open-level2 .ensures) _ (c .before .r .given .1)
+returns-3 c =
+    let open-level = c .before .before .before .before .before .before .before .open-level in
+    let l = c .before .before .before .before .before .l in
+    let open-level2 = c .before .before .before .open-level2 in
+    let r = c .before .r in
+    both-open _ _ _ _ _ _ _ (open-level .ensures) _ (l .given .1) _ (open-level2 .ensures) _ (r .given .1)
 
 pub open-both-spec : {M : Type 1} → statement M
 open-both-spec =

@@ -19,16 +19,30 @@ enum-known-f : tie.Need-enum-known-f
 enum-known-f c = search needs
 
 returns-2 : tie.Need-returns-2
-returns-2 c = open-other _ _ _ ((c .before .before .before .before .before .before .if1) .left) _ ((c .before .before .before .before .before .seek-object) .ensures) _ ((c .before .before .before .f) .given .1) ((c .if2) .taken)
+returns-2 c =
+    let if1 = c .before .before .before .before .before .before .if1 in
+    let seek-object = c .before .before .before .before .before .seek-object in
+    let f = c .before .before .before .f in
+    let if2 = c .if2 in
+    open-other _ _ _ (if1 .left) _ (seek-object .ensures) _ (f .given .1) (if2 .taken)
 
 sub-strict-count : tie.Need-sub-strict-count
-sub-strict-count c = omega (arith, seek-inside _ _ _ _ _ _ ((c .before .before .before .before .before .seek-object) .ensures) ((c .before .before .before .f) .given .1) .0, seek-inside _ _ _ _ _ _ ((c .before .before .before .before .before .seek-object) .ensures) ((c .before .before .before .f) .given .1) .1)
+sub-strict-count c =
+    let seek-object = c .before .before .before .before .before .seek-object in
+    let f = c .before .before .before .f in
+    omega (arith, seek-inside _ _ _ _ _ _ (seek-object .ensures) (f .given .1) .0, seek-inside _ _ _ _ _ _ (seek-object .ensures) (f .given .1) .1)
 
 part-strict-count-start : tie.Need-part-strict-count-start
-part-strict-count-start c = omega (arith, seek-inside _ _ _ _ _ _ ((c .before .before .before .before .before .seek-object) .ensures) ((c .before .before .before .f) .given .1) .0, seek-inside _ _ _ _ _ _ ((c .before .before .before .before .before .seek-object) .ensures) ((c .before .before .before .f) .given .1) .1)
+part-strict-count-start c =
+    let seek-object = c .before .before .before .before .before .seek-object in
+    let f = c .before .before .before .f in
+    omega (arith, seek-inside _ _ _ _ _ _ (seek-object .ensures) (f .given .1) .0, seek-inside _ _ _ _ _ _ (seek-object .ensures) (f .given .1) .1)
 
 part-strict-count-end : tie.Need-part-strict-count-end
-part-strict-count-end c = omega (arith, seek-inside _ _ _ _ _ _ ((c .before .before .before .before .before .seek-object) .ensures) ((c .before .before .before .f) .given .1) .0, seek-inside _ _ _ _ _ _ ((c .before .before .before .before .before .seek-object) .ensures) ((c .before .before .before .f) .given .1) .1)
+part-strict-count-end c =
+    let seek-object = c .before .before .before .before .before .seek-object in
+    let f = c .before .before .before .f in
+    omega (arith, seek-inside _ _ _ _ _ _ (seek-object .ensures) (f .given .1) .0, seek-inside _ _ _ _ _ _ (seek-object .ensures) (f .given .1) .1)
 
 strict-count-requires : tie.Need-strict-count-requires
 strict-count-requires c κs = search needs
@@ -43,10 +57,24 @@ returns-3 : tie.Need-returns-3
 returns-3 c = open-absent _ _ _ ((c .before .before .before .if1) .left) _ ((c .before .before .seek-object) .ensures) ((c .enum-told) .given .1)
 
 returns-4 : tie.Need-returns-4
-returns-4 c = open-stopped _ _ _ ((c .before .before .before .before .before .before .before .before .before .before .before .if1) .left) _ ((c .before .before .before .before .before .before .before .before .before .before .seek-object) .ensures) _ ((c .before .before .before .before .before .before .before .before .f) .given .1) ((c .before .before .before .before .before .if2) .left) _ ((c .before .before .before .strict-count) .ensures) _ ((c .before .v) .given .1)
+returns-4 c =
+    let if1 = c .before .before .before .before .before .before .before .before .before .before .before .if1 in
+    let seek-object = c .before .before .before .before .before .before .before .before .before .before .seek-object in
+    let f = c .before .before .before .before .before .before .before .before .f in
+    let if2 = c .before .before .before .before .before .if2 in
+    let strict-count = c .before .before .before .strict-count in
+    let v = c .before .v in
+    open-stopped _ _ _ (if1 .left) _ (seek-object .ensures) _ (f .given .1) (if2 .left) _ (strict-count .ensures) _ (v .given .1)
 
 returns-5 : tie.Need-returns-5
-returns-5 c = open-total _ _ _ ((c .before .before .before .before .before .before .before .before .before .before .before .if1) .left) _ ((c .before .before .before .before .before .before .before .before .before .before .seek-object) .ensures) _ ((c .before .before .before .before .before .before .before .before .f) .given .1) ((c .before .before .before .before .before .if2) .left) _ ((c .before .before .before .strict-count) .ensures) _ ((c .before .n) .given .1)
+returns-5 c =
+    let if1 = c .before .before .before .before .before .before .before .before .before .before .before .if1 in
+    let seek-object = c .before .before .before .before .before .before .before .before .before .before .seek-object in
+    let f = c .before .before .before .before .before .before .before .before .f in
+    let if2 = c .before .before .before .before .before .if2 in
+    let strict-count = c .before .before .before .strict-count in
+    let n = c .before .n in
+    open-total _ _ _ (if1 .left) _ (seek-object .ensures) _ (f .given .1) (if2 .left) _ (strict-count .ensures) _ (n .given .1)
 
 pub open-tree-spec : {M : Type 1} → statement M
 open-tree-spec =

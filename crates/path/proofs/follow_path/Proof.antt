@@ -3,13 +3,10 @@ use borrow.Author.Needs.{needs}
 use Rattle.path.proofs.follow_path.Statement.{statement}
 use Rattle.path.proofs.follow_path.Tie as tie
 use mathlib.Core.Path.{sym, _∙_}
-use Rattle.path.proofs.Laws.{gate-shut, gate-within, gate-on}
+use Rattle.path.proofs.Laws.{gate-shut, gate-on}
 
 longer-requires : tie.Need-longer-requires
 longer-requires c κs = search needs
-
-longer-requires-2 : tie.Need-longer-requires-2
-longer-requires-2 c κs = search needs
 
 sizes-requires : tie.Need-sizes-requires
 sizes-requires c κs = search needs
@@ -24,20 +21,31 @@ enum-told : tie.Need-enum-told
 enum-told c = search needs
 
 follow-within-requires : tie.Need-follow-within-requires
-follow-within-requires c κs = gate-within (c .before .before .before .before .before .before .before .before .args .s .now) (c .before .before .before .before .before .before .before .before .args .root .now) (c .before .before .before .before .before .before .before .before .args .path .now) _ _ _ (c .before .before .before .before .longer .ensures) (c .before .before .before .longer2 .ensures) (c .before .before .sizes .ensures) (c .enum-told .given .1)
+follow-within-requires c κs = search needs
 
 returns : tie.Need-returns
-returns c = c .refused .ensures ∙ sym (gate-shut (c .before .before .before .before .before .before .before .before .before .before .args .s .now) (c .before .before .before .before .before .before .before .before .before .before .args .root .now) (c .before .before .before .before .before .before .before .before .before .before .args .path .now) _ _ _ (c .before .before .before .before .before .before .longer .ensures) (c .before .before .before .before .before .longer2 .ensures) (c .before .before .before .before .sizes .ensures) _ (c .before .before .v .given .1))
+returns c =
+    let args = c .before .before .before .before .before .before .before .before .before .args in
+    let longer = c .before .before .before .before .before .longer in
+    let sizes = c .before .before .before .before .sizes in
+    let v = c .before .before .v in
+    let refused = c .refused in
+    refused .ensures ∙ sym (gate-shut (args .s .now) (args .root .now) (args .path .now) _ _ (longer .ensures) (sizes .ensures) _ (v .given .1))
 
 returns-2 : tie.Need-returns-2
-returns-2 c = c .follow-within .ensures ∙ sym (gate-on (c .before .before .before .before .before .before .before .before .before .args .s .now) (c .before .before .before .before .before .before .before .before .before .args .root .now) (c .before .before .before .before .before .before .before .before .before .args .path .now) _ _ _ (c .before .before .before .before .before .longer .ensures) (c .before .before .before .before .longer2 .ensures) (c .before .before .before .sizes .ensures) (c .before .enum-told .given .1))
+returns-2 c =
+    let args = c .before .before .before .before .before .before .before .before .args in
+    let longer = c .before .before .before .before .longer in
+    let sizes = c .before .before .before .sizes in
+    let enum-told = c .before .enum-told in
+    let follow-within = c .follow-within in
+    follow-within .ensures ∙ sym (gate-on (args .s .now) (args .root .now) (args .path .now) _ _ (longer .ensures) (sizes .ensures) (enum-told .given .1))
 
 pub follow-path-spec : {M : Type 1} → statement M
 follow-path-spec =
     tie.close
     (tie.spec
     longer-requires
-    longer-requires-2
     sizes-requires
     enum-known-v
     refused-requires

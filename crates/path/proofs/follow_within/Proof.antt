@@ -3,8 +3,7 @@ use borrow.Author.Needs.{needs}
 use Rattle.path.proofs.follow_within.Statement.{statement}
 use Rattle.path.proofs.follow_within.Tie as tie
 use mathlib.Core.Path.{sym, _∙_}
-use Rattle.component.specs.Component.{components}
-use Rattle.path.proofs.Laws.{open-shut, open-good, open-read}
+use Rattle.path.proofs.Laws.{open-shut, open-good}
 
 open-bundle-requires : tie.Need-open-bundle-requires
 open-bundle-requires c κs = search needs
@@ -18,14 +17,14 @@ refused-requires c κs = search needs
 enum-known-k : tie.Need-enum-known-k
 enum-known-k c = search needs
 
-follow-in-requires : tie.Need-follow-in-requires
-follow-in-requires c κs = open-read _ (c .before .before .before .before .before .before .before .args .root .now) (components (c .before .before .before .before .before .before .before .args .path .now)) (c .before .before .before .before .before .before .before .pre) _ (sym (c .before .before .before .open-bundle .ensures) ∙ c .before .k .given .1)
+walk-path-requires : tie.Need-walk-path-requires
+walk-path-requires c κs = search needs
 
 returns : tie.Need-returns
-returns c = c .refused .ensures ∙ sym (open-shut _ _ _ (c .before .before .before .before .before .before .before .before .pre) _ (sym (c .before .before .before .before .open-bundle .ensures) ∙ c .before .before .v .given .1))
+returns c = c .refused .ensures ∙ sym (open-shut _ _ _ _ (c .before .before .before .before .open-bundle .ensures) _ (c .before .before .v .given .1))
 
 returns-2 : tie.Need-returns-2
-returns-2 c = c .follow-in .ensures ∙ sym (open-good _ _ _ (c .before .before .before .before .before .before .before .before .pre) _ (sym (c .before .before .before .before .open-bundle .ensures) ∙ c .before .before .k .given .1))
+returns-2 c = c .walk-path .ensures ∙ sym (open-good _ _ _ _ (c .before .before .before .before .open-bundle .ensures) _ (c .before .before .k .given .1))
 
 pub follow-within-spec : {M : Type 1} → statement M
 follow-within-spec =
@@ -35,6 +34,6 @@ follow-within-spec =
     enum-known-v
     refused-requires
     enum-known-k
-    follow-in-requires
+    walk-path-requires
     returns
     returns-2)

@@ -4,45 +4,39 @@ use Rattle.piece_body.proofs.id_byte.Statement.{statement}
 use Rattle.piece_body.proofs.id_byte.Tie as tie
 use Rattle.piece_body.proofs.id_byte.Reads as reads
 use Rattle.piece_body.proofs.id_byte.Lts as lts
-use Rattle.piece_judge.proofs.judge.Reads as judge-reads
-use Rattle.piece_body.proofs.closed.Reads as closed-reads
-use Rattle.piece_marks.proofs.placed_at.Reads as placed-at-reads
-use mathlib.Core.Path.{_∙_}
+use Rattle.piece_body.proofs.in_id.Reads as in-id-reads
+use Rattle.piece_close.proofs.close_entry.Reads as close-entry-reads
+use mathlib.Core.Path.{_∙_, refl}
+use Rattle.arriving.specs.Feed.{judged}
 use Rattle.arriving.proofs.Laws.{id-last, id-more}
+use Rattle.piece_close.proofs.Laws.{closes}
 
-judge-requires : tie.Need-judge-requires
-judge-requires c κs = search needs
+sub-in-id : tie.Need-sub-in-id
+sub-in-id c = search needs
 
-closed-requires : tie.Need-closed-requires
-closed-requires c κs = search needs
-
-same-length : tie.Need-same-length
-same-length c = search needs
+in-id-requires : tie.Need-in-id-requires
+in-id-requires c κs = search needs
 
 returns : tie.Need-returns
-returns c = id-last (c .before .before .before .before .before .before .before .before .before .args .held .now) (c .before .before .before .before .before .before .before .before .before .args .ends .now) (c .before .before .before .before .before .before .before .before .before .args .m) (c .before .before .before .before .before .before .before .before .before .args .l) (c .before .before .before .before .before .before .before .before .before .args .left) _ (c .before .before .before .before .before .before .if1 .taken) (c .before .before .before .before .judge .ensures) _ _ (c .before .before .closed .ensures)
+returns c =
+    let args = c .before .before .args in
+    let if1 = c .before .if1 in
+    let q = id-more (args .held .now) (args .ends .now) (args .m) (args .l) (args .left) (if1 .taken) in (c .in-id .ensures ∙ q .0, q .1)
 
-add-placed-at : tie.Need-add-placed-at
-add-placed-at c = search needs
+add-close-entry : tie.Need-add-close-entry
+add-close-entry c = search needs
 
-sub-t13 : tie.Need-sub-t13
-sub-t13 c = search needs
-
-placed-at-requires : tie.Need-placed-at-requires
-placed-at-requires c κs = search needs
+close-entry-requires : tie.Need-close-entry-requires
+close-entry-requires c κs = search needs
 
 returns-2 : tie.Need-returns-2
-returns-2 c = let q = id-more (c .before .before .before .before .before .before .args .held .now) (c .before .before .before .before .before .before .args .ends .now) (c .before .before .before .before .before .before .args .m) (c .before .before .before .before .before .before .args .l) (c .before .before .before .before .before .before .args .left) (c .before .before .before .if1 .left) in (c .placed-at .ensures ∙ q .0, q .1)
+returns-2 c =
+    let args = c .before .before .before .before .args in
+    let if1 = c .before .before .before .if1 in
+    id-last (args .held .now) (args .ends .now) (args .m) (args .l) (args .left) (judged (args .held .now) (args .m .last) (args .l)) (if1 .left) refl _ _
+    (closes (args .ends .now) (args .m) (args .l) (judged (args .held .now) (args .m .last) (args .l)) (c .close-entry .ensures))
 
 pub id-byte-spec : {M : Type 1} → statement M
 id-byte-spec =
     tie.close
-    (tie.spec
-    judge-requires
-    closed-requires
-    same-length
-    returns
-    add-placed-at
-    sub-t13
-    placed-at-requires
-    returns-2)
+    (tie.spec sub-in-id in-id-requires returns add-close-entry close-entry-requires returns-2)

@@ -16,7 +16,12 @@ enum-known-phase : tie.Need-enum-known-phase
 enum-known-phase c = search needs
 
 returns-2 : tie.Need-returns-2
-returns-2 c = finish-done (c .before .before .before .before .before .before .before .args .m) (c .before .before .before .before .if1 .left) _ (c .before .before .phase .given .1) (c .if2 .taken)
+returns-2 c =
+    let args = c .before .before .before .before .before .before .before .args in
+    let if1 = c .before .before .before .before .if1 in
+    let phase = c .before .before .phase in
+    let if2 = c .if2 in
+    finish-done (args .m) (if1 .left) _ (phase .given .1) (if2 .taken)
 
 head-part-requires : tie.Need-head-part-requires
 head-part-requires c κs = search needs
@@ -37,13 +42,30 @@ cut-requires-3 : tie.Need-cut-requires-3
 cut-requires-3 c κs = search needs
 
 returns-3 : tie.Need-returns-3
-returns-3 c = c .cut .ensures ∙ finish-head (c .before .before .before .before .before .before .before .before .before .before .args .m) (c .before .before .before .before .before .before .before .if1 .left) _ _ (c .before .before .before .before .before .phase .given .1) (c .before .before .before .if2 .left) (c .before .head-part .ensures)
+returns-3 c =
+    let args = c .before .before .before .before .before .before .before .before .before .before .args in
+    let if1 = c .before .before .before .before .before .before .before .if1 in
+    let phase = c .before .before .before .before .before .phase in
+    let if2 = c .before .before .before .if2 in
+    let head-part = c .before .head-part in
+    let cut = c .cut in
+    cut .ensures ∙ finish-head (args .m) (if1 .left) _ _ (phase .given .1) (if2 .left) (head-part .ensures)
 
 returns-4 : tie.Need-returns-4
-returns-4 c = c .cut2 .ensures ∙ finish-name (c .before .before .before .before .before .before .args .m) (c .before .before .before .if1 .left) _ (c .before .enum-told .given .1)
+returns-4 c =
+    let args = c .before .before .before .before .before .before .args in
+    let if1 = c .before .before .before .if1 in
+    let enum-told = c .before .enum-told in
+    let cut2 = c .cut2 in
+    cut2 .ensures ∙ finish-name (args .m) (if1 .left) _ (enum-told .given .1)
 
 returns-5 : tie.Need-returns-5
-returns-5 c = c .cut3 .ensures ∙ finish-id (c .before .before .before .before .before .before .args .m) (c .before .before .before .if1 .left) _ _ (c .before .enum-told2 .given .1)
+returns-5 c =
+    let args = c .before .before .before .before .before .before .args in
+    let if1 = c .before .before .before .if1 in
+    let enum-told2 = c .before .enum-told2 in
+    let cut3 = c .cut3 in
+    cut3 .ensures ∙ finish-id (args .m) (if1 .left) _ _ (enum-told2 .given .1)
 
 pub finish-spec : {M : Type 1} → statement M
 finish-spec =

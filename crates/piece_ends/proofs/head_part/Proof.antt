@@ -45,13 +45,37 @@ find-nul-requires : tie.Need-find-nul-requires
 find-nul-requires c κs = search needs
 
 returns : tie.Need-returns
-returns c = part-nul (take (c .before .before .before .before .before .before .before .before .shorter .result) (c .before .before .before .before .before .before .before .before .before .args .t1)) _ _ _ (sym (c .before .before .before .before .before .before .extract-at .ensures) ∙ c .before .before .before .before .at .given .1) (c .before .find-nul .ensures) (omega (arith, c .if1 .taken, length-take-le (c .before .before .before .before .before .before .before .before .shorter .result) (c .before .before .before .before .before .before .before .before .before .args .t1) (omega (arith, c .before .before .before .before .before .before .before .before .shorter .ensures)))) ∙ ap (λ (b : List ℕ). headPart b (readMode b)) (head-cut (c .before .before .before .before .before .before .before .before .before .args .t1) (c .before .before .before .before .before .before .before .before .before .args .k) _ (omega arith) (c .before .before .before .before .before .before .before .before .shorter .ensures))
+returns c =
+    let args = c .before .before .before .before .before .before .before .before .before .args in
+    let shorter = c .before .before .before .before .before .before .before .before .shorter in
+    let extract-at = c .before .before .before .before .before .before .extract-at in
+    let mode-at = c .before .before .before .before .at in
+    let find-nul = c .before .find-nul in
+    let if1 = c .if1 in
+    part-nul (take (shorter .result) (args .t1)) _ _ _ (sym (extract-at .ensures) ∙ mode-at .given .1) (find-nul .ensures)
+    (omega (arith, if1 .taken, length-take-le (shorter .result) (args .t1) (omega (arith, shorter .ensures)))) ∙ ap (λ (b : List ℕ). headPart b (readMode b))
+    (head-cut (args .t1) (args .k) _ (omega arith) (shorter .ensures))
 
 returns-2 : tie.Need-returns-2
-returns-2 c = part-bad _ (sym (c .before .before .extract-at .ensures) ∙ c .enum-told .given .1) ∙ ap (λ (b : List ℕ). headPart b (readMode b)) (head-cut (c .before .before .before .before .before .args .t1) (c .before .before .before .before .before .args .k) _ (omega arith) (c .before .before .before .before .shorter .ensures))
+returns-2 c =
+    let args = c .before .before .before .before .before .args in
+    let shorter = c .before .before .before .before .shorter in
+    let extract-at = c .before .before .extract-at in
+    let enum-told = c .enum-told in
+    part-bad _ (sym (extract-at .ensures) ∙ enum-told .given .1) ∙ ap (λ (b : List ℕ). headPart b (readMode b))
+    (head-cut (args .t1) (args .k) _ (omega arith) (shorter .ensures))
 
 returns-3 : tie.Need-returns-3
-returns-3 c = part-id (take (c .before .before .before .before .before .before .before .before .shorter .result) (c .before .before .before .before .before .before .before .before .before .args .t1)) _ _ _ (sym (c .before .before .before .before .before .before .extract-at .ensures) ∙ c .before .before .before .before .at .given .1) (c .before .find-nul .ensures) (λ z. omega (arith, c .if1 .left, length-take-le (c .before .before .before .before .before .before .before .before .shorter .result) (c .before .before .before .before .before .before .before .before .before .args .t1) (omega (arith, c .before .before .before .before .before .before .before .before .shorter .ensures)))) ∙ ap (λ (b : List ℕ). headPart b (readMode b)) (head-cut (c .before .before .before .before .before .before .before .before .before .args .t1) (c .before .before .before .before .before .before .before .before .before .args .k) _ (omega arith) (c .before .before .before .before .before .before .before .before .shorter .ensures))
+returns-3 c =
+    let args = c .before .before .before .before .before .before .before .before .before .args in
+    let shorter = c .before .before .before .before .before .before .before .before .shorter in
+    let extract-at = c .before .before .before .before .before .before .extract-at in
+    let mode-at = c .before .before .before .before .at in
+    let find-nul = c .before .find-nul in
+    let if1 = c .if1 in
+    part-id (take (shorter .result) (args .t1)) _ _ _ (sym (extract-at .ensures) ∙ mode-at .given .1) (find-nul .ensures)
+    (λ z. omega (arith, if1 .left, length-take-le (shorter .result) (args .t1) (omega (arith, shorter .ensures)))) ∙ ap
+    (λ (b : List ℕ). headPart b (readMode b)) (head-cut (args .t1) (args .k) _ (omega arith) (shorter .ensures))
 
 pub head-part-spec : {M : Type 1} → statement M
 head-part-spec =

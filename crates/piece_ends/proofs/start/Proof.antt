@@ -25,10 +25,20 @@ fresh-requires-2 : tie.Need-fresh-requires-2
 fresh-requires-2 c κs = search needs
 
 returns : tie.Need-returns
-returns c = start-open (c .before .before .before .before .args .h) (c .before .before .before .before .args .rules) _ (sym (c .before .before .before .rule-bounds .ensures) ∙ c .before .enum-told .given .1) (c .fresh .ensures)
+returns c =
+    let args = c .before .before .before .before .args in
+    let rule-bounds = c .before .before .before .rule-bounds in
+    let enum-told = c .before .enum-told in
+    let fresh = c .fresh in
+    start-open (args .h) (args .rules) _ (sym (rule-bounds .ensures) ∙ enum-told .given .1) (fresh .ensures)
 
 returns-2 : tie.Need-returns-2
-returns-2 c = start-shut (c .before .before .before .before .before .args .h) (c .before .before .before .before .before .args .rules) _ _ (sym (c .before .before .before .before .rule-bounds .ensures) ∙ c .before .before .v .given .1) (c .fresh2 .ensures)
+returns-2 c =
+    let args = c .before .before .before .before .before .args in
+    let rule-bounds = c .before .before .before .before .rule-bounds in
+    let v = c .before .before .v in
+    let fresh2 = c .fresh2 in
+    start-shut (args .h) (args .rules) _ _ (sym (rule-bounds .ensures) ∙ v .given .1) (fresh2 .ensures)
 
 pub start-spec : {M : Type 1} → statement M
 start-spec =

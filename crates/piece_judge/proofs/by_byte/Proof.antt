@@ -9,16 +9,36 @@ returns : tie.Need-returns
 returns c = let x = c .before .before .before .args in byte-level (x .last) (x .size) (x .x) (x .b) (c .before .if1 .taken) (c .if2 .taken)
 
 returns-2 : tie.Need-returns-2
-returns-2 c = let x = c .before .before .before .before .args in byte-over (x .last) (x .size) (x .x) (x .b) (c .before .before .if1 .taken) (c .before .if2 .left) (c .if3 .taken)
+returns-2 c =
+    let x = c .before .before .before .before .args in
+    let if1 = c .before .before .if1 in
+    let if2 = c .before .if2 in
+    let if3 = c .if3 in
+    byte-over (x .last) (x .size) (x .x) (x .b) (if1 .taken) (if2 .left) (if3 .taken)
 
 returns-3 : tie.Need-returns-3
-returns-3 c = let x = c .before .before .before .before .args in byte-not (x .last) (x .size) (x .x) (x .b) (c .before .before .if1 .taken) (c .before .if2 .left) (c .if3 .left)
+returns-3 c =
+    let x = c .before .before .before .before .args in
+    let if1 = c .before .before .if1 in
+    let if2 = c .before .if2 in
+    let if3 = c .if3 in
+    byte-not (x .last) (x .size) (x .x) (x .b) (if1 .taken) (if2 .left) (if3 .left)
 
 returns-4 : tie.Need-returns-4
-returns-4 c = let x = c .before .before .before .before .args in end-over (x .last) (x .size) (x .x) (x .b) (c .before .before .if1 .left) (c .before .if4 .taken) (c .if5 .taken)
+returns-4 c =
+    let x = c .before .before .before .before .args in
+    let if1 = c .before .before .if1 in
+    let if4 = c .before .if4 in
+    let if5 = c .if5 in
+    end-over (x .last) (x .size) (x .x) (x .b) (if1 .left) (if4 .taken) (if5 .taken)
 
 returns-5 : tie.Need-returns-5
-returns-5 c = let x = c .before .before .before .before .args in end-not (x .last) (x .size) (x .x) (x .b) (c .before .before .if1 .left) (c .before .if4 .taken) (c .if5 .left)
+returns-5 c =
+    let x = c .before .before .before .before .args in
+    let if1 = c .before .before .if1 in
+    let if4 = c .before .if4 in
+    let if5 = c .if5 in
+    end-not (x .last) (x .size) (x .x) (x .b) (if1 .left) (if4 .taken) (if5 .left)
 
 returns-6 : tie.Need-returns-6
 returns-6 c = let x = c .before .before .before .args in end-file (x .last) (x .size) (x .x) (x .b) (c .before .if1 .left) (c .if4 .left)

@@ -20,7 +20,11 @@ enum-told-3 : tie.Need-enum-told-3
 enum-told-3 c = search needs
 
 returns : tie.Need-returns
-returns c = let x = c .before .before .before .before .args in over-level (x .held .now) (x .last) (x .l) (x .l .stand) (c .before .enum-told .given .1) (c .level-over .ensures)
+returns c =
+    let x = c .before .before .before .before .args in
+    let enum-told = c .before .enum-told in
+    let level-over = c .level-over in
+    over-level (x .held .now) (x .last) (x .l) (x .l .stand) (enum-told .given .1) (level-over .ensures)
 
 returns-2 : tie.Need-returns-2
 returns-2 c = search needs

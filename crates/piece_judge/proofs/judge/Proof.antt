@@ -22,16 +22,40 @@ name-number-requires : tie.Need-name-number-requires
 name-number-requires c κs = search needs
 
 returns : tie.Need-returns
-returns c = judged-name (c .before .before .before .before .before .before .args .held .now) (c .before .before .before .before .before .before .args .last) (c .before .before .before .before .before .before .args .l) (c .before .before .before .before .if1 .taken) _ _ (c .before .before .before .shorter .ensures) (c .before .name-number .ensures) (c .if2 .taken)
+returns c =
+    let args = c .before .before .before .before .before .before .args in
+    let if1 = c .before .before .before .before .if1 in
+    let shorter = c .before .before .before .shorter in
+    let name-number = c .before .name-number in
+    let if2 = c .if2 in
+    judged-name (args .held .now) (args .last) (args .l) (if1 .taken) _ _ (shorter .ensures) (name-number .ensures) (if2 .taken)
 
 is-over-requires : tie.Need-is-over-requires
 is-over-requires c κs = search needs
 
 returns-2 : tie.Need-returns-2
-returns-2 c = judged-fine (c .before .before .before .before .before .before .before .before .args .held .now) (c .before .before .before .before .before .before .before .before .args .last) (c .before .before .before .before .before .before .before .before .args .l) (c .before .before .before .before .before .before .if1 .taken) _ _ (c .before .before .before .before .before .shorter .ensures) (c .before .before .before .name-number .ensures) (c .before .before .if2 .left) _ (c .before .is-over .ensures) (c .if3 .taken)
+returns-2 c =
+    let args = c .before .before .before .before .before .before .before .before .args in
+    let if1 = c .before .before .before .before .before .before .if1 in
+    let shorter = c .before .before .before .before .before .shorter in
+    let name-number = c .before .before .before .name-number in
+    let if2 = c .before .before .if2 in
+    let is-over = c .before .is-over in
+    let if3 = c .if3 in
+    judged-fine (args .held .now) (args .last) (args .l) (if1 .taken) _ _ (shorter .ensures) (name-number .ensures) (if2 .left) _ (is-over .ensures)
+    (if3 .taken)
 
 returns-3 : tie.Need-returns-3
-returns-3 c = judged-after (c .before .before .before .before .before .before .before .before .args .held .now) (c .before .before .before .before .before .before .before .before .args .last) (c .before .before .before .before .before .before .before .before .args .l) (c .before .before .before .before .before .before .if1 .taken) _ _ (c .before .before .before .before .before .shorter .ensures) (c .before .before .before .name-number .ensures) (c .before .before .if2 .left) _ (c .before .is-over .ensures) (c .if3 .left)
+returns-3 c =
+    let args = c .before .before .before .before .before .before .before .before .args in
+    let if1 = c .before .before .before .before .before .before .if1 in
+    let shorter = c .before .before .before .before .before .shorter in
+    let name-number = c .before .before .before .name-number in
+    let if2 = c .before .before .if2 in
+    let is-over = c .before .is-over in
+    let if3 = c .if3 in
+    judged-after (args .held .now) (args .last) (args .l) (if1 .taken) _ _ (shorter .ensures) (name-number .ensures) (if2 .left) _ (is-over .ensures)
+    (if3 .left)
 
 returns-4 : tie.Need-returns-4
 returns-4 c = judged-text (c .before .before .args .held .now) (c .before .before .args .last) (c .before .before .args .l) (c .if1 .left)

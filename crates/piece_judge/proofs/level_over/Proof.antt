@@ -11,16 +11,31 @@ byte-at-requires : tie.Need-byte-at-requires
 byte-at-requires c κs = search needs
 
 returns : tie.Need-returns
-returns c = let x = c .before .before .before .before .before .args in level-folder (x .held .now) (x .last) (x .l) (c .before .before .if1 .taken) _ (c .byte-at .ensures) (c .before .if2 .taken)
+returns c =
+    let x = c .before .before .before .before .before .args in
+    let if1 = c .before .before .if1 in
+    let if2 = c .before .if2 in
+    let byte-at = c .byte-at in
+    level-folder (x .held .now) (x .last) (x .l) (if1 .taken) _ (byte-at .ensures) (if2 .taken)
 
 returns-2 : tie.Need-returns-2
 returns-2 c = let x = c .before .before .before .before .args in level-file (x .held .now) (x .last) (x .l) (c .before .if1 .taken) (c .if2 .left)
 
 returns-3 : tie.Need-returns-3
-returns-3 c = let x = c .before .before .before .before .before .args in level-both (x .held .now) (x .last) (x .l) (c .before .before .if1 .left) (c .before .if3 .taken) (c .if4 .taken)
+returns-3 c =
+    let x = c .before .before .before .before .before .args in
+    let if1 = c .before .before .if1 in
+    let if3 = c .before .if3 in
+    let if4 = c .if4 in
+    level-both (x .held .now) (x .last) (x .l) (if1 .left) (if3 .taken) (if4 .taken)
 
 returns-4 : tie.Need-returns-4
-returns-4 c = let x = c .before .before .before .before .before .args in level-new (x .held .now) (x .last) (x .l) (c .before .before .if1 .left) (c .before .if3 .taken) (c .if4 .left)
+returns-4 c =
+    let x = c .before .before .before .before .before .args in
+    let if1 = c .before .before .if1 in
+    let if3 = c .before .if3 in
+    let if4 = c .if4 in
+    level-new (x .held .now) (x .last) (x .l) (if1 .left) (if3 .taken) (if4 .left)
 
 returns-5 : tie.Need-returns-5
 returns-5 c = let x = c .before .before .before .before .args in level-none (x .held .now) (x .last) (x .l) (c .before .if1 .left) (c .if3 .left)

@@ -20,7 +20,11 @@ enum-told-3 : tie.Need-enum-told-3
 enum-told-3 c = search needs
 
 returns : tie.Need-returns
-returns c = let x = c .before .before .before .args in meet-level (x .last) (x .size) (x .x) (x .b) (x .stand) (c .before .enum-told .given .1) (c .by-byte .ensures)
+returns c =
+    let x = c .before .before .before .args in
+    let enum-told = c .before .enum-told in
+    let by-byte = c .by-byte in
+    meet-level (x .last) (x .size) (x .x) (x .b) (x .stand) (enum-told .given .1) (by-byte .ensures)
 
 returns-2 : tie.Need-returns-2
 returns-2 c = let x = c .before .before .args in meet-over (x .last) (x .size) (x .x) (x .b) (x .stand) (c .enum-told2 .given .1)

@@ -16,7 +16,12 @@ fresh-requires : tie.Need-fresh-requires
 fresh-requires c κs = search needs
 
 returns : tie.Need-returns
-returns c = c .fresh .ensures ∙ over-none (c .before .before .before .before .before .args .m) _ (c .before .before .before .phase .given .1) (c .before .if1 .taken)
+returns c =
+    let args = c .before .before .before .before .before .args in
+    let phase = c .before .before .before .phase in
+    let if1 = c .before .if1 in
+    let fresh = c .fresh in
+    fresh .ensures ∙ over-none (args .m) _ (phase .given .1) (if1 .taken)
 
 read-head-requires : tie.Need-read-head-requires
 read-head-requires c κs = search needs
@@ -46,10 +51,24 @@ fresh-requires-5 : tie.Need-fresh-requires-5
 fresh-requires-5 c κs = search needs
 
 returns-2 : tie.Need-returns-2
-returns-2 c = c .fresh2 .ensures ∙ over-bad (c .before .before .before .before .before .before .before .before .before .args .m) _ (c .before .before .before .before .before .before .before .phase .given .1) (c .before .before .before .before .before .if1 .left) (sym (c .before .before .before .read-head .ensures) ∙ c .before .enum-told .given .1)
+returns-2 c =
+    let args = c .before .before .before .before .before .before .before .before .before .args in
+    let phase = c .before .before .before .before .before .before .before .phase in
+    let if1 = c .before .before .before .before .before .if1 in
+    let read-head = c .before .before .before .read-head in
+    let enum-told = c .before .enum-told in
+    let fresh2 = c .fresh2 in
+    fresh2 .ensures ∙ over-bad (args .m) _ (phase .given .1) (if1 .left) (sym (read-head .ensures) ∙ enum-told .given .1)
 
 returns-3 : tie.Need-returns-3
-returns-3 c = c .fresh3 .ensures ∙ over-mode (c .before .before .before .before .before .before .before .before .before .args .m) _ (c .before .before .before .before .before .before .before .phase .given .1) (c .before .before .before .before .before .if1 .left) _ _ (sym (c .before .before .before .read-head .ensures) ∙ c .before .enum-told2 .given .1)
+returns-3 c =
+    let args = c .before .before .before .before .before .before .before .before .before .args in
+    let phase = c .before .before .before .before .before .before .before .phase in
+    let if1 = c .before .before .before .before .before .if1 in
+    let read-head = c .before .before .before .read-head in
+    let enum-told2 = c .before .enum-told2 in
+    let fresh3 = c .fresh3 in
+    fresh3 .ensures ∙ over-mode (args .m) _ (phase .given .1) (if1 .left) _ _ (sym (read-head .ensures) ∙ enum-told2 .given .1)
 
 returns-4 : tie.Need-returns-4
 returns-4 c = c .fresh4 .ensures ∙ over-name (c .before .before .before .args .m) _ (c .before .enum-told3 .given .1)

@@ -24,7 +24,11 @@ extract-at-requires : tie.Need-extract-at-requires
 extract-at-requires c κs = search needs
 
 returns : tie.Need-returns
-returns c = read-cut (c .before .before .before .args .t1) (c .before .before .before .args .k) _ _ (c .before .before .shorter .ensures) (omega arith) (c .extract-at .ensures)
+returns c =
+    let args = c .before .before .before .args in
+    let shorter = c .before .before .shorter in
+    let extract-at = c .extract-at in
+    read-cut (args .t1) (args .k) _ _ (shorter .ensures) (omega arith) (extract-at .ensures)
 
 pub read-head-spec : {M : Type 1} → statement M
 read-head-spec =

@@ -4,7 +4,7 @@ use Rattle.piece_run.proofs.one_entry.Statement.{statement}
 use Rattle.piece_run.proofs.one_entry.Tie as tie
 use Rattle.piece_run.proofs.one_entry.Reads as reads
 use Rattle.piece_run.proofs.one_entry.Lts as lts
-use Rattle.piece_run.proofs.place.Reads as place-reads
+use Rattle.piece_place.proofs.place.Reads as place-reads
 use Rattle.piece_seen.proofs.seen_at.Reads as seen-at-reads
 use native.Mathlib.Omega.{arith}
 use Rattle.piece_run.proofs.Runs.{seen-inside, more-none, more-fine, more-not, more-double}

@@ -6,6 +6,7 @@ use Rattle.piece_some.proofs.head_some.Reads as reads
 use Rattle.piece_some.proofs.head_some.Lts as lts
 use Rattle.output.proofs.put.Reads as put-reads
 use Rattle.piece_marks.proofs.placed_at.Reads as placed-at-reads
+use Rattle.piece_some.proofs.Bytes.{head-is}
 
 add-next : tie.Need-add-next
 add-next c = search needs
@@ -35,7 +36,10 @@ placed-at-requires : tie.Need-placed-at-requires
 placed-at-requires c κs = search needs
 
 returns : tie.Need-returns
-returns c = rw (c .placed-at .ensures, c .before .before .before .put .ensures)
+returns c =
+    let put = c .before .before .before .put in
+    let args = c .before .before .before .before .before .before .before .before .args in
+    head-is (args .m) (args .k) (args .piece .now) (args .i) (args .n) _ (put .ensures) _ (c .placed-at .ensures)
 
 pub head-some-spec : {M : Type 1} → statement M
 head-some-spec =

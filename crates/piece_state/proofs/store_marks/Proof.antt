@@ -30,9 +30,11 @@ stand-number-requires c κs = search needs
 
 returns : tie.Need-returns
 returns c =
+    let stand-number = c .before .stand-number in
     let k = c .before .before .before .before in
-    stored (k .before .before .before .before .before .args .m) (k .before .before .sort-number .ensures) (k .before .left-number .ensures) (k .line-in .ensures)
-    (c .before .stand-number .ensures)
+    stored (k .before .before .before .before .before .args .m) (k .before .before .sort-number .ensures) (k .before .left-number .ensures)
+    (k .line-in .ensures)
+    (stand-number .ensures)
 
 pub store-marks-spec : {M : Type 1} → statement M
 store-marks-spec =

@@ -32,7 +32,11 @@ loop-again : tie.Need-loop-again Inv-loop μ-loop
 loop-again c = (c .before .turn .ensures .0 .within, c .before .before .before .before .before .loop .inv .1 ∙ c .before .turn .ensures .0 .same)
 
 returns : tie.Need-returns Inv-loop μ-loop
-returns c = sym (c .before .loop .inv .1 ∙ feed-end (together (c .before .loop .held) (c .before .loop .ends) (c .before .loop .m)) (c .before .before .before .args .piece .now) (c .before .loop .i) (c .loop-test .left))
+returns c =
+    let args = c .before .before .before .args in
+    let loop = c .before .loop in
+    let loop-test = c .loop-test in
+    sym (loop .inv .1 ∙ feed-end (together (loop .held) (loop .ends) (loop .m)) (args .piece .now) (loop .i) (loop-test .left))
 
 pub feed-spec : {M : Type 1} → statement M
 feed-spec = tie.close (tie.spec Inv-loop μ-loop loop-holds turn-requires loop-less loop-again returns)

@@ -28,7 +28,11 @@ returns-2 c = sym (rule-other _ _ _ _ (c .before .before .before .if1 .left) (sy
 
 returns-3 : tie.Need-returns-3
 unfolding isSet
-returns-3 c = sym (rule-id _ _ _ _ (c .before .before .before .before .if1 .left) _ (sym (c .before .before .before .bounds2 .ensures) ∙ c .before .v .given .1))
+returns-3 c =
+    let if1 = c .before .before .before .before .if1 in
+    let bounds2 = c .before .before .before .bounds2 in
+    let v = c .before .v in
+    sym (rule-id _ _ _ _ (if1 .left) _ (sym (bounds2 .ensures) ∙ v .given .1))
 
 pub rule-bounds-spec : {M : Type 1} → statement M
 rule-bounds-spec =

@@ -26,7 +26,12 @@ shared-slice-read-if1-2 : tie.Need-shared-slice-read-if1-2 Inv-loop μ-loop
 shared-slice-read-if1-2 c = omega (arith, c .before .before .before .before .pre .0)
 
 returns : tie.Need-returns Inv-loop μ-loop
-returns c = omega (arith, c .before .before .before .before .loop .inv .1, walk-off (c .before .before .before .before .before .args .a .now) (c .before .before .before .before .before .args .b .now) (c .before .before .before .before .loop .i) (omega (arith, c .before .before .before .before .before .pre .0)) (omega (arith, c .before .before .before .before .before .pre .0)) (c .if1 .taken))
+returns c =
+    let args = c .before .before .before .before .before .args in
+    let pre = c .before .before .before .before .before .pre in
+    let loop = c .before .before .before .before .loop in
+    let if1 = c .if1 in
+    omega (arith, loop .inv .1, walk-off (args .a .now) (args .b .now) (loop .i) (omega (arith, pre .0)) (omega (arith, pre .0)) (if1 .taken))
 
 add-i : tie.Need-add-i Inv-loop μ-loop
 add-i c = search needs
@@ -35,10 +40,19 @@ loop-less : tie.Need-loop-less Inv-loop μ-loop
 loop-less c = search needs
 
 loop-again : tie.Need-loop-again Inv-loop μ-loop
-loop-again c = (omega arith, omega (arith, c .before .before .before .before .loop .inv .1, walk-on (c .before .before .before .before .before .args .a .now) (c .before .before .before .before .before .args .b .now) (c .before .before .before .before .loop .i) (omega (arith, c .before .before .before .before .before .pre .0)) (omega (arith, c .before .before .before .before .before .pre .0)) (c .if1 .left)))
+loop-again c =
+    let args = c .before .before .before .before .before .args in
+    let pre = c .before .before .before .before .before .pre in
+    let loop = c .before .before .before .before .loop in
+    let if1 = c .if1 in
+    (omega arith, omega (arith, loop .inv .1, walk-on (args .a .now) (args .b .now) (loop .i) (omega (arith, pre .0)) (omega (arith, pre .0)) (if1 .left)))
 
 returns-2 : tie.Need-returns-2 Inv-loop μ-loop
-returns-2 c = omega (arith, c .before .loop .inv .1, common-end (c .before .before .args .a .now) (c .before .before .args .b .now) (c .before .loop .i) (omega (arith, c .before .before .pre .0)))
+returns-2 c =
+    let args = c .before .before .args in
+    let pre = c .before .before .pre in
+    let loop = c .before .loop in
+    omega (arith, loop .inv .1, common-end (args .a .now) (args .b .now) (loop .i) (omega (arith, pre .0)))
 
 pub common-last-spec : {M : Type 1} → statement M
 common-last-spec =

@@ -38,7 +38,10 @@ returns-2 : tie.Need-returns-2 Inv-loop μ-loop
 returns-2 c =
     let args = c .before .before .before .before .before .before .before .args in
     let loop = c .before .before .before .before .loop in
-    sym (loop .inv .1 ∙ place-in (args .x) (args .s .now) (loop .i) _ (omega arith) (c .before .before .marks-at .ensures) _ (c .place .ensures .0) (c .before .if2 .taken))
+    let marks-at = c .before .before .marks-at in
+    let if2 = c .before .if2 in
+    let place = c .place in
+    sym (loop .inv .1 ∙ place-in (args .x) (args .s .now) (loop .i) _ (omega arith) (marks-at .ensures) _ (place .ensures .0) (if2 .taken))
 
 add-i : tie.Need-add-i Inv-loop μ-loop
 add-i c = search needs

@@ -33,11 +33,13 @@ loop-less c = search needs
 
 loop-again : tie.Need-loop-again Inv-loop μ-loop
 loop-again c =
+    let args = c .before .before .before .before .args in
     let loop = c .before .before .before .loop in
-    let args = c .before .before .before .before .args in (
+    let if1 = c .if1 in (
       omega arith,
-      ⊎-elim (λ w z. absurd (omega (arith, sym (w .1) ∙ z))) (λ w z. place-step _ _ _ _ (omega arith) (w .0 .left) (loop .inv .1 (sym (w .1) ∙ z))) (c .if1 .came),
-      ⊎-elim (λ w n. omega (arith, place-most 0 (args .s .now) (args .at) (loop .k) (omega arith) (w .0 .taken))) (λ w n. omega (arith, loop .inv .2 (λ z. n (w .1 ∙ z)))) (c .if1 .came),
+      ⊎-elim (λ w z. absurd (omega (arith, sym (w .1) ∙ z))) (λ w z. place-step _ _ _ _ (omega arith) (w .0 .left) (loop .inv .1 (sym (w .1) ∙ z))) (if1 .came),
+      ⊎-elim (λ w n. omega (arith, place-most 0 (args .s .now) (args .at) (loop .k) (omega arith) (w .0 .taken)))
+          (λ w n. omega (arith, loop .inv .2 (λ z. n (w .1 ∙ z)))) (if1 .came),
     )
 
 returns : tie.Need-returns Inv-loop μ-loop

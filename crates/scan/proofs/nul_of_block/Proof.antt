@@ -69,18 +69,20 @@ add-result-3 c = search needs
 
 returns-3 : tie.Need-returns-3
 returns-3 c =
-    let marks3 = c .before .before .marks3 in
-    let eight3 = c .before .before .before .eight3 in
-    let if2 = c .before .before .before .before .if2 in
-    let marks2 = c .before .before .before .before .before .marks2 in
-    let eight2 = c .before .before .before .before .before .before .eight2 in
-    let if1 = c .before .before .before .before .before .before .before .if1 in
-    let marks = c .before .before .before .before .before .before .before .before .marks in
-    let eight = c .before .before .before .before .before .before .before .before .before .eight in
     let args = c .before .before .before .before .before .before .before .before .before .before .before .args in
+    let eight = c .before .before .before .before .before .before .before .before .before .eight in
+    let marks = c .before .before .before .before .before .before .before .before .marks in
+    let if1 = c .before .before .before .before .before .before .before .if1 in
+    let eight2 = c .before .before .before .before .before .before .eight2 in
+    let marks2 = c .before .before .before .before .before .marks2 in
+    let if2 = c .before .before .before .before .if2 in
+    let eight3 = c .before .before .before .eight3 in
+    let marks3 = c .before .before .marks3 in
+    let if3 = c .before .if3 in
+    let place3 = c .place3 in
     let past = nul-past (args .s .now) (args .j) _ _ (omega arith) (eight .ensures) (marks .ensures) (args .j + 8) (if1 .left) (omega arith) in
     let past2 = nul-past (args .s .now) (args .j + 8) _ _ (omega arith) (eight2 .ensures) (marks2 .ensures) (args .j + 16) (if2 .left) (omega arith) in
-    sym (past ∙ past2 ∙ nul-in (args .s .now) (args .j + 16) _ _ (omega arith) (eight3 .ensures) (marks3 .ensures) _ (c .place3 .ensures .0) (c .before .if3 .taken))
+    sym (past ∙ past2 ∙ nul-in (args .s .now) (args .j + 16) _ _ (omega arith) (eight3 .ensures) (marks3 .ensures) _ (place3 .ensures .0) (if3 .taken))
 
 add-j3 : tie.Need-add-j3
 add-j3 c = search needs
@@ -99,22 +101,25 @@ add-result-4 c = search needs
 
 returns-4 : tie.Need-returns-4
 returns-4 c =
-    let eight4 = c .before .before .eight4 in
-    let if3 = c .before .before .before .if3 in
-    let marks3 = c .before .before .before .before .marks3 in
-    let eight3 = c .before .before .before .before .before .eight3 in
-    let if2 = c .before .before .before .before .before .before .if2 in
-    let marks2 = c .before .before .before .before .before .before .before .marks2 in
-    let eight2 = c .before .before .before .before .before .before .before .before .eight2 in
-    let if1 = c .before .before .before .before .before .before .before .before .before .if1 in
-    let marks = c .before .before .before .before .before .before .before .before .before .before .marks in
-    let eight = c .before .before .before .before .before .before .before .before .before .before .before .eight in
     let args = c .before .before .before .before .before .before .before .before .before .before .before .before .before .args in
     let pre = c .before .before .before .before .before .before .before .before .before .before .before .before .before .pre in
+    let eight = c .before .before .before .before .before .before .before .before .before .before .before .eight in
+    let marks = c .before .before .before .before .before .before .before .before .before .before .marks in
+    let if1 = c .before .before .before .before .before .before .before .before .before .if1 in
+    let eight2 = c .before .before .before .before .before .before .before .before .eight2 in
+    let marks2 = c .before .before .before .before .before .before .before .marks2 in
+    let if2 = c .before .before .before .before .before .before .if2 in
+    let eight3 = c .before .before .before .before .before .eight3 in
+    let marks3 = c .before .before .before .before .marks3 in
+    let if3 = c .before .before .before .if3 in
+    let eight4 = c .before .before .eight4 in
+    let marks4 = c .before .marks4 in
+    let place4 = c .place4 in
     let past = nul-past (args .s .now) (args .j) _ _ (omega arith) (eight .ensures) (marks .ensures) (args .j + 8) (if1 .left) (omega arith) in
     let past2 = nul-past (args .s .now) (args .j + 8) _ _ (omega arith) (eight2 .ensures) (marks2 .ensures) (args .j + 16) (if2 .left) (omega arith) in
     let past3 = nul-past (args .s .now) (args .j + 16) _ _ (omega arith) (eight3 .ensures) (marks3 .ensures) (args .j + 24) (if3 .left) (omega arith) in
-    sym (past ∙ past2 ∙ past3 ∙ nul-among (args .s .now) (args .j + 24) _ _ (omega arith) (eight4 .ensures) (c .before .marks4 .ensures) _ (c .place4 .ensures .0) (omega (arith, pre, past, past2, past3)))
+    sym (past ∙ past2 ∙ past3 ∙ nul-among (args .s .now) (args .j + 24) _ _ (omega arith) (eight4 .ensures) (marks4 .ensures) _ (place4 .ensures .0)
+    (omega (arith, pre, past, past2, past3)))
 
 pub nul-of-block-spec : {M : Type 1} → statement M
 nul-of-block-spec =

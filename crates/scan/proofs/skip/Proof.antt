@@ -41,10 +41,13 @@ loop-again c = (omega arith, c .before .before .before .loop .inv .1 ∙ c .befo
 
 returns-2 : tie.Need-returns-2 Inv-loop μ-loop
 returns-2 c =
-    let s = c .before .before .before .before .before .before .args .s .now in
+    let args = c .before .before .before .before .before .before .args in
     let loop = c .before .before .before .before .loop in
+    let in-32 = c .before .before .before .in-32 in
+    let if1 = c .before .before .if1 in
+    let s = args .s .now in
     let e : loop .at + 32 ≡ length s = omega arith in
-    (omega arith, (loop .inv .1 ∙ c .before .before .before .in-32 .ensures .0 (c .before .before .if1 .left) ∙ ap (placeFrom 0 s) e, λ h. absurd (omega arith)))
+    (omega arith, (loop .inv .1 ∙ in-32 .ensures .0 (if1 .left) ∙ ap (placeFrom 0 s) e, λ h. absurd (omega arith)))
 
 add-at-2 : tie.Need-add-at-2 Inv-loop μ-loop
 add-at-2 c = search needs

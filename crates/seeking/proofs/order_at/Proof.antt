@@ -34,7 +34,12 @@ name-order-requires : tie.Need-name-order-requires
 name-order-requires c κs = search needs
 
 returns : tie.Need-returns
-returns c = order-part _ _ _ _ ((c .name-order) .ensures) (short-part _ _ _ _ _ _ (short-at _ _ _ _ ((c .before .before .before .shorter) .ensures) ((c .before .before .before .before .place-of) .ensures)) ((c .before .before .shorter2) .ensures) refl)
+returns c =
+    let place-of = c .before .before .before .before .place-of in
+    let shorter = c .before .before .before .shorter in
+    let shorter2 = c .before .before .shorter2 in
+    let name-order = c .name-order in
+    order-part _ _ _ _ (name-order .ensures) (short-part _ _ _ _ _ _ (short-at _ _ _ _ (shorter .ensures) (place-of .ensures)) (shorter2 .ensures) refl)
 
 pub order-at-spec : {M : Type 1} → statement M
 order-at-spec =

@@ -44,13 +44,23 @@ loop-less : tie.Need-loop-less Inv-loop μ-loop
 loop-less c = search needs
 
 loop-again : tie.Need-loop-again Inv-loop μ-loop
-loop-again c = (c .before .before .before .before .before .loop .inv .0 ∙ halved-below _ _ _ (c .before .before .before .before .loop-test .taken) (sym (c .before .before .order-at .ensures) ∙ c .enum-told .given .1), c .before .before .before .before .before .loop .inv .1)
+loop-again c =
+    let loop = c .before .before .before .before .before .loop in
+    let loop-test = c .before .before .before .before .loop-test in
+    let order-at = c .before .before .order-at in
+    let enum-told = c .enum-told in
+    (loop .inv .0 ∙ halved-below _ _ _ (loop-test .taken) (sym (order-at .ensures) ∙ enum-told .given .1), loop .inv .1)
 
 enum-told-2 : tie.Need-enum-told-2 Inv-loop μ-loop
 enum-told-2 c = search needs
 
 returns : tie.Need-returns Inv-loop μ-loop
-returns c = sym (c .before .before .before .before .before .loop .inv .0 ∙ halved-same _ _ _ (c .before .before .before .before .loop-test .taken) (sym (c .before .before .order-at .ensures) ∙ c .enum-told2 .given .1))
+returns c =
+    let loop = c .before .before .before .before .before .loop in
+    let loop-test = c .before .before .before .before .loop-test in
+    let order-at = c .before .before .order-at in
+    let enum-told2 = c .enum-told2 in
+    sym (loop .inv .0 ∙ halved-same _ _ _ (loop-test .taken) (sym (order-at .ensures) ∙ enum-told2 .given .1))
 
 enum-told-3 : tie.Need-enum-told-3 Inv-loop μ-loop
 enum-told-3 c = search needs
@@ -59,7 +69,12 @@ loop-less-2 : tie.Need-loop-less-2 Inv-loop μ-loop
 loop-less-2 c = search needs
 
 loop-again-2 : tie.Need-loop-again-2 Inv-loop μ-loop
-loop-again-2 c = (c .before .before .before .before .before .loop .inv .0 ∙ halved-above _ _ _ (c .before .before .before .before .loop-test .taken) (sym (c .before .before .order-at .ensures) ∙ c .enum-told3 .given .1), omega (arith, c .before .before .before .before .before .loop .inv .1))
+loop-again-2 c =
+    let loop = c .before .before .before .before .before .loop in
+    let loop-test = c .before .before .before .before .loop-test in
+    let order-at = c .before .before .order-at in
+    let enum-told3 = c .enum-told3 in
+    (loop .inv .0 ∙ halved-above _ _ _ (loop-test .taken) (sym (order-at .ensures) ∙ enum-told3 .given .1), omega (arith, loop .inv .1))
 
 returns-2 : tie.Need-returns-2 Inv-loop μ-loop
 returns-2 c = sym (c .before .loop .inv .0 ∙ halved-end _ _ _ (c .loop-test .left))

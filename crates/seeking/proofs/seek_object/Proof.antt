@@ -53,16 +53,43 @@ same-bytes-requires : tie.Need-same-bytes-requires
 same-bytes-requires c κs = search needs
 
 returns-2 : tie.Need-returns-2
-returns-2 c = seek-here _ _ _ _ _ ((c .before .before .before .before .before .before .before .before .before .before .place-in) .ensures) ((c .before .before .before .before .before .before .before .before .before .if1) .left) _ (seek-framed _ _ _ _ _ ((c .before .before .before .before .before .before .frame-at) .ensures) ((c .before .before .before .before .before .before .before .place-of) .ensures)) _ ((c .before .before .before .before .f) .given .1) (sym ((c .before .same-bytes) .ensures) ∙ (c .if2) .taken)
+returns-2 c =
+    let place-in = c .before .before .before .before .before .before .before .before .before .before .place-in in
+    let if1 = c .before .before .before .before .before .before .before .before .before .if1 in
+    let place-of = c .before .before .before .before .before .before .before .place-of in
+    let frame-at = c .before .before .before .before .before .before .frame-at in
+    let f = c .before .before .before .before .f in
+    let same-bytes = c .before .same-bytes in
+    let if2 = c .if2 in
+    seek-here _ _ _ _ _ (place-in .ensures) (if1 .left) _ (seek-framed _ _ _ _ _ (frame-at .ensures) (place-of .ensures)) _ (f .given .1)
+    (sym (same-bytes .ensures) ∙ if2 .taken)
 
 find-object-requires-3 : tie.Need-find-object-requires-3
 find-object-requires-3 c κs = search needs
 
 returns-3 : tie.Need-returns-3
-returns-3 c = ((c .find-object2) .ensures) ∙ seek-broken _ _ _ _ _ ((c .before .before .before .before .before .before .before .place-in) .ensures) ((c .before .before .before .before .before .before .if1) .left) _ (seek-framed _ _ _ _ _ ((c .before .before .before .frame-at) .ensures) ((c .before .before .before .before .place-of) .ensures)) ((c .before .enum-told) .given .1)
+returns-3 c =
+    let place-in = c .before .before .before .before .before .before .before .place-in in
+    let if1 = c .before .before .before .before .before .before .if1 in
+    let place-of = c .before .before .before .before .place-of in
+    let frame-at = c .before .before .before .frame-at in
+    let enum-told = c .before .enum-told in
+    let find-object2 = c .find-object2 in
+    (find-object2 .ensures) ∙ seek-broken _ _ _ _ _ (place-in .ensures) (if1 .left) _ (seek-framed _ _ _ _ _ (frame-at .ensures) (place-of .ensures))
+    (enum-told .given .1)
 
 returns-4 : tie.Need-returns-4
-returns-4 c = ((c .find-object3) .ensures) ∙ seek-other _ _ _ _ _ ((c .before .before .before .before .before .before .before .before .before .before .before .place-in) .ensures) ((c .before .before .before .before .before .before .before .before .before .before .if1) .left) _ (seek-framed _ _ _ _ _ ((c .before .before .before .before .before .before .before .frame-at) .ensures) ((c .before .before .before .before .before .before .before .before .place-of) .ensures)) _ ((c .before .before .before .before .before .f) .given .1) (sym ((c .before .before .same-bytes) .ensures) ∙ (c .before .if2) .left)
+returns-4 c =
+    let place-in = c .before .before .before .before .before .before .before .before .before .before .before .place-in in
+    let if1 = c .before .before .before .before .before .before .before .before .before .before .if1 in
+    let place-of = c .before .before .before .before .before .before .before .before .place-of in
+    let frame-at = c .before .before .before .before .before .before .before .frame-at in
+    let f = c .before .before .before .before .before .f in
+    let same-bytes = c .before .before .same-bytes in
+    let if2 = c .before .if2 in
+    let find-object3 = c .find-object3 in
+    (find-object3 .ensures) ∙ seek-other _ _ _ _ _ (place-in .ensures) (if1 .left) _ (seek-framed _ _ _ _ _ (frame-at .ensures) (place-of .ensures)) _
+    (f .given .1) (sym (same-bytes .ensures) ∙ if2 .left)
 
 pub seek-object-spec : {M : Type 1} → statement M
 seek-object-spec =

@@ -51,7 +51,13 @@ loop-less c = search needs
 loop-again : tie.Need-loop-again Inv-loop μ-loop
 loop-again c =
     let args = c .before .before .before .before .before .before .before .before .args in
-    (omega arith, rises-turn (belowBy (keyAt (args .text .now) (args .mark) (args .width))) 0 (args .list .now) _ (c .before .before .before .before .before .loop .inv .0) (c .before .before .before .before .before .loop .inv .1) (sym (c .before .below .ensures) ∙ c .if1 .left))
+    let loop = c .before .before .before .before .before .loop in
+    let below = c .before .below in
+    let if1 = c .if1 in (
+      omega arith,
+      rises-turn (belowBy (keyAt (args .text .now) (args .mark) (args .width))) 0 (args .list .now) _ (loop .inv .0) (loop .inv .1)
+          (sym (below .ensures) ∙ if1 .left),
+    )
 
 returns-2 : tie.Need-returns-2 Inv-loop μ-loop
 returns-2 c e =

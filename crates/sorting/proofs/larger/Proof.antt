@@ -43,14 +43,20 @@ below-requires c κs = search needs
 returns-2 : tie.Need-returns-2
 returns-2 c =
     let args = c .before .before .before .before .before .before .before .args in
+    let if1 = c .before .before .before .before .if1 in
+    let below = c .before .below in
+    let if2 = c .if2 in
     let key = keyAt (args .text .now) (args .mark) (args .width) in
-    larger-right (belowBy key) (key-strict key) (args .list .now) (args .i) (args .n) (c .before .before .before .before .if1 .left) (sym (c .before .below .ensures) ∙ c .if2 .taken)
+    larger-right (belowBy key) (key-strict key) (args .list .now) (args .i) (args .n) (if1 .left) (sym (below .ensures) ∙ if2 .taken)
 
 returns-3 : tie.Need-returns-3
 returns-3 c =
     let args = c .before .before .before .before .before .before .before .args in
+    let if1 = c .before .before .before .before .if1 in
+    let below = c .before .below in
+    let if2 = c .if2 in
     let key = keyAt (args .text .now) (args .mark) (args .width) in
-    larger-left (belowBy key) (key-strict key) (args .list .now) (args .i) (args .n) (c .before .before .before .before .if1 .left) (sym (c .before .below .ensures) ∙ c .if2 .left)
+    larger-left (belowBy key) (key-strict key) (args .list .now) (args .i) (args .n) (if1 .left) (sym (below .ensures) ∙ if2 .left)
 
 pub larger-spec : {M : Type 1} → statement M
 larger-spec =

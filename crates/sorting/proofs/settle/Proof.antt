@@ -45,8 +45,11 @@ sift-requires : tie.Need-sift-requires Inv-loop μ-loop
 sift-requires c κs =
     let args = c .before .before .before .before .before .before .before .args in
     let loop = c .before .before .before .before .loop in
-    let key = keyAt (args .text .now) (args .mark) (args .width) in
-    (simp length-set (omega (arith, loop .inv .0 .size)), settle-rest (belowBy key) (key-strict key) (args .list .now) (loop .list) (loop .m) (loop .inv .0) (omega arith) (omega (arith, loop .inv .0 .size)))
+    let key = keyAt (args .text .now) (args .mark) (args .width) in (
+      simp length-set (omega (arith, loop .inv .0 .size)),
+      settle-rest (belowBy key) (key-strict key) (args .list .now) (loop .list) (loop .m) (loop .inv .0)
+          (omega arith) (omega (arith, loop .inv .0 .size)),
+    )
 
 loop-less : tie.Need-loop-less Inv-loop μ-loop
 loop-less c = omega arith
@@ -56,8 +59,11 @@ loop-again c =
     let args = c .before .before .before .before .before .before .before .before .before .before .args in
     let loop = c .before .before .before .before .before .before .before .loop in
     let sift = c .before .before .sift in
-    let key = keyAt (args .text .now) (args .mark) (args .width) in
-    (settle-again (belowBy key) (key-strict key) (args .list .now) (loop .list) (loop .m) (loop .inv .0) (omega arith) (omega (arith, loop .inv .0 .size)) _ (sift .ensures .0) (sift .ensures .1), omega arith)
+    let key = keyAt (args .text .now) (args .mark) (args .width) in (
+      settle-again (belowBy key) (key-strict key) (args .list .now) (loop .list) (loop .m) (loop .inv .0) (omega arith) (omega (arith, loop .inv .0 .size)) _
+          (sift .ensures .0) (sift .ensures .1),
+      omega arith,
+    )
 
 same-length : tie.Need-same-length Inv-loop μ-loop
 same-length c = c .before .loop .inv .0 .size

@@ -47,10 +47,16 @@ slice-write-list : tie.Need-slice-write-list Inv-loop μ-loop
 slice-write-list c = omega (arith, c .before .before .before .before .before .before .before .loop .inv .moved .size)
 
 mul-list-2 : tie.Need-mul-list-2 Inv-loop μ-loop
-mul-list-2 c = omega (arith, c .before .before .before .before .larger .ensures .within, c .before .before .before .before .before .before .before .before .before .before .good)
+mul-list-2 c =
+    let good = c .before .before .before .before .before .before .before .before .before .before .good in
+    let larger = c .before .before .before .before .larger in
+    omega (arith, larger .ensures .within, good)
 
 slice-write-list-2 : tie.Need-slice-write-list-2 Inv-loop μ-loop
-slice-write-list-2 c = simp length-set (omega (arith, c .before .before .before .before .before .before .before .loop .inv .moved .size, c .before .before .before .before .larger .ensures .within))
+slice-write-list-2 c =
+    let loop = c .before .before .before .before .before .before .before .loop in
+    let larger = c .before .before .before .before .larger in
+    simp length-set (omega (arith, loop .inv .moved .size, larger .ensures .within))
 
 loop-less : tie.Need-loop-less Inv-loop μ-loop
 loop-less c =
@@ -60,9 +66,14 @@ loop-less c =
 loop-again : tie.Need-loop-again Inv-loop μ-loop
 loop-again c =
     let args = c .before .before .before .before .before .before .before .before .before .before .args in
+    let pre = c .before .before .before .before .before .before .before .before .before .before .pre in
     let loop = c .before .before .before .before .before .before .before .loop in
+    let larger = c .before .before .before .before .larger in
+    let below = c .before .below in
+    let if1 = c .if1 in
     let key = keyAt (args .text .now) (args .mark) (args .width) in
-    sift-turn (belowBy key) (key-strict key) (args .list .now) (loop .list) (args .from) (args .n) (loop .i) _ (c .before .before .before .before .larger .ensures) (sym (c .before .below .ensures) ∙ c .if1 .taken) (c .before .before .before .before .before .before .before .before .before .before .pre .0) (loop .inv)
+    sift-turn (belowBy key) (key-strict key) (args .list .now) (loop .list) (args .from) (args .n) (loop .i) _ (larger .ensures)
+    (sym (below .ensures) ∙ if1 .taken) (pre .0) (loop .inv)
 
 same-length : tie.Need-same-length Inv-loop μ-loop
 same-length c = c .before .before .before .before .before .before .before .loop .inv .moved .size
@@ -71,8 +82,14 @@ returns : tie.Need-returns Inv-loop μ-loop
 returns c =
     let args = c .before .before .before .before .before .before .before .before .before .before .args in
     let loop = c .before .before .before .before .before .before .before .loop in
-    let key = keyAt (args .text .now) (args .mark) (args .width) in
-    (loop .inv .moved, sift-stop (belowBy key) (key-strict key) (args .list .now) (loop .list) (args .from) (args .n) (loop .i) _ (c .before .before .before .before .larger .ensures) (sym (c .before .below .ensures) ∙ c .if1 .left) (loop .inv))
+    let larger = c .before .before .before .before .larger in
+    let below = c .before .below in
+    let if1 = c .if1 in
+    let key = keyAt (args .text .now) (args .mark) (args .width) in (
+      loop .inv .moved,
+      sift-stop (belowBy key) (key-strict key) (args .list .now) (loop .list) (args .from) (args .n) (loop .i) _ (larger .ensures)
+          (sym (below .ensures) ∙ if1 .left) (loop .inv),
+    )
 
 same-length-2 : tie.Need-same-length-2 Inv-loop μ-loop
 same-length-2 c = c .before .loop .inv .moved .size

@@ -20,7 +20,9 @@ same-length c = search needs
 returns : tie.Need-returns
 returns c =
     let args = c .before .before .before .before .before .before .before .args in
-    c .before .before .sort .ensures ∙ sort-whole (belowBy (keyAt (args .text .now) (args .mark) (args .width))) (args .list .now) (args .n) (c .before .before .before .before .if1 .taken)
+    let if1 = c .before .before .before .before .if1 in
+    let sort = c .before .before .sort in
+    sort .ensures ∙ sort-whole (belowBy (keyAt (args .text .now) (args .mark) (args .width))) (args .list .now) (args .n) (if1 .taken)
 
 slice-relend-prefix-sort : tie.Need-slice-relend-prefix-sort
 slice-relend-prefix-sort c = search needs

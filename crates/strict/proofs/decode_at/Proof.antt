@@ -21,15 +21,24 @@ returns : tie.Need-returns
 returns c = search needs
 
 add-name-start : tie.Need-add-name-start
-add-name-start c = let q = c .before .quick-code .ensures ∙ sym (quick-is-code (c .before .before .before .args .s .now) (c .before .before .before .args .at) (λ e. c .if1 .left (c .before .quick-code .ensures ∙ e))) in
-    omega (arith, name-starts (c .before .before .before .args .s .now) (c .before .before .before .args .h) (c .before .before .before .args .at) _ q (c .if1 .left))
+add-name-start c =
+    let args = c .before .before .before .args in
+    let quick-code = c .before .quick-code in
+    let if1 = c .if1 in
+    let q = quick-code .ensures ∙ sym (quick-is-code (args .s .now) (args .at) (λ e. if1 .left (quick-code .ensures ∙ e))) in
+    omega (arith, name-starts (args .s .now) (args .h) (args .at) _ q (if1 .left))
 
 find-nul-requires : tie.Need-find-nul-requires
 find-nul-requires c κs = search needs
 
 sub-left : tie.Need-sub-left
-sub-left c = let q = c .before .before .quick-code .ensures ∙ sym (quick-is-code (c .before .before .before .before .args .s .now) (c .before .before .before .before .args .at) (λ e. c .before .if1 .left (c .before .before .quick-code .ensures ∙ e))) in
-    name-ends (c .before .before .before .before .args .s .now) (c .before .before .before .before .args .h) (c .before .before .before .before .args .at) _ q (c .before .if1 .left) _ (c .find-nul .ensures)
+sub-left c =
+    let args = c .before .before .before .before .args in
+    let quick-code = c .before .before .quick-code in
+    let if1 = c .before .if1 in
+    let find-nul = c .find-nul in
+    let q = quick-code .ensures ∙ sym (quick-is-code (args .s .now) (args .at) (λ e. if1 .left (quick-code .ensures ∙ e))) in
+    name-ends (args .s .now) (args .h) (args .at) _ q (if1 .left) _ (find-nul .ensures)
 
 decode-requires-2 : tie.Need-decode-requires-2
 decode-requires-2 c κs = search needs
@@ -44,8 +53,14 @@ add-next : tie.Need-add-next
 add-next c = search needs
 
 returns-3 : tie.Need-returns-3
-returns-3 c = let q = c .before .before .before .quick-code .ensures ∙ sym (quick-is-code (c .before .before .before .before .before .args .s .now) (c .before .before .before .before .before .args .at) (λ e. c .before .before .if1 .left (c .before .before .before .quick-code .ensures ∙ e))) in
-    sym (name-whole (c .before .before .before .before .before .args .s .now) (c .before .before .before .before .before .args .h) (c .before .before .before .before .before .args .at) _ q (c .before .before .if1 .left) _ (c .before .find-nul .ensures) (c .if2 .left))
+returns-3 c =
+    let args = c .before .before .before .before .before .args in
+    let quick-code = c .before .before .before .quick-code in
+    let if1 = c .before .before .if1 in
+    let find-nul = c .before .find-nul in
+    let if2 = c .if2 in
+    let q = quick-code .ensures ∙ sym (quick-is-code (args .s .now) (args .at) (λ e. if1 .left (quick-code .ensures ∙ e))) in
+    sym (name-whole (args .s .now) (args .h) (args .at) _ q (if1 .left) _ (find-nul .ensures) (if2 .left))
 
 pub decode-at-spec : {M : Type 1} → statement M
 decode-at-spec =

@@ -41,7 +41,8 @@ returns-2 c =
     let first2 = c .before .before .before .first2 in
     let same-bytes2 = c .before .same-bytes2 in
     let if2 = c .if2 in
-    sym (word-tree (args .b .now) (begun (ascii "blob ") (args .b .now) (first .ensures) (same-bytes .ensures) (if1 .left)) (begun (ascii "tree ") (args .b .now) (first2 .ensures) (same-bytes2 .ensures) (if2 .taken)))
+    sym (word-tree (args .b .now) (begun (ascii "blob ") (args .b .now) (first .ensures) (same-bytes .ensures) (if1 .left))
+    (begun (ascii "tree ") (args .b .now) (first2 .ensures) (same-bytes2 .ensures) (if2 .taken)))
 
 first-requires-3 : tie.Need-first-requires-3
 first-requires-3 c κs = search needs
@@ -64,7 +65,9 @@ returns-3 c =
     let first3 = c .before .before .before .first3 in
     let same-bytes3 = c .before .same-bytes3 in
     let if3 = c .if3 in
-    sym (word-commit (args .b .now) (begun (ascii "blob ") (args .b .now) (first .ensures) (same-bytes .ensures) (if1 .left)) (begun (ascii "tree ") (args .b .now) (first2 .ensures) (same-bytes2 .ensures) (if2 .left)) (begun (ascii "commit ") (args .b .now) (first3 .ensures) (same-bytes3 .ensures) (if3 .taken)))
+    sym (word-commit (args .b .now) (begun (ascii "blob ") (args .b .now) (first .ensures) (same-bytes .ensures) (if1 .left))
+    (begun (ascii "tree ") (args .b .now) (first2 .ensures) (same-bytes2 .ensures) (if2 .left))
+    (begun (ascii "commit ") (args .b .now) (first3 .ensures) (same-bytes3 .ensures) (if3 .taken)))
 
 returns-4 : tie.Need-returns-4
 returns-4 c =
@@ -78,7 +81,9 @@ returns-4 c =
     let first3 = c .before .before .before .first3 in
     let same-bytes3 = c .before .same-bytes3 in
     let if3 = c .if3 in
-    sym (word-none (args .b .now) (begun (ascii "blob ") (args .b .now) (first .ensures) (same-bytes .ensures) (if1 .left)) (begun (ascii "tree ") (args .b .now) (first2 .ensures) (same-bytes2 .ensures) (if2 .left)) (begun (ascii "commit ") (args .b .now) (first3 .ensures) (same-bytes3 .ensures) (if3 .left)))
+    sym (word-none (args .b .now) (begun (ascii "blob ") (args .b .now) (first .ensures) (same-bytes .ensures) (if1 .left))
+    (begun (ascii "tree ") (args .b .now) (first2 .ensures) (same-bytes2 .ensures) (if2 .left))
+    (begun (ascii "commit ") (args .b .now) (first3 .ensures) (same-bytes3 .ensures) (if3 .left)))
 
 pub word-len-spec : {M : Type 1} → statement M
 word-len-spec =

@@ -23,13 +23,23 @@ cast-result : tie.Need-cast-result
 cast-result c = search needs
 
 returns : tie.Need-returns
-returns c = element-folder (c .before .before .before .before .args .at) _ (c .before .is-tree .ensures) (c .if1 .taken) ∙ ap (elementOf true (c .before .before .before .before .args .at)) (c .before .before .front-mode .ensures)
+returns c =
+    let args = c .before .before .before .before .args in
+    let front-mode = c .before .before .front-mode in
+    let is-tree = c .before .is-tree in
+    let if1 = c .if1 in
+    element-folder (args .at) _ (is-tree .ensures) (if1 .taken) ∙ ap (elementOf true (args .at)) (front-mode .ensures)
 
 cast-result-2 : tie.Need-cast-result-2
 cast-result-2 c = search needs
 
 returns-2 : tie.Need-returns-2
-returns-2 c = element-file (c .before .before .before .before .args .at) _ (c .before .is-tree .ensures) (c .if1 .left) ∙ ap (elementOf true (c .before .before .before .before .args .at)) (c .before .before .front-mode .ensures)
+returns-2 c =
+    let args = c .before .before .before .before .args in
+    let front-mode = c .before .before .front-mode in
+    let is-tree = c .before .is-tree in
+    let if1 = c .if1 in
+    element-file (args .at) _ (is-tree .ensures) (if1 .left) ∙ ap (elementOf true (args .at)) (front-mode .ensures)
 
 pub element-spec : {M : Type 1} → statement M
 element-spec =

@@ -23,7 +23,12 @@ halt-requires : tie.Need-halt-requires Inv-loop μ-loop
 halt-requires c κs = search needs
 
 returns : tie.Need-returns Inv-loop μ-loop
-returns c = called (c .halt .ensures) (gathering-full _ _ _ _ _ _ _ (c .before .before .before .loop .inv) (c .before .before .loop-test .taken) (c .before .if1 .taken))
+returns c =
+    let loop = c .before .before .before .loop in
+    let loop-test = c .before .before .loop-test in
+    let if1 = c .before .if1 in
+    let halt = c .halt in
+    called (halt .ensures) (gathering-full _ _ _ _ _ _ _ (loop .inv) (loop-test .taken) (if1 .taken))
 
 sub-record-number : tie.Need-sub-record-number Inv-loop μ-loop
 sub-record-number c = search needs
@@ -44,7 +49,14 @@ halt-requires-2 : tie.Need-halt-requires-2 Inv-loop μ-loop
 halt-requires-2 c κs = search needs
 
 returns-2 : tie.Need-returns-2 Inv-loop μ-loop
-returns-2 c = called (c .halt2 .ensures) (gathering-bad _ _ _ _ _ _ _ (c .before .before .before .before .before .before .loop .inv) (c .before .before .before .before .before .loop-test .taken) (c .before .before .before .before .if1 .left) (c .before .before .record-number .ensures) (c .before .if2 .taken))
+returns-2 c =
+    let loop = c .before .before .before .before .before .before .loop in
+    let loop-test = c .before .before .before .before .before .loop-test in
+    let if1 = c .before .before .before .before .if1 in
+    let record-number = c .before .before .record-number in
+    let if2 = c .before .if2 in
+    let halt2 = c .halt2 in
+    called (halt2 .ensures) (gathering-bad _ _ _ _ _ _ _ (loop .inv) (loop-test .taken) (if1 .left) (record-number .ensures) (if2 .taken))
 
 sub-element : tie.Need-sub-element Inv-loop μ-loop
 sub-element c = search needs
@@ -56,7 +68,10 @@ part-element-end : tie.Need-part-element-end Inv-loop μ-loop
 part-element-end c = search needs
 
 element-requires : tie.Need-element-requires Inv-loop μ-loop
-element-requires c κs = omega (arith, c .before .before .before .before .before .loop-test .taken, c .before .before .before .before .before .before .before .before .before .pre)
+element-requires c κs =
+    let pre = c .before .before .before .before .before .before .before .before .before .pre in
+    let loop-test = c .before .before .before .before .before .loop-test in
+    omega (arith, loop-test .taken, pre)
 
 put-element-requires : tie.Need-put-element-requires Inv-loop μ-loop
 put-element-requires c κs = search needs
@@ -74,10 +89,26 @@ name-end-requires : tie.Need-name-end-requires Inv-loop μ-loop
 name-end-requires c κs = search needs
 
 add-at : tie.Need-add-at Inv-loop μ-loop
-add-at c = omega (arith, gathering-inside _ _ _ _ _ _ _ (c .before .before .before .before .before .before .before .before .before .before .before .before .before .loop .inv) (c .before .before .before .before .before .before .before .before .before .before .before .before .loop-test .taken) (c .before .before .before .before .before .before .before .before .before .before .before .if1 .left) (c .before .before .before .before .before .before .before .before .before .record-number .ensures) (c .before .before .before .before .before .before .before .before .if2 .left) (c .name-end .ensures), c .before .before .before .before .before .before .before .before .before .before .before .before .before .before .before .before .pre)
+add-at c =
+    let pre = c .before .before .before .before .before .before .before .before .before .before .before .before .before .before .before .before .pre in
+    let loop = c .before .before .before .before .before .before .before .before .before .before .before .before .before .loop in
+    let loop-test = c .before .before .before .before .before .before .before .before .before .before .before .before .loop-test in
+    let if1 = c .before .before .before .before .before .before .before .before .before .before .before .if1 in
+    let record-number = c .before .before .before .before .before .before .before .before .before .record-number in
+    let if2 = c .before .before .before .before .before .before .before .before .if2 in
+    let name-end = c .name-end in
+    omega (arith, gathering-inside _ _ _ _ _ _ _ (loop .inv) (loop-test .taken) (if1 .left) (record-number .ensures) (if2 .left) (name-end .ensures), pre)
 
 add-at-2 : tie.Need-add-at-2 Inv-loop μ-loop
-add-at-2 c = omega (arith, gathering-inside _ _ _ _ _ _ _ (c .before .before .before .before .before .before .before .before .before .before .before .before .before .loop .inv) (c .before .before .before .before .before .before .before .before .before .before .before .before .loop-test .taken) (c .before .before .before .before .before .before .before .before .before .before .before .if1 .left) (c .before .before .before .before .before .before .before .before .before .record-number .ensures) (c .before .before .before .before .before .before .before .before .if2 .left) (c .name-end .ensures), c .before .before .before .before .before .before .before .before .before .before .before .before .before .before .before .before .pre)
+add-at-2 c =
+    let pre = c .before .before .before .before .before .before .before .before .before .before .before .before .before .before .before .before .pre in
+    let loop = c .before .before .before .before .before .before .before .before .before .before .before .before .before .loop in
+    let loop-test = c .before .before .before .before .before .before .before .before .before .before .before .before .loop-test in
+    let if1 = c .before .before .before .before .before .before .before .before .before .before .before .if1 in
+    let record-number = c .before .before .before .before .before .before .before .before .before .record-number in
+    let if2 = c .before .before .before .before .before .before .before .before .if2 in
+    let name-end = c .name-end in
+    omega (arith, gathering-inside _ _ _ _ _ _ _ (loop .inv) (loop-test .taken) (if1 .left) (record-number .ensures) (if2 .left) (name-end .ensures), pre)
 
 add-n : tie.Need-add-n Inv-loop μ-loop
 add-n c = search needs
@@ -86,7 +117,17 @@ loop-less : tie.Need-loop-less Inv-loop μ-loop
 loop-less c = omega (arith, c .before .before .before .before .before .before .before .before .before .before .before .if1 .left)
 
 loop-again : tie.Need-loop-again Inv-loop μ-loop
-loop-again c = gathering-turn _ _ _ _ _ _ _ (c .before .before .before .before .before .before .before .before .before .before .before .before .before .loop .inv) (c .before .before .before .before .before .before .before .before .before .before .before .before .loop-test .taken) (c .before .before .before .before .before .before .before .before .before .before .before .if1 .left) (c .before .before .before .before .before .before .before .before .before .record-number .ensures) (c .before .before .before .before .before .before .before .before .if2 .left) (c .name-end .ensures) (c .before .before .before .before .before .before .element .ensures) _ (c .before .before .before .before .put-element .ensures)
+loop-again c =
+    let loop = c .before .before .before .before .before .before .before .before .before .before .before .before .before .loop in
+    let loop-test = c .before .before .before .before .before .before .before .before .before .before .before .before .loop-test in
+    let if1 = c .before .before .before .before .before .before .before .before .before .before .before .if1 in
+    let record-number = c .before .before .before .before .before .before .before .before .before .record-number in
+    let if2 = c .before .before .before .before .before .before .before .before .if2 in
+    let element = c .before .before .before .before .before .before .element in
+    let put-element = c .before .before .before .before .put-element in
+    let name-end = c .name-end in
+    gathering-turn _ _ _ _ _ _ _ (loop .inv) (loop-test .taken) (if1 .left) (record-number .ensures) (if2 .left) (name-end .ensures) (element .ensures) _
+    (put-element .ensures)
 
 same-length-3 : tie.Need-same-length-3 Inv-loop μ-loop
 same-length-3 c = c .before .loop .inv .size

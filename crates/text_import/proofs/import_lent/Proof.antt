@@ -15,10 +15,18 @@ enum-told : tie.Need-enum-told
 enum-told c = search needs
 
 import-open-requires : tie.Need-import-open-requires
-import-open-requires c κs = lent-began (c .before .before .before .before .before .before .before .before .args .rules) (c .before .before .before .before .before .before .before .before .args .h) (c .before .before .before .before .before .before .before .before .args .text .now) (sym (c .before .before .before .before .bounds .ensures) ∙ c .before .before .enum-told .given .1)
+import-open-requires c κs =
+    let args = c .before .before .before .before .before .before .before .before .args in
+    let bounds = c .before .before .before .before .bounds in
+    let enum-told = c .before .before .enum-told in
+    lent-began (args .rules) (args .h) (args .text .now) (sym (bounds .ensures) ∙ enum-told .given .1)
 
 returns : tie.Need-returns
-returns c = lent-shut (c .before .before .before .before .before .before .before .args .rules) (c .before .before .before .before .before .before .before .args .h) (c .before .before .before .before .before .before .before .args .text .now) (c .before .before .before .before .before .before .before .args .out .now) (c .before .before .before .before .before .before .before .args .list .now) _ (sym (c .before .before .before .bounds .ensures) ∙ c .before .v .given .1)
+returns c =
+    let args = c .before .before .before .before .before .before .before .args in
+    let bounds = c .before .before .before .bounds in
+    let v = c .before .v in
+    lent-shut (args .rules) (args .h) (args .text .now) (args .out .now) (args .list .now) _ (sym (bounds .ensures) ∙ v .given .1)
 
 same-length : tie.Need-same-length
 same-length c = search needs
@@ -27,7 +35,13 @@ same-length-2 : tie.Need-same-length-2
 same-length-2 c = search needs
 
 returns-2 : tie.Need-returns-2
-returns-2 c = lent-whole (c .before .before .before .before .before .before .before .before .before .before .before .before .before .args .rules) (c .before .before .before .before .before .before .before .before .before .before .before .before .before .args .h) (c .before .before .before .before .before .before .before .before .before .before .before .before .before .args .text .now) (c .before .before .before .before .before .before .before .before .before .before .before .before .before .args .out .now) (c .before .before .before .before .before .before .before .before .before .before .before .before .before .args .list .now) (sym (c .before .before .before .before .before .before .before .before .before .bounds .ensures) ∙ c .before .before .before .before .before .before .before .enum-told .given .1) _ _ _ (c .before .before .before .before .import-open .ensures)
+returns-2 c =
+    let args = c .before .before .before .before .before .before .before .before .before .before .before .before .before .args in
+    let bounds = c .before .before .before .before .before .before .before .before .before .bounds in
+    let enum-told = c .before .before .before .before .before .before .before .enum-told in
+    let import-open = c .before .before .before .before .import-open in
+    lent-whole (args .rules) (args .h) (args .text .now) (args .out .now) (args .list .now) (sym (bounds .ensures) ∙ enum-told .given .1) _ _ _
+    (import-open .ensures)
 
 pub import-lent-spec : {M : Type 1} → statement M
 import-lent-spec =

@@ -2,7 +2,7 @@
 use borrow.Author.Needs.{needs}
 use Rattle.text_import.proofs.import_open.Statement.{statement}
 use Rattle.text_import.proofs.import_open.Tie as tie
-use mathlib.Core.Path.{sym, _∙_}
+use mathlib.Core.Path.{sym}
 use lib.Seq.{length-take-le}
 use Rattle.text_import.specs.Import.{texts}
 use Rattle.text_import.proofs.Whole.{all-read}
@@ -15,7 +15,11 @@ same-length : tie.Need-same-length
 same-length c = search needs
 
 returns : tie.Need-returns
-returns c = opens-unread (c .before .before .before .before .before .before .before .before .before .args .rules) (c .before .before .before .before .before .before .before .before .before .args .h) (c .before .before .before .before .before .before .before .before .before .args .text .now) (c .before .before .before .before .before .before .before .before .before .args .out .now) (c .before .before .before .before .before .before .before .before .before .args .list .now) _ (c .before .before .before .before .gather .ensures .0) _ (c .before .before .before .before .gather .ensures .1) (c .if1 .taken)
+returns c =
+    let args = c .before .before .before .before .before .before .before .before .before .args in
+    let gather = c .before .before .before .before .gather in
+    let if1 = c .if1 in
+    opens-unread (args .rules) (args .h) (args .text .now) (args .out .now) (args .list .now) _ (gather .ensures .0) _ (gather .ensures .1) (if1 .taken)
 
 halt-requires : tie.Need-halt-requires
 halt-requires c κs = search needs
@@ -24,7 +28,15 @@ same-length-2 : tie.Need-same-length-2
 same-length-2 c = search needs
 
 returns-2 : tie.Need-returns-2
-returns-2 c = called-lent (c .before .before .before .before .before .before .before .before .before .before .before .args .text .now) (texts (c .before .before .before .before .before .before .before .before .before .before .before .args .rules) (c .before .before .before .before .before .before .before .before .before .before .before .args .h) (c .before .before .before .before .before .before .before .before .before .before .before .args .text .now)) (c .before .before .before .before .before .before .before .before .before .before .before .args .out .now) (c .before .before .before .before .before .before .before .before .before .before .before .args .list .now) (c .halt .ensures) (opens-many (c .before .before .before .before .before .before .before .before .before .before .before .args .rules) (c .before .before .before .before .before .before .before .before .before .before .before .args .h) (c .before .before .before .before .before .before .before .before .before .before .before .args .text .now) (c .before .before .before .before .before .before .before .before .before .before .before .args .out .now) (c .before .before .before .before .before .before .before .before .before .before .before .args .list .now) _ (c .before .before .before .before .before .before .gather .ensures .0) _ (c .before .before .before .before .before .before .gather .ensures .1) (c .before .before .if1 .left) (c .before .if2 .taken))
+returns-2 c =
+    let args = c .before .before .before .before .before .before .before .before .before .before .before .args in
+    let gather = c .before .before .before .before .before .before .gather in
+    let if1 = c .before .before .if1 in
+    let if2 = c .before .if2 in
+    let halt = c .halt in
+    called-lent (args .text .now) (texts (args .rules) (args .h) (args .text .now)) (args .out .now) (args .list .now) (halt .ensures)
+    (opens-many (args .rules) (args .h) (args .text .now) (args .out .now) (args .list .now) _ (gather .ensures .0) _ (gather .ensures .1) (if1 .left)
+    (if2 .taken))
 
 slice-relend-prefix-finish : tie.Need-slice-relend-prefix-finish
 slice-relend-prefix-finish c = search needs
@@ -33,7 +45,16 @@ slice-aggregate-finish : tie.Need-slice-aggregate-finish
 slice-aggregate-finish c = sym (length-take-le _ _ (c .before .before .if2 .left))
 
 finish-requires : tie.Need-finish-requires
-finish-requires c κs = ((c .before .before .before .before .before .before .before .before .before .before .before .before .pre .1, c .before .before .before .before .before .before .before .before .before .before .before .before .pre .0, all-read (c .before .before .before .before .before .before .before .before .before .before .before .before .args .rules) (c .before .before .before .before .before .before .before .before .before .before .before .before .args .h) (c .before .before .before .before .before .before .before .before .before .before .before .before .args .text .now) _ (c .before .before .before .before .before .before .before .gather .ensures .0) (c .before .before .before .if1 .left) .0), opens-front (c .before .before .before .before .before .before .before .before .before .before .before .before .args .rules) (c .before .before .before .before .before .before .before .before .before .before .before .before .args .h) (c .before .before .before .before .before .before .before .before .before .before .before .before .args .text .now) (c .before .before .before .before .before .before .before .before .before .before .before .before .args .out .now) (c .before .before .before .before .before .before .before .before .before .before .before .before .args .list .now) _ (c .before .before .before .before .before .before .before .gather .ensures .0) _ (c .before .before .before .before .before .before .before .gather .ensures .1) (c .before .before .before .if1 .left) (c .before .before .if2 .left))
+finish-requires c κs =
+    let args = c .before .before .before .before .before .before .before .before .before .before .before .before .args in
+    let pre = c .before .before .before .before .before .before .before .before .before .before .before .before .pre in
+    let gather = c .before .before .before .before .before .before .before .gather in
+    let if1 = c .before .before .before .if1 in
+    let if2 = c .before .before .if2 in (
+      (pre .1, pre .0, all-read (args .rules) (args .h) (args .text .now) _ (gather .ensures .0) (if1 .left) .0),
+      opens-front (args .rules) (args .h)
+          (args .text .now) (args .out .now) (args .list .now) _ (gather .ensures .0) _ (gather .ensures .1) (if1 .left) (if2 .left),
+    )
 
 same-length-3 : tie.Need-same-length-3
 same-length-3 c = search needs
@@ -42,7 +63,15 @@ same-length-4 : tie.Need-same-length-4
 same-length-4 c = search needs
 
 returns-3 : tie.Need-returns-3
-returns-3 c = opens-all (c .before .before .before .before .before .before .before .before .before .before .before .before .before .before .before .before .before .args .rules) (c .before .before .before .before .before .before .before .before .before .before .before .before .before .before .before .before .before .args .h) (c .before .before .before .before .before .before .before .before .before .before .before .before .before .before .before .before .before .args .text .now) (c .before .before .before .before .before .before .before .before .before .before .before .before .before .before .before .before .before .args .out .now) (c .before .before .before .before .before .before .before .before .before .before .before .before .before .before .before .before .before .args .list .now) _ (c .before .before .before .before .before .before .before .before .before .before .before .before .gather .ensures .0) _ (c .before .before .before .before .before .before .before .before .before .before .before .before .gather .ensures .1) (c .before .before .before .before .before .before .before .before .if1 .left) (c .before .before .before .before .before .before .before .if2 .left) _ _ _ (c .before .before .before .before .finish .ensures .0, c .before .before .before .before .finish .ensures .1 .0) (c .before .before .before .before .finish .ensures .1 .1)
+returns-3 c =
+    let args = c .before .before .before .before .before .before .before .before .before .before .before .before .before .before .before .before
+    .before .args in
+    let gather = c .before .before .before .before .before .before .before .before .before .before .before .before .gather in
+    let if1 = c .before .before .before .before .before .before .before .before .if1 in
+    let if2 = c .before .before .before .before .before .before .before .if2 in
+    let finish = c .before .before .before .before .finish in
+    opens-all (args .rules) (args .h) (args .text .now) (args .out .now) (args .list .now) _ (gather .ensures .0) _ (gather .ensures .1) (if1 .left) (if2 .left)
+    _ _ _ (finish .ensures .0, finish .ensures .1 .0) (finish .ensures .1 .1)
 
 pub import-open-spec : {M : Type 1} → statement M
 import-open-spec =

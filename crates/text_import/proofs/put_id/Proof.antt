@@ -17,10 +17,28 @@ id-of-hex-requires : tie.Need-id-of-hex-requires
 id-of-hex-requires c κs = search needs
 
 array-share-prefix-id : tie.Need-array-share-prefix-id
-array-share-prefix-id c = omega (arith, id-kept (c .before .before .before .before .before .before .args .digits .now) (c .before .before .before .before .before .before .args .h) (c .before .before .before .before .before .before .pre .0) (c .before .before .before .before .before .before .pre .1) (c .before .before .before .before .before .before .pre .2) (replicate {A = ℕ} 32 0) _ refl (c .before .before .id-of-hex .ensures .1) .0, id-small _ (id-is _ (c .before .before .before .before .before .before .pre .2)) .1)
+array-share-prefix-id c =
+    let args = c .before .before .before .before .before .before .args in
+    let pre = c .before .before .before .before .before .before .pre in
+    let id-of-hex = c .before .before .id-of-hex in
+    omega (
+      arith,
+      id-kept (args .digits .now) (args .h) (pre .0) (pre .1) (pre .2) (replicate {A = ℕ} 32 0) _ refl (id-of-hex .ensures .1) .0,
+      id-small _
+          (id-is _ (pre .2)) .1,
+    )
 
 slice-aggregate-put : tie.Need-slice-aggregate-put
-slice-aggregate-put c = sym (length-take-le _ _ (omega (arith, id-kept (c .before .before .before .before .before .before .before .args .digits .now) (c .before .before .before .before .before .before .before .args .h) (c .before .before .before .before .before .before .before .pre .0) (c .before .before .before .before .before .before .before .pre .1) (c .before .before .before .before .before .before .before .pre .2) (replicate {A = ℕ} 32 0) _ refl (c .before .before .before .id-of-hex .ensures .1) .0, id-small _ (id-is _ (c .before .before .before .before .before .before .before .pre .2)) .1)))
+slice-aggregate-put c =
+    let args = c .before .before .before .before .before .before .before .args in
+    let pre = c .before .before .before .before .before .before .before .pre in
+    let id-of-hex = c .before .before .before .id-of-hex in
+    sym (length-take-le _ _ (omega (
+      arith,
+      id-kept (args .digits .now) (args .h) (pre .0) (pre .1) (pre .2) (replicate {A = ℕ} 32 0) _ refl
+          (id-of-hex .ensures .1) .0,
+      id-small _ (id-is _ (pre .2)) .1,
+    )))
 
 put-requires : tie.Need-put-requires
 put-requires c κs = search needs
@@ -29,7 +47,13 @@ same-length : tie.Need-same-length
 same-length c = search needs
 
 returns : tie.Need-returns
-returns c = c .before .before .put .ensures ∙ ap (sets (c .before .before .before .before .before .before .before .before .before .before .args .out .now) (c .before .before .before .before .before .before .before .before .before .before .args .at)) (id-kept (c .before .before .before .before .before .before .before .before .before .before .args .digits .now) (c .before .before .before .before .before .before .before .before .before .before .args .h) (c .before .before .before .before .before .before .before .before .before .before .pre .0) (c .before .before .before .before .before .before .before .before .before .before .pre .1) (c .before .before .before .before .before .before .before .before .before .before .pre .2) (replicate {A = ℕ} 32 0) _ refl (c .before .before .before .before .before .before .id-of-hex .ensures .1) .1)
+returns c =
+    let args = c .before .before .before .before .before .before .before .before .before .before .args in
+    let pre = c .before .before .before .before .before .before .before .before .before .before .pre in
+    let id-of-hex = c .before .before .before .before .before .before .id-of-hex in
+    let put = c .before .before .put in
+    put .ensures ∙ ap (sets (args .out .now) (args .at)) (id-kept (args .digits .now) (args .h) (pre .0) (pre .1) (pre .2) (replicate {A = ℕ} 32 0) _ refl
+    (id-of-hex .ensures .1) .1)
 
 pub put-id-spec : {M : Type 1} → statement M
 put-id-spec =

@@ -26,16 +26,32 @@ place-of-requires : tie.Need-place-of-requires Inv-loop μ-loop
 place-of-requires c κs = search needs
 
 sub-write-one : tie.Need-sub-write-one Inv-loop μ-loop
-sub-write-one c = writing-place _ _ _ _ _ _ _ _ (c .before .before .before .before .loop .inv) (c .before .before .before .before .before .before .before .before .pre .1) (c .before .before .before .loop-test .taken) (c .before .before .before .before .before .before .before .before .pre .0 .0) (c .before .place-of .ensures) .0
+sub-write-one c =
+    let pre = c .before .before .before .before .before .before .before .before .pre in
+    let loop = c .before .before .before .before .loop in
+    let loop-test = c .before .before .before .loop-test in
+    let place-of = c .before .place-of in
+    writing-place _ _ _ _ _ _ _ _ (loop .inv) (pre .1) (loop-test .taken) (pre .0 .0) (place-of .ensures) .0
 
 part-write-one-start : tie.Need-part-write-one-start Inv-loop μ-loop
-part-write-one-start c = writing-place _ _ _ _ _ _ _ _ (c .before .before .before .before .loop .inv) (c .before .before .before .before .before .before .before .before .pre .1) (c .before .before .before .loop-test .taken) (c .before .before .before .before .before .before .before .before .pre .0 .0) (c .before .place-of .ensures) .0
+part-write-one-start c =
+    let pre = c .before .before .before .before .before .before .before .before .pre in
+    let loop = c .before .before .before .before .loop in
+    let loop-test = c .before .before .before .loop-test in
+    let place-of = c .before .place-of in
+    writing-place _ _ _ _ _ _ _ _ (loop .inv) (pre .1) (loop-test .taken) (pre .0 .0) (place-of .ensures) .0
 
 part-write-one-end : tie.Need-part-write-one-end Inv-loop μ-loop
 part-write-one-end c = search needs
 
 write-one-requires : tie.Need-write-one-requires Inv-loop μ-loop
-write-one-requires c κs = let w = writing-place _ _ _ _ _ _ _ _ (c .before .before .before .before .before .loop .inv) (c .before .before .before .before .before .before .before .before .before .pre .1) (c .before .before .before .before .loop-test .taken) (c .before .before .before .before .before .before .before .before .before .pre .0 .0) (c .before .before .place-of .ensures) in ((w .1, c .before .before .before .before .before .before .before .before .before .pre .0 .1), (omega (arith, c .before .before .before .before .before .loop .inv .few, c .before .before .before .before .before .loop .inv .inside, c .before .before .before .before .before .before .before .before .before .pre .0 .2), w .2))
+write-one-requires c κs =
+    let pre = c .before .before .before .before .before .before .before .before .before .pre in
+    let loop = c .before .before .before .before .before .loop in
+    let loop-test = c .before .before .before .before .loop-test in
+    let place-of = c .before .before .place-of in
+    let w = writing-place _ _ _ _ _ _ _ _ (loop .inv) (pre .1) (loop-test .taken) (pre .0 .0) (place-of .ensures) in
+    ((w .1, pre .0 .1), (omega (arith, loop .inv .few, loop .inv .inside, pre .0 .2), w .2))
 
 add-i : tie.Need-add-i Inv-loop μ-loop
 add-i c = search needs
@@ -44,7 +60,14 @@ loop-less : tie.Need-loop-less Inv-loop μ-loop
 loop-less c = search needs
 
 loop-again : tie.Need-loop-again Inv-loop μ-loop
-loop-again c = writing-turn _ _ _ _ _ _ _ _ (c .before .before .before .before .before .before .before .before .loop .inv) (c .before .before .before .before .before .before .before .before .before .before .before .before .pre .1) (c .before .before .before .before .before .before .before .loop-test .taken) (c .before .before .before .before .before .before .before .before .before .before .before .before .pre .0 .0) (c .before .before .before .before .before .place-of .ensures) _ _ (c .before .before .write-one .kept .0) (c .before .before .write-one .ensures .0) (c .before .before .write-one .ensures .1)
+loop-again c =
+    let pre = c .before .before .before .before .before .before .before .before .before .before .before .before .pre in
+    let loop = c .before .before .before .before .before .before .before .before .loop in
+    let loop-test = c .before .before .before .before .before .before .before .loop-test in
+    let place-of = c .before .before .before .before .before .place-of in
+    let write-one = c .before .before .write-one in
+    writing-turn _ _ _ _ _ _ _ _ (loop .inv) (pre .1) (loop-test .taken) (pre .0 .0) (place-of .ensures) _ _ (write-one .kept .0) (write-one .ensures .0)
+    (write-one .ensures .1)
 
 same-length : tie.Need-same-length Inv-loop μ-loop
 same-length c = c .before .loop .inv .size

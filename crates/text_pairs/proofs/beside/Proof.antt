@@ -10,10 +10,19 @@ same-before-requires : tie.Need-same-before-requires
 same-before-requires c κs = search needs
 
 returns : tie.Need-returns
-returns c = beside-before (sameRecord (c .before .before .before .before .args .text .now)) (c .before .before .before .before .args .list .now) (c .before .before .before .before .args .k) (c .before .before .before .before .args .x) (sym (c .before .same-before .ensures) ∙ c .if1 .taken)
+returns c =
+    let args = c .before .before .before .before .args in
+    let same-before = c .before .same-before in
+    let if1 = c .if1 in
+    beside-before (sameRecord (args .text .now)) (args .list .now) (args .k) (args .x) (sym (same-before .ensures) ∙ if1 .taken)
 
 returns-2 : tie.Need-returns-2
-returns-2 c = beside-end (sameRecord (c .before .before .before .before .before .args .text .now)) (c .before .before .before .before .before .args .list .now) (c .before .before .before .before .before .args .k) (c .before .before .before .before .before .args .x) (sym (c .before .before .same-before .ensures) ∙ c .before .if1 .left) (c .if2 .taken)
+returns-2 c =
+    let args = c .before .before .before .before .before .args in
+    let same-before = c .before .before .same-before in
+    let if1 = c .before .if1 in
+    let if2 = c .if2 in
+    beside-end (sameRecord (args .text .now)) (args .list .now) (args .k) (args .x) (sym (same-before .ensures) ∙ if1 .left) (if2 .taken)
 
 mul-if-same : tie.Need-mul-if-same
 mul-if-same c = search needs
@@ -25,7 +34,13 @@ if-same-requires : tie.Need-if-same-requires
 if-same-requires c κs = search needs
 
 returns-3 : tie.Need-returns-3
-returns-3 c = beside-some (sameRecord (c .before .before .before .before .before .before .before .args .text .now)) (c .before .before .before .before .before .before .before .args .list .now) (c .before .before .before .before .before .before .before .args .k) (c .before .before .before .before .before .before .before .args .x) (sym (c .before .before .before .before .same-before .ensures) ∙ c .before .before .before .if1 .left) (c .before .before .if2 .left) (c .if-same .ensures)
+returns-3 c =
+    let args = c .before .before .before .before .before .before .before .args in
+    let same-before = c .before .before .before .before .same-before in
+    let if1 = c .before .before .before .if1 in
+    let if2 = c .before .before .if2 in
+    let if-same = c .if-same in
+    beside-some (sameRecord (args .text .now)) (args .list .now) (args .k) (args .x) (sym (same-before .ensures) ∙ if1 .left) (if2 .left) (if-same .ensures)
 
 pub beside-spec : {M : Type 1} → statement M
 beside-spec =

@@ -8,7 +8,12 @@ use Rattle.keys.proofs.Keys.{key-strict}
 use Rattle.text_pairs.proofs.Laws.{count-first, count-next, above}
 
 returns : tie.Need-returns
-returns c = count-first (belowBy (keyAt (c .before .before .before .args .text .now) 9 0)) (key-strict _) (c .before .before .before .args .list .now) (c .before .before .before .pre .0) (c .before .before .before .args .x) (c .before .before .before .args .j) (c .before .before .before .pre .1 .0) (above (c .before .before .before .args .text .now) (c .before .before .before .args .x) (c .before .before .before .pre .1 .2) (c .before .before .before .pre .1 .1)) (c .if1 .taken)
+returns c =
+    let args = c .before .before .before .args in
+    let pre = c .before .before .before .pre in
+    let if1 = c .if1 in
+    count-first (belowBy (keyAt (args .text .now) 9 0)) (key-strict _) (args .list .now) (pre .0) (args .x) (args .j) (pre .1 .0)
+    (above (args .text .now) (args .x) (pre .1 .2) (pre .1 .1)) (if1 .taken)
 
 sub-y : tie.Need-sub-y
 sub-y c = search needs
@@ -23,7 +28,14 @@ below-requires : tie.Need-below-requires
 below-requires c κs = search needs
 
 returns-2 : tie.Need-returns-2
-returns-2 c = count-next (belowBy (keyAt (c .before .before .before .before .before .before .args .text .now) 9 0)) (key-strict _) (c .before .before .before .before .before .before .args .list .now) (c .before .before .before .before .before .before .pre .0) (c .before .before .before .before .before .before .args .x) (c .before .before .before .before .before .before .args .j) (c .before .before .before .before .before .before .pre .1 .0) (above (c .before .before .before .before .before .before .args .text .now) (c .before .before .before .before .before .before .args .x) (c .before .before .before .before .before .before .pre .1 .2) (c .before .before .before .before .before .before .pre .1 .1)) (c .before .before .before .if1 .left) (sym (c .before .below .ensures) ∙ c .if2 .taken)
+returns-2 c =
+    let args = c .before .before .before .before .before .before .args in
+    let pre = c .before .before .before .before .before .before .pre in
+    let if1 = c .before .before .before .if1 in
+    let below = c .before .below in
+    let if2 = c .if2 in
+    count-next (belowBy (keyAt (args .text .now) 9 0)) (key-strict _) (args .list .now) (pre .0) (args .x) (args .j) (pre .1 .0)
+    (above (args .text .now) (args .x) (pre .1 .2) (pre .1 .1)) (if1 .left) (sym (below .ensures) ∙ if2 .taken)
 
 search-requires : tie.Need-search-requires
 search-requires c κs = c .before .before .before .before .before .before .pre .0

@@ -20,10 +20,19 @@ same-length : tie.Need-same-length
 same-length c = search needs
 
 returns : tie.Need-returns
-returns c = (judged-order (c .before .before .before .before .before .before .before .before .before .before .args .text .now) _ _ (c .before .before .before .before .before .before .sort .ensures) (c .before .before .least-repeat .ensures) (c .before .if1 .taken) _ (c .repeat-verdict .ensures), c .before .before .before .before .before .before .sort .ensures)
+returns c =
+    let args = c .before .before .before .before .before .before .before .before .before .before .args in
+    let sort = c .before .before .before .before .before .before .sort in
+    let least-repeat = c .before .before .least-repeat in
+    let if1 = c .before .if1 in
+    let repeat-verdict = c .repeat-verdict in
+    (judged-order (args .text .now) _ _ (sort .ensures) (least-repeat .ensures) (if1 .taken) _ (repeat-verdict .ensures), sort .ensures)
 
 least-pair-requires : tie.Need-least-pair-requires
-least-pair-requires c κs = rw (c .before .before .before .before .before .before .sort .ensures) (sort-ascends (belowBy (keyAt (c .before .before .before .before .before .before .before .before .before .before .args .text .now) 9 0)) (key-strict _) (c .before .before .before .before .before .before .before .before .before .before .args .list .now))
+least-pair-requires c κs =
+    let args = c .before .before .before .before .before .before .before .before .before .before .args in
+    let sort = c .before .before .before .before .before .before .sort in
+    rw (sort .ensures) (sort-ascends (belowBy (keyAt (args .text .now) 9 0)) (key-strict _) (args .list .now))
 
 repeat-verdict-requires-2 : tie.Need-repeat-verdict-requires-2
 repeat-verdict-requires-2 c κs = search needs
@@ -32,7 +41,13 @@ same-length-2 : tie.Need-same-length-2
 same-length-2 c = search needs
 
 returns-2 : tie.Need-returns-2
-returns-2 c = (judged-pair (c .before .before .before .before .before .before .before .before .before .before .before .before .args .text .now) _ _ (c .before .before .before .before .before .before .before .before .sort .ensures) (c .before .before .before .before .least-repeat .ensures) (c .before .least-pair .ensures) (c .repeat-verdict2 .ensures), c .before .before .before .before .before .before .before .before .sort .ensures)
+returns-2 c =
+    let args = c .before .before .before .before .before .before .before .before .before .before .before .before .args in
+    let sort = c .before .before .before .before .before .before .before .before .sort in
+    let least-repeat = c .before .before .before .before .least-repeat in
+    let least-pair = c .before .least-pair in
+    let repeat-verdict2 = c .repeat-verdict2 in
+    (judged-pair (args .text .now) _ _ (sort .ensures) (least-repeat .ensures) (least-pair .ensures) (repeat-verdict2 .ensures), sort .ensures)
 
 pub judge-list-spec : {M : Type 1} → statement M
 judge-list-spec =

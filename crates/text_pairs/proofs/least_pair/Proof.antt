@@ -29,10 +29,19 @@ loop-less : tie.Need-loop-less Inv-loop μ-loop
 loop-less c = search needs
 
 loop-again : tie.Need-loop-again Inv-loop μ-loop
-loop-again c = c .before .before .loop .inv ∙ pair-on (belowBy (keyAt (c .before .before .before .before .before .args .text .now) 9 0)) (sameRecord (c .before .before .before .before .before .args .text .now)) (c .before .before .before .before .before .args .list .now) _ _ (c .before .loop-test .taken) (c .pair-here .ensures)
+loop-again c =
+    let args = c .before .before .before .before .before .args in
+    let loop = c .before .before .loop in
+    let loop-test = c .before .loop-test in
+    let pair-here = c .pair-here in
+    loop .inv ∙ pair-on (belowBy (keyAt (args .text .now) 9 0)) (sameRecord (args .text .now)) (args .list .now) _ _ (loop-test .taken) (pair-here .ensures)
 
 returns : tie.Need-returns Inv-loop μ-loop
-returns c = sym (c .before .loop .inv ∙ pair-end (belowBy (keyAt (c .before .before .before .before .args .text .now) 9 0)) (sameRecord (c .before .before .before .before .args .text .now)) (c .before .before .before .before .args .list .now) _ _ (c .loop-test .left))
+returns c =
+    let args = c .before .before .before .before .args in
+    let loop = c .before .loop in
+    let loop-test = c .loop-test in
+    sym (loop .inv ∙ pair-end (belowBy (keyAt (args .text .now) 9 0)) (sameRecord (args .text .now)) (args .list .now) _ _ (loop-test .left))
 
 pub least-pair-spec : {M : Type 1} → statement M
 least-pair-spec =

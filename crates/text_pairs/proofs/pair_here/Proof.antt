@@ -13,22 +13,43 @@ shared-slice-read-z : tie.Need-shared-slice-read-z
 shared-slice-read-z c = search needs
 
 returns : tie.Need-returns
-returns c = with-file (belowBy (keyAt (c .before .before .before .before .args .text .now) 9 0)) (sameRecord (c .before .before .before .before .args .text .now)) (c .before .before .before .before .args .list .now) _ (c .before .before .before .before .args .least) (c .if1 .taken)
+returns c =
+    let args = c .before .before .before .before .args in
+    let if1 = c .if1 in
+    with-file (belowBy (keyAt (args .text .now) 9 0)) (sameRecord (args .text .now)) (args .list .now) _ (args .least) (if1 .taken)
 
 sub-x : tie.Need-sub-x
 sub-x c = search needs
 
 file-place-requires : tie.Need-file-place-requires
-file-place-requires c κs = let w = folder-file _ (c .if1 .left) in (c .before .before .before .before .pre .0, (c .before .before .before .before .pre .1, w .0, w .1))
+file-place-requires c κs =
+    let pre = c .before .before .before .before .pre in
+    let if1 = c .if1 in
+    let w = folder-file _ (if1 .left) in
+    (pre .0, (pre .1, w .0, w .1))
 
 beside-requires : tie.Need-beside-requires
 beside-requires c κs = search needs
 
 returns-2 : tie.Need-returns-2
-returns-2 c = with-less (belowBy (keyAt (c .before .before .before .before .before .before .before .args .text .now) 9 0)) (sameRecord (c .before .before .before .before .before .before .before .args .text .now)) (c .before .before .before .before .before .before .before .args .list .now) _ (c .before .before .before .before .before .before .before .args .least) (c .before .before .before .if1 .left) (c .before .before .file-place .ensures) (c .before .beside .ensures) (c .if2 .taken)
+returns-2 c =
+    let args = c .before .before .before .before .before .before .before .args in
+    let if1 = c .before .before .before .if1 in
+    let file-place = c .before .before .file-place in
+    let beside = c .before .beside in
+    let if2 = c .if2 in
+    with-less (belowBy (keyAt (args .text .now) 9 0)) (sameRecord (args .text .now)) (args .list .now) _ (args .least) (if1 .left) (file-place .ensures)
+    (beside .ensures) (if2 .taken)
 
 returns-3 : tie.Need-returns-3
-returns-3 c = with-more (belowBy (keyAt (c .before .before .before .before .before .before .before .args .text .now) 9 0)) (sameRecord (c .before .before .before .before .before .before .before .args .text .now)) (c .before .before .before .before .before .before .before .args .list .now) _ (c .before .before .before .before .before .before .before .args .least) (c .before .before .before .if1 .left) (c .before .before .file-place .ensures) (c .before .beside .ensures) (c .if2 .left)
+returns-3 c =
+    let args = c .before .before .before .before .before .before .before .args in
+    let if1 = c .before .before .before .if1 in
+    let file-place = c .before .before .file-place in
+    let beside = c .before .beside in
+    let if2 = c .if2 in
+    with-more (belowBy (keyAt (args .text .now) 9 0)) (sameRecord (args .text .now)) (args .list .now) _ (args .least) (if1 .left) (file-place .ensures)
+    (beside .ensures) (if2 .left)
 
 pub pair-here-spec : {M : Type 1} → statement M
 pair-here-spec =

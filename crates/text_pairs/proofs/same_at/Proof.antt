@@ -6,7 +6,10 @@ use Rattle.text_repeats.specs.Least.{sameRecord}
 use Rattle.text_pairs.proofs.Laws.{same-out, same-in}
 
 returns : tie.Need-returns
-returns c = same-out (sameRecord (c .before .before .before .args .text .now)) (c .before .before .before .args .list .now) (c .before .before .before .args .i) (c .before .before .before .args .x) (c .if1 .taken)
+returns c =
+    let args = c .before .before .before .args in
+    let if1 = c .if1 in
+    same-out (sameRecord (args .text .now)) (args .list .now) (args .i) (args .x) (if1 .taken)
 
 mul-same-record : tie.Need-mul-same-record
 mul-same-record c = search needs
@@ -18,7 +21,11 @@ same-record-requires : tie.Need-same-record-requires
 same-record-requires c κs = search needs
 
 returns-2 : tie.Need-returns-2
-returns-2 c = same-in (sameRecord (c .before .before .before .before .before .args .text .now)) (c .before .before .before .before .before .args .list .now) (c .before .before .before .before .before .args .i) (c .before .before .before .before .before .args .x) (c .before .before .if1 .left) (c .same-record .ensures)
+returns-2 c =
+    let args = c .before .before .before .before .before .args in
+    let if1 = c .before .before .if1 in
+    let same-record = c .same-record in
+    same-in (sameRecord (args .text .now)) (args .list .now) (args .i) (args .x) (if1 .left) (same-record .ensures)
 
 pub same-at-spec : {M : Type 1} → statement M
 same-at-spec =

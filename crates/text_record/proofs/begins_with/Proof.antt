@@ -24,7 +24,12 @@ same-bytes-requires : tie.Need-same-bytes-requires
 same-bytes-requires c κs = search needs
 
 returns : tie.Need-returns
-returns c = begins-is (c .before .before .before .before .before .before .args .mode) (c .before .before .before .before .before .before .args .b .now) _ (c .before .before .before .before .front-of .ensures) (c .before .before .first .ensures) (c .same-bytes .ensures)
+returns c =
+    let args = c .before .before .before .before .before .before .args in
+    let front-of = c .before .before .before .before .front-of in
+    let first = c .before .before .first in
+    let same-bytes = c .same-bytes in
+    begins-is (args .mode) (args .b .now) _ (front-of .ensures) (first .ensures) (same-bytes .ensures)
 
 pub begins-with-spec : {M : Type 1} → statement M
 begins-with-spec =

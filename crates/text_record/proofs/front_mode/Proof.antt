@@ -15,13 +15,24 @@ begins-with-requires : tie.Need-begins-with-requires
 begins-with-requires c κs = search needs
 
 returns-2 : tie.Need-returns-2
-returns-2 c = mode-group (c .before .before .before .before .args .rules) (c .before .before .before .before .args .b .now) (c .before .before .if1 .left) (sym (c .before .begins-with .ensures) ∙ c .if2 .taken)
+returns-2 c =
+    let args = c .before .before .before .before .args in
+    let if1 = c .before .before .if1 in
+    let begins-with = c .before .begins-with in
+    let if2 = c .if2 in
+    mode-group (args .rules) (args .b .now) (if1 .left) (sym (begins-with .ensures) ∙ if2 .taken)
 
 written-front-requires-2 : tie.Need-written-front-requires-2
 written-front-requires-2 c κs = search needs
 
 returns-3 : tie.Need-returns-3
-returns-3 c = mode-other (c .before .before .before .before .before .args .rules) (c .before .before .before .before .before .args .b .now) (c .before .before .before .if1 .left) (sym (c .before .before .begins-with .ensures) ∙ c .before .if2 .left) (c .written-front2 .ensures)
+returns-3 c =
+    let args = c .before .before .before .before .before .args in
+    let if1 = c .before .before .before .if1 in
+    let begins-with = c .before .before .begins-with in
+    let if2 = c .before .if2 in
+    let written-front2 = c .written-front2 in
+    mode-other (args .rules) (args .b .now) (if1 .left) (sym (begins-with .ensures) ∙ if2 .left) (written-front2 .ensures)
 
 pub front-mode-spec : {M : Type 1} → statement M
 front-mode-spec =

@@ -43,10 +43,19 @@ loop-less : tie.Need-loop-less Inv-loop μ-loop
 loop-less c = search needs
 
 loop-again : tie.Need-loop-again Inv-loop μ-loop
-loop-again c = (omega arith, c .before .before .before .before .loop .inv .1 ∙ least-on (sameRecord (c .before .before .before .before .before .before .before .args .text .now)) (c .before .before .before .before .before .before .before .args .list .now) _ _ (c .before .before .before .before .loop .inv .0) (c .before .before .before .loop-test .taken) (c .repeat-here .ensures))
+loop-again c =
+    let args = c .before .before .before .before .before .before .before .args in
+    let loop = c .before .before .before .before .loop in
+    let loop-test = c .before .before .before .loop-test in
+    let repeat-here = c .repeat-here in
+    (omega arith, loop .inv .1 ∙ least-on (sameRecord (args .text .now)) (args .list .now) _ _ (loop .inv .0) (loop-test .taken) (repeat-here .ensures))
 
 returns : tie.Need-returns Inv-loop μ-loop
-returns c = sym (c .before .loop .inv .1 ∙ least-end (sameRecord (c .before .before .before .before .args .text .now)) (c .before .before .before .before .args .list .now) _ _ (c .before .loop .inv .0) (c .loop-test .left))
+returns c =
+    let args = c .before .before .before .before .args in
+    let loop = c .before .loop in
+    let loop-test = c .loop-test in
+    sym (loop .inv .1 ∙ least-end (sameRecord (args .text .now)) (args .list .now) _ _ (loop .inv .0) (loop-test .left))
 
 pub least-repeat-spec : {M : Type 1} → statement M
 least-repeat-spec =

@@ -11,16 +11,32 @@ find-nul-requires : tie.Need-find-nul-requires
 find-nul-requires c κs = search needs
 
 sub-result : tie.Need-sub-result
-sub-result c = name-ends (c .before .before .before .args .text .now) (c .before .before .before .args .x) _ _ (c .before .name-start .ensures) (c .find-nul .ensures) .0
+sub-result c =
+    let args = c .before .before .before .args in
+    let name-start = c .before .name-start in
+    let find-nul = c .find-nul in
+    name-ends (args .text .now) (args .x) _ _ (name-start .ensures) (find-nul .ensures) .0
 
 part-result-start : tie.Need-part-result-start
-part-result-start c = name-ends (c .before .before .before .args .text .now) (c .before .before .before .args .x) _ _ (c .before .name-start .ensures) (c .find-nul .ensures) .0
+part-result-start c =
+    let args = c .before .before .before .args in
+    let name-start = c .before .name-start in
+    let find-nul = c .find-nul in
+    name-ends (args .text .now) (args .x) _ _ (name-start .ensures) (find-nul .ensures) .0
 
 part-result-end : tie.Need-part-result-end
-part-result-end c = name-ends (c .before .before .before .args .text .now) (c .before .before .before .args .x) _ _ (c .before .name-start .ensures) (c .find-nul .ensures) .1
+part-result-end c =
+    let args = c .before .before .before .args in
+    let name-start = c .before .name-start in
+    let find-nul = c .find-nul in
+    name-ends (args .text .now) (args .x) _ _ (name-start .ensures) (find-nul .ensures) .1
 
 returns : tie.Need-returns
-returns c = name-is (c .before .before .before .before .args .text .now) (c .before .before .before .before .args .x) _ _ (c .before .before .name-start .ensures) (c .before .find-nul .ensures)
+returns c =
+    let args = c .before .before .before .before .args in
+    let name-start = c .before .before .name-start in
+    let find-nul = c .before .find-nul in
+    name-is (args .text .now) (args .x) _ _ (name-start .ensures) (find-nul .ensures)
 
 pub name-at-spec : {M : Type 1} → statement M
 name-at-spec =

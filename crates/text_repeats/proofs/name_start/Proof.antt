@@ -15,10 +15,18 @@ add-result : tie.Need-add-result
 add-result c = search needs
 
 returns-2 : tie.Need-returns-2
-returns-2 c = (omega arith, begin-found 9 (c .before .before .before .before .args .text .now) _ (λ e. omega arith) _ (c .before .find-byte .ensures) (c .if2 .taken))
+returns-2 c =
+    let args = c .before .before .before .before .args in
+    let find-byte = c .before .find-byte in
+    let if2 = c .if2 in
+    (omega arith, begin-found 9 (args .text .now) _ (λ e. omega arith) _ (find-byte .ensures) (if2 .taken))
 
 returns-3 : tie.Need-returns-3
-returns-3 c = (omega arith, begin-lost 9 (c .before .before .before .before .args .text .now) _ (λ e. omega arith) _ (c .before .find-byte .ensures) (c .if2 .left))
+returns-3 c =
+    let args = c .before .before .before .before .args in
+    let find-byte = c .before .find-byte in
+    let if2 = c .if2 in
+    (omega arith, begin-lost 9 (args .text .now) _ (λ e. omega arith) _ (find-byte .ensures) (if2 .left))
 
 pub name-start-spec : {M : Type 1} → statement M
 name-start-spec = tie.close (tie.spec returns find-byte-requires add-result returns-2 returns-3)

@@ -13,10 +13,19 @@ smaller-requires : tie.Need-smaller-requires
 smaller-requires c κs = search needs
 
 returns : tie.Need-returns
-returns c = least-here (sameRecord (c .before .before .before .before .args .text .now)) (c .before .before .before .before .args .x) (c .before .before .before .before .args .y) (c .before .before .before .before .args .least) (sym (c .before .before .same-record .ensures) ∙ c .before .if1 .taken) (c .smaller .ensures)
+returns c =
+    let args = c .before .before .before .before .args in
+    let same-record = c .before .before .same-record in
+    let if1 = c .before .if1 in
+    let smaller = c .smaller in
+    least-here (sameRecord (args .text .now)) (args .x) (args .y) (args .least) (sym (same-record .ensures) ∙ if1 .taken) (smaller .ensures)
 
 returns-2 : tie.Need-returns-2
-returns-2 c = least-not (sameRecord (c .before .before .before .args .text .now)) (c .before .before .before .args .x) (c .before .before .before .args .y) (c .before .before .before .args .least) (sym (c .before .same-record .ensures) ∙ c .if1 .left)
+returns-2 c =
+    let args = c .before .before .before .args in
+    let same-record = c .before .same-record in
+    let if1 = c .if1 in
+    least-not (sameRecord (args .text .now)) (args .x) (args .y) (args .least) (sym (same-record .ensures) ∙ if1 .left)
 
 pub repeat-here-spec : {M : Type 1} → statement M
 repeat-here-spec = tie.close (tie.spec same-record-requires smaller-requires returns returns-2)

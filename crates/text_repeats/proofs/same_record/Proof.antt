@@ -17,7 +17,13 @@ same-bytes-requires : tie.Need-same-bytes-requires
 same-bytes-requires c κs = search needs
 
 returns-2 : tie.Need-returns-2
-returns-2 c = record-names (c .before .before .before .before .before .args .text .now) (c .before .before .before .before .before .args .x) (c .before .before .before .before .before .args .y) (c .before .before .before .if1 .left) (c .before .before .name-at .ensures) (c .before .name-at2 .ensures) (c .same-bytes .ensures)
+returns-2 c =
+    let args = c .before .before .before .before .before .args in
+    let if1 = c .before .before .before .if1 in
+    let name-at = c .before .before .name-at in
+    let name-at2 = c .before .name-at2 in
+    let same-bytes = c .same-bytes in
+    record-names (args .text .now) (args .x) (args .y) (if1 .left) (name-at .ensures) (name-at2 .ensures) (same-bytes .ensures)
 
 pub same-record-spec : {M : Type 1} → statement M
 same-record-spec =

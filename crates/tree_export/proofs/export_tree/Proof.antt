@@ -2,9 +2,7 @@
 use borrow.Author.Needs.{needs}
 use Rattle.tree_export.proofs.export_tree.Statement.{statement}
 use Rattle.tree_export.proofs.export_tree.Tie as tie
-use native.Mathlib.Omega.{arith}
-use mathlib.Core.Path.{sym, ap, _∙_}
-use Rattle.ground.specs.declared.Answer.{Answer}
+use mathlib.Core.Path.{sym, _∙_}
 use Rattle.output.proofs.Laws.{refused-both, fitted-both}
 use Rattle.strict.proofs.Laws.{strict-refuses}
 use Rattle.tree_export.proofs.Laws.{export-shut, export-open, began, counted-length}
@@ -44,18 +42,24 @@ fit-requires c κs = search needs
 
 returns-2 : tie.Need-returns-2
 returns-2 c =
-    let measure = c .before .before .measure in
-    let fit = c .before .fit in
     let args = c .before .before .before .before .before .before .before .before .before .args in
     let longer = c .before .before .before .before .before .before .longer in
     let rule-bounds = c .before .before .before .before .before .rule-bounds in
     let enum-told = c .before .before .before .enum-told in
+    let measure = c .before .before .measure in
+    let fit = c .before .fit in
     let if1 = c .if1 in
     let f = rw (measure .ensures) at (fit .ensures) in
-    refused-both _ _ _ (export-open (args .rules) (args .h) (args .bytes .now) (length (args .out .now)) _ (longer .ensures) (sym (rule-bounds .ensures) ∙ enum-told .given .1) ∙ sym f) (if1 .taken)
+    refused-both _ _ _ (export-open (args .rules) (args .h) (args .bytes .now) (length (args .out .now)) _ (longer .ensures)
+    (sym (rule-bounds .ensures) ∙ enum-told .given .1) ∙ sym f) (if1 .taken)
 
 walk-requires : tie.Need-walk-requires
-walk-requires c κs = let b = began (c .before .before .before .before .before .before .before .before .before .before .args .rules) (c .before .before .before .before .before .before .before .before .before .before .args .h) (c .before .before .before .before .before .before .before .before .before .before .args .bytes .now) (length (c .before .before .before .before .before .before .before .before .before .before .args .out .now)) _ (c .before .before .before .before .before .before .before .longer .ensures) (sym (c .before .before .before .before .before .before .rule-bounds .ensures) ∙ c .before .before .before .before .enum-told .given .1) in
+walk-requires c κs =
+    let args = c .before .before .before .before .before .before .before .before .before .before .args in
+    let longer = c .before .before .before .before .before .before .before .longer in
+    let rule-bounds = c .before .before .before .before .before .before .rule-bounds in
+    let enum-told = c .before .before .before .before .enum-told in
+    let b = began (args .rules) (args .h) (args .bytes .now) (length (args .out .now)) _ (longer .ensures) (sym (rule-bounds .ensures) ∙ enum-told .given .1) in
     (b .1, b .2)
 
 same-length : tie.Need-same-length
@@ -63,16 +67,18 @@ same-length c = search needs
 
 returns-3 : tie.Need-returns-3
 returns-3 c =
-    let measure = c .before .before .before .before .before .before .measure in
-    let fit = c .before .before .before .before .before .fit in
     let args = c .before .before .before .before .before .before .before .before .before .before .before .before .before .args in
     let longer = c .before .before .before .before .before .before .before .before .before .before .longer in
     let rule-bounds = c .before .before .before .before .before .before .before .before .before .rule-bounds in
     let enum-told = c .before .before .before .before .before .before .before .enum-told in
+    let measure = c .before .before .before .before .before .before .measure in
+    let fit = c .before .before .before .before .before .fit in
     let if1 = c .before .before .before .before .if1 in
     let walk = c .before .before .walk in
     let f = rw (measure .ensures) at (fit .ensures) in
-    fitted-both _ _ _ (args .out .now) _ (export-open (args .rules) (args .h) (args .bytes .now) (length (args .out .now)) _ (longer .ensures) (sym (rule-bounds .ensures) ∙ enum-told .given .1) ∙ sym f) f (if1 .left) (λ z. counted-length (args .h) (args .bytes .now) (args .rules) z) (walk .ensures .stores)
+    fitted-both _ _ _ (args .out .now) _ (export-open (args .rules) (args .h) (args .bytes .now) (length (args .out .now)) _ (longer .ensures)
+    (sym (rule-bounds .ensures) ∙ enum-told .given .1) ∙ sym f) f (if1 .left) (λ z. counted-length (args .h) (args .bytes .now) (args .rules) z)
+    (walk .ensures .stores)
 
 pub export-tree-spec : {M : Type 1} → statement M
 export-tree-spec =

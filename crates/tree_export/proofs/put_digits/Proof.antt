@@ -20,25 +20,47 @@ hex-of-id-requires : tie.Need-hex-of-id-requires
 hex-of-id-requires c κs = search needs
 
 array-share-prefix-digits : tie.Need-array-share-prefix-digits
-array-share-prefix-digits c = omega (arith, digits-kept (c .before .before .before .before .before .before .args .id .now) (replicate {A = ℕ} 64 0) _ (c .before .before .before .before .before .before .pre .0) refl (c .before .before .hex-of-id .ensures .1), id-small _ (id-is _ (c .before .before .before .before .before .before .pre .0)) .1)
+array-share-prefix-digits c =
+    let args = c .before .before .before .before .before .before .args in
+    let pre = c .before .before .before .before .before .before .pre in
+    let hex-of-id = c .before .before .hex-of-id in
+    omega (arith, digits-kept (args .id .now) (replicate {A = ℕ} 64 0) _ (pre .0) refl (hex-of-id .ensures .1), id-small _ (id-is _ (pre .0)) .1)
 
 slice-aggregate-put-ended : tie.Need-slice-aggregate-put-ended
-slice-aggregate-put-ended c = sym (length-take-le _ _ (omega (arith, digits-kept (c .before .before .before .before .before .before .before .args .id .now) (replicate {A = ℕ} 64 0) _ (c .before .before .before .before .before .before .before .pre .0) refl (c .before .before .before .hex-of-id .ensures .1), id-small _ (id-is _ (c .before .before .before .before .before .before .before .pre .0)) .1)))
+slice-aggregate-put-ended c =
+    let args = c .before .before .before .before .before .before .before .args in
+    let pre = c .before .before .before .before .before .before .before .pre in
+    let hex-of-id = c .before .before .before .hex-of-id in
+    sym (length-take-le _ _ (omega (
+      arith,
+      digits-kept (args .id .now) (replicate {A = ℕ} 64 0) _ (pre .0) refl (hex-of-id .ensures .1),
+      id-small _
+          (id-is _ (pre .0)) .1,
+    )))
 
 put-ended-requires : tie.Need-put-ended-requires
 put-ended-requires c κs = search needs
 
 add-result : tie.Need-add-result
-add-result c = omega (arith, id-small _ (id-is _ (c .before .before .before .before .before .before .before .before .before .before .pre .0)) .1, c .before .before .before .before .before .before .before .before .before .before .pre .1)
+add-result c =
+    let pre = c .before .before .before .before .before .before .before .before .before .before .pre in
+    omega (arith, id-small _ (id-is _ (pre .0)) .1, pre .1)
 
 add-result-2 : tie.Need-add-result-2
-add-result-2 c = omega (arith, id-small _ (id-is _ (c .before .before .before .before .before .before .before .before .before .before .pre .0)) .1, c .before .before .before .before .before .before .before .before .before .before .pre .1)
+add-result-2 c =
+    let pre = c .before .before .before .before .before .before .before .before .before .before .pre in
+    omega (arith, id-small _ (id-is _ (pre .0)) .1, pre .1)
 
 same-length : tie.Need-same-length
 same-length c = search needs
 
 returns : tie.Need-returns
-returns c = digits-added (c .before .before .before .before .before .before .before .before .before .before .args .id .now) (replicate {A = ℕ} 64 0) _ _ _ (c .before .before .before .before .before .before .before .before .before .before .args .at) (c .before .before .before .before .before .before .before .before .before .before .pre .0) refl (c .before .before .before .before .before .before .hex-of-id .ensures .1) (c .before .before .put-ended .ensures)
+returns c =
+    let args = c .before .before .before .before .before .before .before .before .before .before .args in
+    let pre = c .before .before .before .before .before .before .before .before .before .before .pre in
+    let hex-of-id = c .before .before .before .before .before .before .hex-of-id in
+    let put-ended = c .before .before .put-ended in
+    digits-added (args .id .now) (replicate {A = ℕ} 64 0) _ _ _ (args .at) (pre .0) refl (hex-of-id .ensures .1) (put-ended .ensures)
 
 pub put-digits-spec : {M : Type 1} → statement M
 put-digits-spec =

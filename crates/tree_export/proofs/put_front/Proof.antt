@@ -21,13 +21,20 @@ put-requires : tie.Need-put-requires
 put-requires c κs = search needs
 
 add-result : tie.Need-add-result
-add-result c = omega (arith, front-is _ _ (c .before .before .before .before .before .before .front-of .ensures) .1, c .before .before .before .before .before .before .before .before .pre)
+add-result c =
+    let pre = c .before .before .before .before .before .before .before .before .pre in
+    let front-of = c .before .before .before .before .before .before .front-of in
+    omega (arith, front-is _ _ (front-of .ensures) .1, pre)
 
 same-length : tie.Need-same-length
 same-length c = search needs
 
 returns : tie.Need-returns
-returns c = front-added _ _ _ _ (c .before .before .before .before .before .before .before .before .args .at) (c .before .before .before .before .before .before .front-of .ensures) (c .before .before .put .ensures)
+returns c =
+    let args = c .before .before .before .before .before .before .before .before .args in
+    let front-of = c .before .before .before .before .before .before .front-of in
+    let put = c .before .before .put in
+    front-added _ _ _ _ (args .at) (front-of .ensures) (put .ensures)
 
 pub put-front-spec : {M : Type 1} → statement M
 put-front-spec =

@@ -21,7 +21,11 @@ part-put-digits-end : tie.Need-part-put-digits-end
 part-put-digits-end c = search needs
 
 put-digits-requires : tie.Need-put-digits-requires
-put-digits-requires c κs = (id-fits (c .before .before .before .before .before .before .before .before .args .h) (c .before .before .before .before .before .before .before .before .args .s .now) (c .before .before .before .before .before .before .before .before .args .e) (c .before .before .before .before .before .before .before .before .pre .0) (c .before .before .before .before .before .before .before .before .pre .1 .0), omega (arith, c .before .before .before .before .put-front .ensures .1, c .before .before .before .before .before .before .before .before .pre .1 .2))
+put-digits-requires c κs =
+    let args = c .before .before .before .before .before .before .before .before .args in
+    let pre = c .before .before .before .before .before .before .before .before .pre in
+    let put-front = c .before .before .before .before .put-front in
+    (id-fits (args .h) (args .s .now) (args .e) (pre .0) (pre .1 .0), omega (arith, put-front .ensures .1, pre .1 .2))
 
 sub-put-ended : tie.Need-sub-put-ended
 sub-put-ended c = search needs
@@ -39,16 +43,30 @@ sub-result : tie.Need-sub-result
 sub-result c = search needs
 
 add-result : tie.Need-add-result
-add-result c = omega (arith, c .before .before .before .before .before .before .before .before .before .before .before .before .put-front .ensures .1, c .before .before .before .before .before .before .before .put-digits .ensures .1, c .before .before .before .before .before .before .before .before .before .before .before .before .before .before .before .before .pre .1 .2, c .before .before .before .before .before .before .before .before .before .before .before .before .before .before .before .before .pre .1 .1, c .before .before .before .before .before .before .before .before .before .before .before .before .before .before .before .before .pre .0 .1)
+add-result c =
+    let pre = c .before .before .before .before .before .before .before .before .before .before .before .before .before .before .before .before .pre in
+    let put-front = c .before .before .before .before .before .before .before .before .before .before .before .before .put-front in
+    let put-digits = c .before .before .before .before .before .before .before .put-digits in
+    omega (arith, put-front .ensures .1, put-digits .ensures .1, pre .1 .2, pre .1 .1, pre .0 .1)
 
 add-result-2 : tie.Need-add-result-2
-add-result-2 c = omega (arith, c .before .before .before .before .before .before .before .before .before .before .before .before .put-front .ensures .1, c .before .before .before .before .before .before .before .put-digits .ensures .1, c .before .before .before .before .before .before .before .before .before .before .before .before .before .before .before .before .pre .1 .2, c .before .before .before .before .before .before .before .before .before .before .before .before .before .before .before .before .pre .1 .1, c .before .before .before .before .before .before .before .before .before .before .before .before .before .before .before .before .pre .0 .1)
+add-result-2 c =
+    let pre = c .before .before .before .before .before .before .before .before .before .before .before .before .before .before .before .before .pre in
+    let put-front = c .before .before .before .before .before .before .before .before .before .before .before .before .put-front in
+    let put-digits = c .before .before .before .before .before .before .before .put-digits in
+    omega (arith, put-front .ensures .1, put-digits .ensures .1, pre .1 .2, pre .1 .1, pre .0 .1)
 
 same-length : tie.Need-same-length
 same-length c = search needs
 
 returns : tie.Need-returns
-returns c = record-added (c .before .before .before .before .before .before .before .before .before .before .before .before .before .before .before .before .args .h) (c .before .before .before .before .before .before .before .before .before .before .before .before .before .before .before .before .args .s .now) (c .before .before .before .before .before .before .before .before .before .before .before .before .before .before .before .before .args .e) (c .before .before .before .before .before .before .before .before .before .before .before .before .before .before .before .before .pre .0) _ _ _ _ (c .before .before .before .before .before .before .before .before .before .before .before .before .before .before .before .before .args .at) _ _ (c .before .before .before .before .before .before .before .before .before .before .before .before .put-front .ensures) (c .before .before .before .before .before .before .before .put-digits .ensures) (c .before .before .before .before .before .before .before .before .before .before .before .before .before .before .before .before .pre .1 .1) (c .before .before .put-ended .ensures)
+returns c =
+    let args = c .before .before .before .before .before .before .before .before .before .before .before .before .before .before .before .before .args in
+    let pre = c .before .before .before .before .before .before .before .before .before .before .before .before .before .before .before .before .pre in
+    let put-front = c .before .before .before .before .before .before .before .before .before .before .before .before .put-front in
+    let put-digits = c .before .before .before .before .before .before .before .put-digits in
+    let put-ended = c .before .before .put-ended in
+    record-added (args .h) (args .s .now) (args .e) (pre .0) _ _ _ _ (args .at) _ _ (put-front .ensures) (put-digits .ensures) (pre .1 .1) (put-ended .ensures)
 
 pub put-record-spec : {M : Type 1} → statement M
 put-record-spec =

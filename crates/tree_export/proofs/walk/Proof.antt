@@ -31,8 +31,13 @@ enum-known-e : tie.Need-enum-known-e Inv-loop μ-loop
 enum-known-e c = search needs
 
 put-record-requires : tie.Need-put-record-requires Inv-loop μ-loop
-put-record-requires c κs = let l = c .before .before .before .before .before .before .before .before .loop .inv .0 in
-    (inside _ _ _ _ _ (sym (c .before .before .before .before .decode .ensures) ∙ c .before .before .e .given .1), (c .before .before .before .before .before .before .before .before .before .before .before .pre .0, c .before .before .before .before .before .before .before .before .before .before .before .pre .1, omega (arith, l .small, l .few)))
+put-record-requires c κs =
+    let pre = c .before .before .before .before .before .before .before .before .before .before .before .pre in
+    let loop = c .before .before .before .before .before .before .before .before .loop in
+    let decode = c .before .before .before .before .decode in
+    let e = c .before .before .e in
+    let l = loop .inv .0 in
+    (inside _ _ _ _ _ (sym (decode .ensures) ∙ e .given .1), (pre .0, pre .1, omega (arith, l .small, l .few)))
 
 add-n : tie.Need-add-n Inv-loop μ-loop
 add-n c = search needs
@@ -46,8 +51,11 @@ loop-again c =
     let if2 = c .before .before .before .before .before .before .before .before .if2 in
     let decode = c .before .before .before .before .before .before .before .decode in
     let e = c .before .before .before .before .before .e in
-    let put-record = c .before .before .put-record in
-    (walking-more _ _ _ _ _ _ _ (loop .inv .0) (if2 .left) _ _ (sym (decode .ensures) ∙ e .given .1) _ _ (put-record .ensures), put-record .kept .0 ∙ loop .inv .1)
+    let put-record = c .before .before .put-record in (
+      walking-more _ _ _ _ _ _ _ (loop .inv .0) (if2 .left) _ _ (sym (decode .ensures) ∙ e .given .1) _ _ (put-record .ensures),
+      put-record .kept .0 ∙
+          loop .inv .1,
+    )
 
 enum-told : tie.Need-enum-told Inv-loop μ-loop
 enum-told c = search needs

@@ -45,9 +45,11 @@ same-length-2 t c = c .before .before .before .import-lent .kept .1 .1 .1 .0
 
 returns-2 : (t : ℕ) → import-large-lts.Need-returns-2 (claims t) (import-large-at t) import-large.Post
 returns-2 t c =
+    let args = c .before .before .before .before .before .before .before .before .before .args in
     let pre = c .before .before .before .before .before .before .before .before .before .pre .1 in
-    let e = c .before .before .before .import-lent .ensures in
-    both-most (c .before .before .before .before .before .before .before .before .before .args .rules) (c .before .before .before .before .before .before .before .before .before .args .h) (c .before .before .before .before .before .before .before .before .before .args .text .now) (pre .0) (pre .1) (c .before .before .before .before .before .before .before .before .before .args .out .now) _ _ _ (e .0) (e .1 .0)
+    let import-lent = c .before .before .before .import-lent in
+    let e = import-lent .ensures in
+    both-most (args .rules) (args .h) (args .text .now) (pre .0) (pre .1) (args .out .now) _ _ _ (e .0) (e .1 .0)
     (room-for 1048576 mostRecords (omega arith))
 
 pub +import-large-spec : {M : Type 1} → statement M

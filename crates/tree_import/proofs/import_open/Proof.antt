@@ -12,7 +12,13 @@ same-length : tie.Need-same-length
 same-length c = search needs
 
 returns : tie.Need-returns
-returns c = both-other (c .before .before .before .before .before .before .before .before .args .rules) (c .before .before .before .before .before .before .before .before .args .h) (c .before .before .before .before .before .before .before .before .args .text .now) (c .before .before .before .before .before .before .before .before .pre .0) (c .before .before .before .before .before .before .before .before .pre .1) (c .before .before .before .before .before .before .before .before .args .out .now) 1024 _ _ (c .before .before .before .before .import-small .ensures .0) (c .before .before .before .before .import-small .ensures .1) (c .if1 .taken)
+returns c =
+    let args = c .before .before .before .before .before .before .before .before .args in
+    let pre = c .before .before .before .before .before .before .before .before .pre in
+    let import-small = c .before .before .before .before .import-small in
+    let if1 = c .if1 in
+    both-other (args .rules) (args .h) (args .text .now) (pre .0) (pre .1) (args .out .now) 1024 _ _ (import-small .ensures .0) (import-small .ensures .1)
+    (if1 .taken)
 
 import-large-requires : tie.Need-import-large-requires
 import-large-requires c κs = search needs
@@ -21,7 +27,14 @@ same-length-2 : tie.Need-same-length-2
 same-length-2 c = search needs
 
 returns-2 : tie.Need-returns-2
-returns-2 c = both-after (c .before .before .before .before .before .before .before .before .before .before .before .before .args .rules) (c .before .before .before .before .before .before .before .before .before .before .before .before .args .h) (c .before .before .before .before .before .before .before .before .before .before .before .before .args .text .now) (left-alone (c .before .before .before .before .before .before .before .before .before .before .before .before .args .rules) (c .before .before .before .before .before .before .before .before .before .before .before .before .args .h) (c .before .before .before .before .before .before .before .before .before .before .before .before .args .text .now) (c .before .before .before .before .before .before .before .before .before .before .before .before .pre .0) (c .before .before .before .before .before .before .before .before .before .before .before .before .pre .1) (c .before .before .before .before .before .before .before .before .before .before .before .before .args .out .now) 1024 _ _ (c .before .before .before .before .before .before .before .before .import-small .ensures .0) (c .before .before .before .before .before .before .before .before .import-small .ensures .1) (c .before .before .before .before .if1 .left)) _ _ (c .before .before .import-large .ensures)
+returns-2 c =
+    let args = c .before .before .before .before .before .before .before .before .before .before .before .before .args in
+    let pre = c .before .before .before .before .before .before .before .before .before .before .before .before .pre in
+    let import-small = c .before .before .before .before .before .before .before .before .import-small in
+    let if1 = c .before .before .before .before .if1 in
+    let import-large = c .before .before .import-large in
+    both-after (args .rules) (args .h) (args .text .now) (left-alone (args .rules) (args .h) (args .text .now) (pre .0) (pre .1) (args .out .now) 1024 _ _
+    (import-small .ensures .0) (import-small .ensures .1) (if1 .left)) _ _ (import-large .ensures)
 
 pub import-open-spec : {M : Type 1} → statement M
 import-open-spec =

@@ -21,16 +21,35 @@ enum-told : tie.Need-enum-told
 enum-told c = search needs
 
 import-open-requires : tie.Need-import-open-requires
-import-open-requires c κs = import-began (c .before .before .before .before .before .before .before .args .rules) (c .before .before .before .before .before .before .before .args .h) (c .before .before .before .before .before .before .before .args .text .now) (length (c .before .before .before .before .before .before .before .args .out .now)) _ (c .before .before .before .before .longer .ensures) (sym (c .before .before .before .rule-bounds .ensures) ∙ c .before .enum-told .given .1)
+import-open-requires c κs =
+    let args = c .before .before .before .before .before .before .before .args in
+    let longer = c .before .before .before .before .longer in
+    let rule-bounds = c .before .before .before .rule-bounds in
+    let enum-told = c .before .enum-told in
+    import-began (args .rules) (args .h) (args .text .now) (length (args .out .now)) _ (longer .ensures) (sym (rule-bounds .ensures) ∙ enum-told .given .1)
 
 returns : tie.Need-returns
-returns c = refused-both _ _ _ (import-shut (c .before .before .before .before .before .before .before .args .rules) (c .before .before .before .before .before .before .before .args .h) (c .before .before .before .before .before .before .before .args .text .now) (length (c .before .before .before .before .before .before .before .args .out .now)) _ (c .before .before .before .before .longer .ensures) _ (sym (c .before .before .before .rule-bounds .ensures) ∙ c .before .v .given .1)) (strict-refuses _ _ _ _ _ (sym (c .before .before .before .rule-bounds .ensures) ∙ c .before .v .given .1))
+returns c =
+    let args = c .before .before .before .before .before .before .before .args in
+    let longer = c .before .before .before .before .longer in
+    let rule-bounds = c .before .before .before .rule-bounds in
+    let v = c .before .v in
+    refused-both _ _ _ (import-shut (args .rules) (args .h) (args .text .now) (length (args .out .now)) _ (longer .ensures) _
+    (sym (rule-bounds .ensures) ∙ v .given .1)) (strict-refuses _ _ _ _ _ (sym (rule-bounds .ensures) ∙ v .given .1))
 
 same-length : tie.Need-same-length
 same-length c = search needs
 
 returns-2 : tie.Need-returns-2
-returns-2 c = both-whole (c .before .before .before .before .before .before .before .before .before .before .args .rules) (c .before .before .before .before .before .before .before .before .before .before .args .h) (c .before .before .before .before .before .before .before .before .before .before .args .text .now) (c .before .before .before .before .before .before .before .before .before .before .args .out .now) _ _ (import-open (c .before .before .before .before .before .before .before .before .before .before .args .rules) (c .before .before .before .before .before .before .before .before .before .before .args .h) (c .before .before .before .before .before .before .before .before .before .before .args .text .now) (length (c .before .before .before .before .before .before .before .before .before .before .args .out .now)) _ (c .before .before .before .before .before .before .before .longer .ensures) (sym (c .before .before .before .before .before .before .rule-bounds .ensures) ∙ c .before .before .before .before .enum-told .given .1)) (c .before .before .import-open .ensures)
+returns-2 c =
+    let args = c .before .before .before .before .before .before .before .before .before .before .args in
+    let longer = c .before .before .before .before .before .before .before .longer in
+    let rule-bounds = c .before .before .before .before .before .before .rule-bounds in
+    let enum-told = c .before .before .before .before .enum-told in
+    let opened = c .before .before .import-open in
+    both-whole (args .rules) (args .h) (args .text .now) (args .out .now) _ _
+    (import-open (args .rules) (args .h) (args .text .now) (length (args .out .now)) _ (longer .ensures) (sym (rule-bounds .ensures) ∙ enum-told .given .1))
+    (opened .ensures)
 
 pub import-tree-spec : {M : Type 1} → statement M
 import-tree-spec =

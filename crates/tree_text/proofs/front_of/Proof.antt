@@ -55,7 +55,8 @@ returns-2 c =
     let if1 = c .before .before .if1 in
     let is-commit = c .before .is-commit in
     let if2 = c .if2 in
-    front-commit _ (digit .ensures, digit2 .ensures, digit3 .ensures, digit4 .ensures, digit5 .ensures, digit6 .ensures) (is-tree .ensures) (if1 .left) (is-commit .ensures) (if2 .taken)
+    front-commit _ (digit .ensures, digit2 .ensures, digit3 .ensures, digit4 .ensures, digit5 .ensures, digit6 .ensures) (is-tree .ensures) (if1 .left)
+    (is-commit .ensures) (if2 .taken)
 
 returns-3 : tie.Need-returns-3
 returns-3 c =
@@ -69,7 +70,8 @@ returns-3 c =
     let if1 = c .before .before .if1 in
     let is-commit = c .before .is-commit in
     let if2 = c .if2 in
-    front-blob _ (digit .ensures, digit2 .ensures, digit3 .ensures, digit4 .ensures, digit5 .ensures, digit6 .ensures) (is-tree .ensures) (if1 .left) (is-commit .ensures) (if2 .left)
+    front-blob _ (digit .ensures, digit2 .ensures, digit3 .ensures, digit4 .ensures, digit5 .ensures, digit6 .ensures) (is-tree .ensures) (if1 .left)
+    (is-commit .ensures) (if2 .left)
 
 pub front-of-spec : {M : Type 1} → statement M
 front-of-spec =

@@ -42,14 +42,21 @@ loop-less c = search needs
 
 loop-again : tie.Need-loop-again Inv-loop μ-loop
 loop-again c =
+    let write-entry = c .before .before .write-entry in
     let at-entry-at = c .before .before .before .before in
     let at-loop = at-entry-at .before .before in
     let at-pre = at-loop .before .before .before .before in
     let l = at-loop .loop in
     let s = step _ _ _ _ _ _ (omega arith) (at-entry-at .entry-at .ensures) _ (l .inv .3) (at-pre .pre .0) in
-    let p = c .before .before .write-entry .ensures .0 in
-    let q = c .before .before .write-entry .ensures .1 in
-    (omega arith, refl, c .before .before .write-entry .kept .0 ∙ l .inv .2, rw p (s .2), l .inv .4 ∙ written-next _ _ _ (l .i) (l .at) _ (omega arith) (at-entry-at .entry-at .ensures) (l .out) (s .0) ∙ rw (p, q))
+    let p = write-entry .ensures .0 in
+    let q = write-entry .ensures .1 in (
+      omega arith,
+      refl,
+      write-entry .kept .0 ∙ l .inv .2,
+      rw p (s .2),
+      l .inv .4 ∙ written-next _ _ _ (l .i) (l .at) _ (omega arith)
+          (at-entry-at .entry-at .ensures) (l .out) (s .0) ∙ rw (p, q),
+    )
 
 same-length : tie.Need-same-length Inv-loop μ-loop
 same-length c = c .before .loop .inv .2

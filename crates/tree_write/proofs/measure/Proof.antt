@@ -30,17 +30,28 @@ refuse-requires c κs = search needs
 returns : tie.Need-returns Inv-loop μ-loop
 returns c =
     let loop = c .before .before .before .before .loop in
-    sym (loop .inv .3 ∙ measured-bad _ _ _ _ _ _ (omega arith) (c .before .before .entry-at .ensures) _ (λ z. c .if1 .taken (c .before .refuse .ensures ∙ z)) ∙ ap (λ (n : ℕ). refused (verdict n (loop .i))) (sym (c .before .refuse .ensures)))
+    let entry-at = c .before .before .entry-at in
+    let refuse = c .before .refuse in
+    let if1 = c .if1 in
+    sym (loop .inv .3 ∙ measured-bad _ _ _ _ _ _ (omega arith) (entry-at .ensures) _ (λ z. if1 .taken (refuse .ensures ∙ z)) ∙ ap
+    (λ (n : ℕ). refused (verdict n (loop .i))) (sym (refuse .ensures)))
 
 entry-size-requires : tie.Need-entry-size-requires Inv-loop μ-loop
 entry-size-requires c κs = omega (arith, well-parts _ _ _ (refusal-well _ _ _ _ (sym (c .before .refuse .ensures) ∙ c .if1 .left)))
 
 add-sum : tie.Need-add-sum Inv-loop μ-loop
 add-sum c =
+    let refuse = c .before .before .refuse in
+    let if1 = c .before .if1 in
     let at-entry-at = c .before .before .before in
     let at-args = at-entry-at .before .before .before .before .before in
     let a = at-args .args in
-    omega (arith, records-many (a .records .now), size-le (a .h) (a .bytes .now) (at-entry-at .entry-at .result) (refusal-well _ _ _ _ (sym (c .before .before .refuse .ensures) ∙ c .before .if1 .left)) (at-args .pre .1) (at-args .pre .0))
+    omega (
+      arith,
+      records-many (a .records .now),
+      size-le (a .h) (a .bytes .now) (at-entry-at .entry-at .result)
+          (refusal-well _ _ _ _ (sym (refuse .ensures) ∙ if1 .left)) (at-args .pre .1) (at-args .pre .0),
+    )
 
 add-i : tie.Need-add-i Inv-loop μ-loop
 add-i c = search needs
@@ -50,14 +61,22 @@ loop-less c = search needs
 
 loop-again : tie.Need-loop-again Inv-loop μ-loop
 loop-again c =
+    let refuse = c .before .before .refuse in
+    let if1 = c .before .if1 in
+    let entry-size = c .entry-size in
     let at-entry-at = c .before .before .before in
     let at-loop = at-entry-at .before .before in
     let at-args = at-loop .before .before .before in
     let a = at-args .args in
     let e = at-entry-at .entry-at .result in
-    let z : refusal (a .writing) (a .h) (a .bytes .now) e ≡ 0 = sym (c .before .before .refuse .ensures) ∙ c .before .if1 .left in
-    let l = at-loop .loop in
-    (omega arith, refl, omega (arith, size-le (a .h) (a .bytes .now) e (refusal-well _ _ _ _ z) (at-args .pre .1) (at-args .pre .0)), l .inv .3 ∙ measured-next _ _ _ _ _ _ (omega arith) (at-entry-at .entry-at .ensures) _ z ∙ rw (c .entry-size .ensures))
+    let z : refusal (a .writing) (a .h) (a .bytes .now) e ≡ 0 = sym (refuse .ensures) ∙ if1 .left in
+    let l = at-loop .loop in (
+      omega arith,
+      refl,
+      omega (arith, size-le (a .h) (a .bytes .now) e (refusal-well _ _ _ _ z) (at-args .pre .1) (at-args .pre .0)),
+      l .inv .3 ∙ measured-next
+          _ _ _ _ _ _ (omega arith) (at-entry-at .entry-at .ensures) _ z ∙ rw (entry-size .ensures),
+    )
 
 returns-2 : tie.Need-returns-2 Inv-loop μ-loop
 returns-2 c = sym (c .before .loop .inv .3 ∙ measured-end _ _ _ _ _ _ (omega arith))

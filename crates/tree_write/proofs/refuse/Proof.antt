@@ -32,18 +32,24 @@ sub-if3 c =
 returns : tie.Need-returns
 unfolding nameOf
 returns c =
+    let find-nul = c .before .find-nul in
+    let if3 = c .if3 in
     let at-if2 = c .before .before .before in
     let at-if1 = at-if2 .before in
     let at-well-formed = at-if1 .before in
-    rw (at-if2 .if2 .taken) (sym (no-nul _ _ _ (sym (at-well-formed .well-formed .ensures) ∙ at-if1 .if1 .taken) (sym (c .before .find-nul .ensures ∙ place-count _ _) ∙ c .if3 .taken)))
+    rw (at-if2 .if2 .taken) (sym (no-nul _ _ _ (sym (at-well-formed .well-formed .ensures) ∙ at-if1 .if1 .taken)
+    (sym (find-nul .ensures ∙ place-count _ _) ∙ if3 .taken)))
 
 returns-2 : tie.Need-returns-2
 unfolding nameOf
 returns-2 c =
+    let find-nul = c .before .find-nul in
+    let if3 = c .if3 in
     let at-if2 = c .before .before .before in
     let at-if1 = at-if2 .before in
     let at-well-formed = at-if1 .before in
-    rw (at-if2 .if2 .taken) (sym (nul-inside _ _ _ (sym (at-well-formed .well-formed .ensures) ∙ at-if1 .if1 .taken) (λ q. c .if3 .left (c .before .find-nul .ensures ∙ place-count _ _ ∙ q))))
+    rw (at-if2 .if2 .taken) (sym (nul-inside _ _ _ (sym (at-well-formed .well-formed .ensures) ∙ at-if1 .if1 .taken)
+    (λ q. if3 .left (find-nul .ensures ∙ place-count _ _ ∙ q))))
 
 returns-3 : tie.Need-returns-3
 returns-3 c = rw (c .if2 .left) (sym (refusal-size _ _ _ (sym (c .before .before .well-formed .ensures) ∙ c .before .if1 .taken)))

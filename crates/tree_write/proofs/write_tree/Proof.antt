@@ -29,21 +29,27 @@ enum-told c = search needs
 
 measure-requires : tie.Need-measure-requires
 measure-requires c κs =
+    let bounds = c .before .before .bounds in
+    let enum-told = c .enum-told in
     let at-longer = c .before .before .before in
     let at-args = at-longer .before .before .before .before in
     let a = at-args .args in
-    within (a .h) (a .bytes .now) (a .records .now) _ (omega (arith, at-longer .longer .ensures)) (sym (c .before .before .bounds .ensures) ∙ c .enum-told .given .1)
+    within (a .h) (a .bytes .now) (a .records .now) _ (omega (arith, at-longer .longer .ensures)) (sym (bounds .ensures) ∙ enum-told .given .1)
 
 fit-requires : tie.Need-fit-requires
 fit-requires c κs = search needs
 
 returns-2 : tie.Need-returns-2
 returns-2 c =
+    let measure = c .before .before .measure in
+    let fit = c .before .fit in
+    let if1 = c .if1 in
     let at-enum-told = c .before .before .before in
     let at-bounds = at-enum-told .before .before in
     let at-longer = at-bounds .before in
-    let f = rw (c .before .before .measure .ensures) at (c .before .fit .ensures) in
-    refused-both _ _ _ (answer-open _ _ _ _ _ (at-longer .longer .ensures) (sym (at-bounds .bounds .ensures) ∙ at-enum-told .enum-told .given .1) ∙ sym f) (c .if1 .taken)
+    let f = rw (measure .ensures) at (fit .ensures) in
+    refused-both _ _ _ (answer-open _ _ _ _ _ (at-longer .longer .ensures) (sym (at-bounds .bounds .ensures) ∙ at-enum-told .enum-told .given .1) ∙ sym f)
+    (if1 .taken)
 
 fill-requires : tie.Need-fill-requires
 fill-requires c κs =
@@ -56,6 +62,7 @@ same-length c = search needs
 
 returns-3 : tie.Need-returns-3
 returns-3 c =
+    let fill = c .before .before .fill in
     let at-if1 = c .before .before .before .before in
     let at-fit = at-if1 .before in
     let at-measure = at-fit .before in
@@ -65,8 +72,9 @@ returns-3 c =
     let at-args = at-longer .before .before .before .before in
     let a = at-args .args in
     let f = rw (at-measure .measure .ensures) at (at-fit .fit .ensures) in
-    fitted-both _ _ _ (a .out .now) _ (answer-open _ _ _ _ _ (at-longer .longer .ensures) (sym (at-bounds .bounds .ensures) ∙ at-enum-told .enum-told .given .1) ∙ sym f) f (at-if1 .if1 .left)
-    (λ z. measured-length true (a .h) (a .bytes .now) 0 0 (recordsOf (a .records .now)) z ∙ omega arith) (c .before .before .fill .ensures)
+    fitted-both _ _ _ (a .out .now) _ (answer-open _ _ _ _ _ (at-longer .longer .ensures) (sym (at-bounds .bounds .ensures) ∙ at-enum-told .enum-told .given .1)
+    ∙ sym f) f (at-if1 .if1 .left)
+    (λ z. measured-length true (a .h) (a .bytes .now) 0 0 (recordsOf (a .records .now)) z ∙ omega arith) (fill .ensures)
 
 pub write-tree-spec : {M : Type 1} → statement M
 write-tree-spec =

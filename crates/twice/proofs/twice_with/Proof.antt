@@ -14,7 +14,12 @@ same-length : tie.Need-same-length
 same-length c = search needs
 
 returns : tie.Need-returns
-returns c = twice-is (c .before .before .before .before .before .before .before .before .args .s .now) (c .before .before .before .before .before .before .before .before .args .k) (c .before .before .before .before .before .before .before .before .args .list .now) _ _ _ (c .before .before .before .before .before .before .before .before .pre .0) (c .before .before .before .before .before .before .before .before .pre .1 .0) (c .before .before .before .before .before .before .before .before .pre .1 .1) (c .before .before .before .before .make-index .ensures) (c .neighbours .ensures)
+returns c =
+    let args = c .before .before .before .before .before .before .before .before .args in
+    let pre = c .before .before .before .before .before .before .before .before .pre in
+    let make-index = c .before .before .before .before .make-index in
+    let neighbours = c .neighbours in
+    twice-is (args .s .now) (args .k) (args .list .now) _ _ _ (pre .0) (pre .1 .0) (pre .1 .1) (make-index .ensures) (neighbours .ensures)
 
 pub twice-with-spec : {M : Type 1} → statement M
 twice-with-spec = tie.close (tie.spec make-index-requires neighbours-requires same-length returns)

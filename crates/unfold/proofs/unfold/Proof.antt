@@ -62,21 +62,23 @@ same-length c = search needs
 
 returns-2 : tie.Need-returns-2
 returns-2 c =
-    let if3 = c .before .before .before .before .if3 in
-    let plain-len = c .before .before .before .before .before .plain-len in
-    let if2 = c .before .before .before .before .before .before .if2 in
-    let has-form = c .before .before .before .before .before .before .before .has-form in
-    let if1 = c .before .before .before .before .before .before .before .before .before .if1 in
-    let well-formed = c .before .before .before .before .before .before .before .before .before .before .well-formed in
-    let enum-told = c .before .before .before .before .before .before .before .before .before .before .before .enum-told in
-    let sizes = c .before .before .before .before .before .before .before .before .before .before .before .before .before .sizes in
+    let args = c .before .before .before .before .before .before .before .before .before .before .before .before .before .before .before .before
+    .before .args in
     let longer = c .before .before .before .before .before .before .before .before .before .before .before .before .before .before .longer in
-    let args = c .before .before .before .before .before .before .before .before .before .before .before .before .before .before .before .before .before .args in
+    let sizes = c .before .before .before .before .before .before .before .before .before .before .before .before .before .sizes in
+    let enum-told = c .before .before .before .before .before .before .before .before .before .before .before .enum-told in
+    let well-formed = c .before .before .before .before .before .before .before .before .before .before .well-formed in
+    let if1 = c .before .before .before .before .before .before .before .before .before .if1 in
+    let has-form = c .before .before .before .before .before .before .before .has-form in
+    let if2 = c .before .before .before .before .before .before .if2 in
+    let plain-len = c .before .before .before .before .before .plain-len in
+    let if3 = c .before .before .before .before .if3 in
+    let plain-into = c .before .before .plain-into in
     let g = told (λ (k : ℕ). sizeGate k 0) (longer .ensures) (sizes .ensures) (enum-told .given .1) in
     let p = plan-stores (args .bytes .now) (args .x) (length (args .out .now)) g (sym (well-formed .ensures) ∙ if1 .taken)
     (sym (has-form .ensures) ∙ if2 .taken) _ (plain-len .ensures) (if3 .left) in (
       sym (answer-stores _ (args .out .now) _ p _ (plain-len .ensures)),
-      c .before .before .plain-into .ensures ∙ sym
+      plain-into .ensures ∙ sym
           (after-stores _ (args .out .now) _ p (omega (arith, plain-len .ensures, if3 .left))),
     )
 

@@ -72,7 +72,12 @@ abbrev compare-entries-μ-loop : compare-entries-lts.MeasureT-loop
 compare-entries-μ-loop bundle k depth items₀ paths₀ ps pl index l₀ r₀ m₀ items paths l r m = l .left + r .left
 
 compare-entries-loop-holds : (t : ℕ) → compare-entries-lts.Need-loop-holds (compare-entries-claims t) (compare-entries-at t) compare-entries.Post compare-entries-Inv-loop compare-entries-μ-loop
-compare-entries-loop-holds t c = turning.going-start (compareFolders (foldersIn (c .before .before .before .before .args .k) (c .before .before .before .before .args .bundle .now) (c .before .before .before .before .args .index .now)) (c .before .before .before .before .args .depth)) (c .before .before .before .before .args .k .h) (c .before .before .before .before .args .bundle .now) (c .before .before .before .before .args .ps) (c .before .before .before .before .args .pl) (c .before .before .before .before .args .from) (c .before .before .before .before .args .other) (c .before .before .before .before .args .start) (c .before .before .before .before .args .items .now) (c .before .before .before .before .args .paths .now) (c .before .before .before .before .pre .1 .1 .1 .1 .1 .0) (c .before .before .before .before .pre .1 .1 .1 .1 .1 .1) (c .before .before .before .before .pre .1 .1 .1 .1 .0)
+compare-entries-loop-holds t c =
+    let args = c .before .before .before .before .args in
+    let pre = c .before .before .before .before .pre in
+    turning.going-start (compareFolders (foldersIn (args .k) (args .bundle .now) (args .index .now)) (args .depth)) (args .k .h) (args .bundle .now) (args .ps)
+    (args .pl) (args .from) (args .other) (args .start) (args .items .now) (args .paths .now) (pre .1 .1 .1 .1 .1 .0) (pre .1 .1 .1 .1 .1 .1)
+    (pre .1 .1 .1 .1 .0)
 
 compare-entries-merge-step-requires : (t : ℕ) → compare-entries-lts.Need-merge-step-requires (compare-entries-claims t) (compare-entries-at t) compare-entries.Post compare-entries-Inv-loop compare-entries-μ-loop
 compare-entries-merge-step-requires t c κs = search needs
@@ -87,52 +92,191 @@ compare-entries-same-length-2 : (t : ℕ) → compare-entries-lts.Need-same-leng
 compare-entries-same-length-2 t c = c .before .before .before .loop .inv .paths-kept
 
 compare-entries-returns : (t : ℕ) → compare-entries-lts.Need-returns (compare-entries-claims t) (compare-entries-at t) compare-entries.Post compare-entries-Inv-loop compare-entries-μ-loop
-compare-entries-returns t c = (turning.going-done (c .before .before .before .loop .inv) (c .before .before .merge-step .result) (c .before .before .merge-step .ensures) (c .enum-told .given .1), c .before .before .before .loop .inv .small)
+compare-entries-returns t c =
+    let loop = c .before .before .before .loop in
+    let merge-step = c .before .before .merge-step in
+    let enum-told = c .enum-told in
+    (turning.going-done (loop .inv) (merge-step .result) (merge-step .ensures) (enum-told .given .1), loop .inv .small)
 
 compare-entries-enum-known-next : (t : ℕ) → compare-entries-lts.Need-enum-known-next (compare-entries-claims t) (compare-entries-at t) compare-entries.Post compare-entries-Inv-loop compare-entries-μ-loop
 compare-entries-enum-known-next t c = search needs
 
 compare-entries-loop-less : (t : ℕ) → compare-entries-lts.Need-loop-less (compare-entries-claims t) (compare-entries-at t) compare-entries.Post compare-entries-Inv-loop compare-entries-μ-loop
-compare-entries-loop-less t c = omega (arith, (merging.same-leads (c .before .before .before .before .before .before .before .before .before .args .k .h) (c .before .before .before .before .before .before .before .before .before .args .bundle .now) (c .before .before .before .before .loop .l) (c .before .before .before .before .loop .r) (c .before .before .before .before .loop .inv .left-in) (c .before .before .before .before .loop .inv .right-in) (c .before .before .before .merge-step .result) (c .before .before .before .merge-step .ensures) (c .before .next .given .0 .0) (c .before .next .given .0 .1 .0) (c .before .next .given .1)) .2)
+compare-entries-loop-less t c =
+    let args = c .before .before .before .before .before .before .before .before .before .args in
+    let loop = c .before .before .before .before .loop in
+    let merge-step = c .before .before .before .merge-step in
+    let next = c .before .next in
+    omega (
+      arith,
+      (merging.same-leads (args .k .h) (args .bundle .now) (loop .l) (loop .r) (loop .inv .left-in) (loop .inv .right-in) (merge-step .result)
+          (merge-step .ensures) (next .given .0 .0) (next .given .0 .1 .0) (next .given .1)) .2,
+    )
 
 compare-entries-loop-again : (t : ℕ) → compare-entries-lts.Need-loop-again (compare-entries-claims t) (compare-entries-at t) compare-entries.Post compare-entries-Inv-loop compare-entries-μ-loop
-compare-entries-loop-again t c = turning.going-same (c .before .before .before .before .loop .inv) (c .before .before .before .merge-step .result) (c .before .before .before .merge-step .ensures) (c .before .next .given .0 .0) (c .before .next .given .0 .1 .0) (c .before .next .given .1)
+compare-entries-loop-again t c =
+    let loop = c .before .before .before .before .loop in
+    let merge-step = c .before .before .before .merge-step in
+    let next = c .before .next in
+    turning.going-same (loop .inv) (merge-step .result) (merge-step .ensures) (next .given .0 .0) (next .given .0 .1 .0) (next .given .1)
 
 compare-entries-enum-known-c : (t : ℕ) → compare-entries-lts.Need-enum-known-c (compare-entries-claims t) (compare-entries-at t) compare-entries.Post compare-entries-Inv-loop compare-entries-μ-loop
 compare-entries-enum-known-c t c = search needs
 
 compare-entries-add-requires : (t : ℕ) → compare-entries-lts.Need-add-requires (compare-entries-claims t) (compare-entries-at t) compare-entries.Post compare-entries-Inv-loop compare-entries-μ-loop
-compare-entries-add-requires t c κs = (c .before .before .before .before .before .before .before .before .before .before .before .pre .1 .0, (omega (arith, c .before .before .before .before .before .before .before .before .before .before .before .pre .1 .1 .0, c .before .before .before .before .before .before .loop .inv .onward), (turning.short-path (c .before .before .before .before .before .before .before .before .before .before .before .args .pl) (c .before .before .before .before .before .before .before .before .before .before .before .args .depth) (c .before .before .before .before .before .before .before .before .before .before .before .pre .1 .1 .1 .0), (c .before .before .before .before .before .before .loop .inv .small, (merging.differs-leads (c .before .before .before .before .before .before .before .before .before .before .before .args .k .h) (c .before .before .before .before .before .before .before .before .before .before .before .args .bundle .now) (c .before .before .before .before .before .before .loop .l) (c .before .before .before .before .before .before .loop .r) (c .before .before .before .before .before .before .loop .inv .left-in) (c .before .before .before .before .before .before .loop .inv .right-in) (c .before .before .before .before .before .merge-step .result) (c .before .before .before .before .before .merge-step .ensures) (c .before .before .before .c .given .0 .0) (c .before .before .before .c .given .0 .1 .0) (c .before .before .before .c .given .0 .1 .1 .0) (c .before .before .before .c .given .1)) .0))))
+compare-entries-add-requires t c κs =
+    let args = c .before .before .before .before .before .before .before .before .before .before .before .args in
+    let pre = c .before .before .before .before .before .before .before .before .before .before .before .pre in
+    let loop = c .before .before .before .before .before .before .loop in
+    let merge-step = c .before .before .before .before .before .merge-step in
+    let change = c .before .before .before .c in (
+      pre .1 .0,
+      (
+        omega (arith, pre .1 .1 .0, loop .inv .onward),
+        (
+          turning.short-path (args .pl) (args .depth) (pre .1 .1 .1 .0),
+          (
+            loop .inv .small,
+            (merging.differs-leads (args .k .h) (args .bundle .now) (loop .l) (loop .r) (loop .inv .left-in) (loop .inv .right-in)
+                (merge-step .result) (merge-step .ensures) (change .given .0 .0) (change .given .0 .1 .0) (change .given .0 .1 .1 .0) (change .given .1)) .0,
+          ),
+        ),
+      ),
+    )
 
 compare-entries-same-length-3 : (t : ℕ) → compare-entries-lts.Need-same-length-3 (compare-entries-claims t) (compare-entries-at t) compare-entries.Post compare-entries-Inv-loop compare-entries-μ-loop
-compare-entries-same-length-3 t c = c .before .before .before .before .before .before .before .add .kept .1 .0 ∙ c .before .before .before .before .before .before .before .before .before .before .before .before .before .before .loop .inv .items-kept
+compare-entries-same-length-3 t c =
+    let loop = c .before .before .before .before .before .before .before .before .before .before .before .before .before .before .loop in
+    let add = c .before .before .before .before .before .before .before .add in
+    add .kept .1 .0 ∙ loop .inv .items-kept
 
 compare-entries-same-length-4 : (t : ℕ) → compare-entries-lts.Need-same-length-4 (compare-entries-claims t) (compare-entries-at t) compare-entries.Post compare-entries-Inv-loop compare-entries-μ-loop
-compare-entries-same-length-4 t c = c .before .before .before .before .before .before .before .add .kept .1 .1 .0 ∙ c .before .before .before .before .before .before .before .before .before .before .before .before .before .before .loop .inv .paths-kept
+compare-entries-same-length-4 t c =
+    let loop = c .before .before .before .before .before .before .before .before .before .before .before .before .before .before .loop in
+    let add = c .before .before .before .before .before .before .before .add in
+    add .kept .1 .1 .0 ∙ loop .inv .paths-kept
 
 compare-entries-returns-2 : (t : ℕ) → compare-entries-lts.Need-returns-2 (compare-entries-claims t) (compare-entries-at t) compare-entries.Post compare-entries-Inv-loop compare-entries-μ-loop
-compare-entries-returns-2 t c = (turning.going-full (c .before .before .before .before .before .before .before .before .before .before .before .before .before .before .loop .inv) (c .before .before .before .before .before .before .before .before .before .before .before .before .before .merge-step .result) (c .before .before .before .before .before .before .before .before .before .before .before .before .before .merge-step .ensures) (c .before .before .before .before .before .before .before .before .before .before .before .c .given .0 .0) (c .before .before .before .before .before .before .before .before .before .before .before .c .given .0 .1 .0) (c .before .before .before .before .before .before .before .before .before .before .before .c .given .0 .1 .1 .0) (c .before .before .before .before .before .before .before .before .before .before .before .c .given .1) (c .before .before .before .before .before .before .before .before .before .before .before .before .before .before .before .before .before .before .before .pre .1 .1 .0) (c .before .before .before .before .before .before .before .add .result) (c .before .before .before .before .before .before .before .add .last .1 .0) (c .before .before .before .before .before .before .before .add .last .1 .1 .0) (c .before .before .before .before .before .before .before .add .ensures .0) (c .if1 .taken), c .before .before .before .before .before .before .before .add .ensures .1 .0)
+compare-entries-returns-2 t c =
+    let pre = c .before .before .before .before .before .before .before .before .before .before .before .before .before .before .before .before .before
+    .before .before .pre in
+    let loop = c .before .before .before .before .before .before .before .before .before .before .before .before .before .before .loop in
+    let merge-step = c .before .before .before .before .before .before .before .before .before .before .before .before .before .merge-step in
+    let change = c .before .before .before .before .before .before .before .before .before .before .before .c in
+    let add = c .before .before .before .before .before .before .before .add in
+    let if1 = c .if1 in (
+      turning.going-full (loop .inv) (merge-step .result) (merge-step .ensures) (change .given .0 .0) (change .given .0 .1 .0) (change .given .0 .1 .1 .0)
+          (change .given .1) (pre .1 .1 .0) (add .result) (add .last .1 .0) (add .last .1 .1 .0) (add .ensures .0) (if1 .taken),
+      add .ensures .1 .0,
+    )
 
 compare-entries-sub-size : (t : ℕ) → compare-entries-lts.Need-sub-size (compare-entries-claims t) (compare-entries-at t) compare-entries.Post compare-entries-Inv-loop compare-entries-μ-loop
 compare-entries-sub-size t c = omega (arith, c .before .before .before .before .before .before .before .before .add .ensures .1 .1)
 
 compare-entries-compare-inside-requires : (t : ℕ) → compare-entries-lts.Need-compare-inside-requires (compare-entries-claims t) (compare-entries-at t) compare-entries.Post compare-entries-Inv-loop compare-entries-μ-loop
-compare-entries-compare-inside-requires t c κs = (turning.entry-falls (c .before .before .before .before .before .before .before .before .before .before .before .before .before .before .before .before .before .before .before .before .before .before .args .depth) _ t (c .before .before .before .before .before .before .before .before .before .before .before .before .before .before .before .before .before .before .before .before .before .before .pre .0), (c .before .before .before .before .before .before .before .before .before .before .before .before .before .before .before .before .before .before .before .before .before .before .pre .1 .0, (omega (arith, c .before .before .before .before .before .before .before .before .before .before .add .ensures .1 .1), (turning.child-short (c .before .before .before .before .before .before .before .before .before .before .before .before .before .before .before .before .before .loop .m) (c .before .before .before .before .before .before .before .before .before .before .add .result) (c .before .before .before .before .before .before .before .before .before .before .before .before .before .before .before .before .before .before .before .before .before .before .args .pl) (c .before .before .before .before .before .before .before .before .before .before .before .before .before .before .before .before .before .before .before .before .before .before .args .depth) (c .before .before .before .before .before .before .before .before .before .before .add .ensures .1) (c .before .before .before .before .before .before .before .before .before .before .before .before .before .before .before .before .before .before .before .before .before .before .pre .1 .1 .1 .0), (c .before .before .before .before .before .before .before .before .before .before .add .ensures .1 .0, (merging.differs-leads (c .before .before .before .before .before .before .before .before .before .before .before .before .before .before .before .before .before .before .before .before .before .before .args .k .h) (c .before .before .before .before .before .before .before .before .before .before .before .before .before .before .before .before .before .before .before .before .before .before .args .bundle .now) (c .before .before .before .before .before .before .before .before .before .before .before .before .before .before .before .before .before .loop .l) (c .before .before .before .before .before .before .before .before .before .before .before .before .before .before .before .before .before .loop .r) (c .before .before .before .before .before .before .before .before .before .before .before .before .before .before .before .before .before .loop .inv .left-in) (c .before .before .before .before .before .before .before .before .before .before .before .before .before .before .before .before .before .loop .inv .right-in) (c .before .before .before .before .before .before .before .before .before .before .before .before .before .before .before .before .merge-step .result) (c .before .before .before .before .before .before .before .before .before .before .before .before .before .before .before .before .merge-step .ensures) (c .before .before .before .before .before .before .before .before .before .before .before .before .before .before .c .given .0 .0) (c .before .before .before .before .before .before .before .before .before .before .before .before .before .before .c .given .0 .1 .0) (c .before .before .before .before .before .before .before .before .before .before .before .before .before .before .c .given .0 .1 .1 .0) (c .before .before .before .before .before .before .before .before .before .before .before .before .before .before .c .given .1)) .0)))))
+compare-entries-compare-inside-requires t c κs =
+    let args = c .before .before .before .before .before .before .before .before .before .before .before .before .before .before .before .before .before
+    .before .before .before .before .before .args in
+    let pre = c .before .before .before .before .before .before .before .before .before .before .before .before .before .before .before .before .before
+    .before .before .before .before .before .pre in
+    let loop = c .before .before .before .before .before .before .before .before .before .before .before .before .before .before .before .before
+    .before .loop in
+    let merge-step = c .before .before .before .before .before .before .before .before .before .before .before .before .before .before .before
+    .before .merge-step in
+    let change = c .before .before .before .before .before .before .before .before .before .before .before .before .before .before .c in
+    let add = c .before .before .before .before .before .before .before .before .before .before .add in (
+      turning.entry-falls (args .depth) _ t (pre .0),
+      (
+        pre .1 .0,
+        (
+          omega (arith, add .ensures .1 .1),
+          (
+            turning.child-short (loop .m) (add .result) (args .pl) (args .depth) (add .ensures .1) (pre .1 .1 .1 .0),
+            (
+              add .ensures .1 .0,
+              (merging.differs-leads (args .k .h) (args .bundle .now) (loop .l) (loop .r) (loop .inv .left-in) (loop .inv .right-in)
+                  (merge-step .result) (merge-step .ensures) (change .given .0 .0) (change .given .0 .1 .0) (change .given .0 .1 .1 .0) (change .given .1)) .0,
+            ),
+          ),
+        ),
+      ),
+    )
 
 compare-entries-same-length-5 : (t : ℕ) → compare-entries-lts.Need-same-length-5 (compare-entries-claims t) (compare-entries-at t) compare-entries.Post compare-entries-Inv-loop compare-entries-μ-loop
-compare-entries-same-length-5 t c = c .before .before .before .before .before .before .before .compare-inside .kept .1 .1 .1 .1 .0 ∙ c .before .before .before .before .before .before .before .before .before .before .before .before .before .before .before .before .before .before .add .kept .1 .0 ∙ c .before .before .before .before .before .before .before .before .before .before .before .before .before .before .before .before .before .before .before .before .before .before .before .before .before .loop .inv .items-kept
+compare-entries-same-length-5 t c =
+    let loop = c .before .before .before .before .before .before .before .before .before .before .before .before .before .before .before .before .before
+    .before .before .before .before .before .before .before .before .loop in
+    let add = c .before .before .before .before .before .before .before .before .before .before .before .before .before .before .before .before .before
+    .before .add in
+    let compare-inside = c .before .before .before .before .before .before .before .compare-inside in
+    compare-inside .kept .1 .1 .1 .1 .0 ∙ add .kept .1 .0 ∙ loop .inv .items-kept
 
 compare-entries-same-length-6 : (t : ℕ) → compare-entries-lts.Need-same-length-6 (compare-entries-claims t) (compare-entries-at t) compare-entries.Post compare-entries-Inv-loop compare-entries-μ-loop
-compare-entries-same-length-6 t c = c .before .before .before .before .before .before .before .compare-inside .kept .1 .1 .1 .1 .1 .0 ∙ c .before .before .before .before .before .before .before .before .before .before .before .before .before .before .before .before .before .before .add .kept .1 .1 .0 ∙ c .before .before .before .before .before .before .before .before .before .before .before .before .before .before .before .before .before .before .before .before .before .before .before .before .before .loop .inv .paths-kept
+compare-entries-same-length-6 t c =
+    let loop = c .before .before .before .before .before .before .before .before .before .before .before .before .before .before .before .before .before
+    .before .before .before .before .before .before .before .before .loop in
+    let add = c .before .before .before .before .before .before .before .before .before .before .before .before .before .before .before .before .before
+    .before .add in
+    let compare-inside = c .before .before .before .before .before .before .before .compare-inside in
+    compare-inside .kept .1 .1 .1 .1 .1 .0 ∙ add .kept .1 .1 .0 ∙ loop .inv .paths-kept
 
 compare-entries-returns-3 : (t : ℕ) → compare-entries-lts.Need-returns-3 (compare-entries-claims t) (compare-entries-at t) compare-entries.Post compare-entries-Inv-loop compare-entries-μ-loop
-compare-entries-returns-3 t c = (turning.going-stop (c .before .before .before .before .before .before .before .before .before .before .before .before .before .before .before .before .before .before .before .before .before .before .before .before .before .loop .inv) (c .before .before .before .before .before .before .before .before .before .before .before .before .before .before .before .before .before .before .before .before .before .before .before .before .merge-step .result) (c .before .before .before .before .before .before .before .before .before .before .before .before .before .before .before .before .before .before .before .before .before .before .before .before .merge-step .ensures) (c .before .before .before .before .before .before .before .before .before .before .before .before .before .before .before .before .before .before .before .before .before .before .c .given .0 .0) (c .before .before .before .before .before .before .before .before .before .before .before .before .before .before .before .before .before .before .before .before .before .before .c .given .0 .1 .0) (c .before .before .before .before .before .before .before .before .before .before .before .before .before .before .before .before .before .before .before .before .before .before .c .given .0 .1 .1 .0) (c .before .before .before .before .before .before .before .before .before .before .before .before .before .before .before .before .before .before .before .before .before .before .c .given .1) (c .before .before .before .before .before .before .before .before .before .before .before .before .before .before .before .before .before .before .before .before .before .before .before .before .before .before .before .before .before .before .pre .1 .1 .0) (c .before .before .before .before .before .before .before .before .before .before .before .before .before .before .before .before .before .before .add .result) (c .before .before .before .before .before .before .before .before .before .before .before .before .before .before .before .before .before .before .add .last .1 .0) (c .before .before .before .before .before .before .before .before .before .before .before .before .before .before .before .before .before .before .add .last .1 .1 .0) (c .before .before .before .before .before .before .before .before .before .before .before .before .before .before .before .before .before .before .add .ensures .0) (c .before .before .before .before .before .before .before .before .before .before .before .if1 .left) (c .before .before .before .before .before .before .before .before .before .before .before .before .before .before .before .before .before .before .add .ensures .1) (c .before .before .before .before .before .before .before .before .before .before .before .before .before .before .before .before .before .before .add .kept .1 .0) (c .before .before .before .before .before .before .before .before .before .before .before .before .before .before .before .before .before .before .add .kept .1 .1 .0) (c .before .before .before .before .before .before .before .compare-inside .result) (c .before .before .before .before .before .before .before .compare-inside .last .1 .1 .1 .1 .0) (c .before .before .before .before .before .before .before .compare-inside .last .1 .1 .1 .1 .1 .0) (c .before .before .before .before .before .before .before .compare-inside .ensures .0) (c .if2 .taken), c .before .before .before .before .before .before .before .compare-inside .ensures .1)
+compare-entries-returns-3 t c =
+    let pre = c .before .before .before .before .before .before .before .before .before .before .before .before .before .before .before .before .before
+    .before .before .before .before .before .before .before .before .before .before .before .before .before .pre in
+    let loop = c .before .before .before .before .before .before .before .before .before .before .before .before .before .before .before .before .before
+    .before .before .before .before .before .before .before .before .loop in
+    let merge-step = c .before .before .before .before .before .before .before .before .before .before .before .before .before .before .before .before
+    .before .before .before .before .before .before .before .before .merge-step in
+    let change = c .before .before .before .before .before .before .before .before .before .before .before .before .before .before .before .before
+    .before .before .before .before .before .before .c in
+    let add = c .before .before .before .before .before .before .before .before .before .before .before .before .before .before .before .before .before
+    .before .add in
+    let if1 = c .before .before .before .before .before .before .before .before .before .before .before .if1 in
+    let compare-inside = c .before .before .before .before .before .before .before .compare-inside in
+    let if2 = c .if2 in (
+      turning.going-stop (loop .inv) (merge-step .result) (merge-step .ensures) (change .given .0 .0) (change .given .0 .1 .0) (change .given .0 .1 .1 .0)
+          (change .given .1) (pre .1 .1 .0) (add .result) (add .last .1 .0) (add .last .1 .1 .0) (add .ensures .0) (if1 .left) (add .ensures .1) (add .kept .1 .0)
+          (add .kept .1 .1 .0) (compare-inside .result) (compare-inside .last .1 .1 .1 .1 .0) (compare-inside .last .1 .1 .1 .1 .1 .0) (compare-inside .ensures .0)
+          (if2 .taken),
+      compare-inside .ensures .1,
+    )
 
 compare-entries-loop-less-2 : (t : ℕ) → compare-entries-lts.Need-loop-less-2 (compare-entries-claims t) (compare-entries-at t) compare-entries.Post compare-entries-Inv-loop compare-entries-μ-loop
-compare-entries-loop-less-2 t c = omega (arith, (merging.differs-leads (c .before .before .before .before .before .before .before .before .before .before .before .before .before .before .before .before .before .before .before .before .before .before .before .before .before .before .before .before .before .before .args .k .h) (c .before .before .before .before .before .before .before .before .before .before .before .before .before .before .before .before .before .before .before .before .before .before .before .before .before .before .before .before .before .before .args .bundle .now) (c .before .before .before .before .before .before .before .before .before .before .before .before .before .before .before .before .before .before .before .before .before .before .before .before .before .loop .l) (c .before .before .before .before .before .before .before .before .before .before .before .before .before .before .before .before .before .before .before .before .before .before .before .before .before .loop .r) (c .before .before .before .before .before .before .before .before .before .before .before .before .before .before .before .before .before .before .before .before .before .before .before .before .before .loop .inv .left-in) (c .before .before .before .before .before .before .before .before .before .before .before .before .before .before .before .before .before .before .before .before .before .before .before .before .before .loop .inv .right-in) (c .before .before .before .before .before .before .before .before .before .before .before .before .before .before .before .before .before .before .before .before .before .before .before .before .merge-step .result) (c .before .before .before .before .before .before .before .before .before .before .before .before .before .before .before .before .before .before .before .before .before .before .before .before .merge-step .ensures) (c .before .before .before .before .before .before .before .before .before .before .before .before .before .before .before .before .before .before .before .before .before .before .c .given .0 .0) (c .before .before .before .before .before .before .before .before .before .before .before .before .before .before .before .before .before .before .before .before .before .before .c .given .0 .1 .0) (c .before .before .before .before .before .before .before .before .before .before .before .before .before .before .before .before .before .before .before .before .before .before .c .given .0 .1 .1 .0) (c .before .before .before .before .before .before .before .before .before .before .before .before .before .before .before .before .before .before .before .before .before .before .c .given .1)) .1 .2)
+compare-entries-loop-less-2 t c =
+    let args = c .before .before .before .before .before .before .before .before .before .before .before .before .before .before .before .before .before
+    .before .before .before .before .before .before .before .before .before .before .before .before .before .args in
+    let loop = c .before .before .before .before .before .before .before .before .before .before .before .before .before .before .before .before .before
+    .before .before .before .before .before .before .before .before .loop in
+    let merge-step = c .before .before .before .before .before .before .before .before .before .before .before .before .before .before .before .before
+    .before .before .before .before .before .before .before .before .merge-step in
+    let change = c .before .before .before .before .before .before .before .before .before .before .before .before .before .before .before .before
+    .before .before .before .before .before .before .c in
+    omega (
+      arith,
+      (merging.differs-leads (args .k .h) (args .bundle .now) (loop .l) (loop .r) (loop .inv .left-in) (loop .inv .right-in) (merge-step .result)
+          (merge-step .ensures) (change .given .0 .0) (change .given .0 .1 .0) (change .given .0 .1 .1 .0) (change .given .1)) .1 .2,
+    )
 
 compare-entries-loop-again-2 : (t : ℕ) → compare-entries-lts.Need-loop-again-2 (compare-entries-claims t) (compare-entries-at t) compare-entries.Post compare-entries-Inv-loop compare-entries-μ-loop
-compare-entries-loop-again-2 t c = turning.going-on (c .before .before .before .before .before .before .before .before .before .before .before .before .before .before .before .before .before .before .before .before .before .before .before .before .before .loop .inv) (c .before .before .before .before .before .before .before .before .before .before .before .before .before .before .before .before .before .before .before .before .before .before .before .before .merge-step .result) (c .before .before .before .before .before .before .before .before .before .before .before .before .before .before .before .before .before .before .before .before .before .before .before .before .merge-step .ensures) (c .before .before .before .before .before .before .before .before .before .before .before .before .before .before .before .before .before .before .before .before .before .before .c .given .0 .0) (c .before .before .before .before .before .before .before .before .before .before .before .before .before .before .before .before .before .before .before .before .before .before .c .given .0 .1 .0) (c .before .before .before .before .before .before .before .before .before .before .before .before .before .before .before .before .before .before .before .before .before .before .c .given .0 .1 .1 .0) (c .before .before .before .before .before .before .before .before .before .before .before .before .before .before .before .before .before .before .before .before .before .before .c .given .1) (c .before .before .before .before .before .before .before .before .before .before .before .before .before .before .before .before .before .before .before .before .before .before .before .before .before .before .before .before .before .before .pre .1 .1 .0) (c .before .before .before .before .before .before .before .before .before .before .before .before .before .before .before .before .before .before .add .result) (c .before .before .before .before .before .before .before .before .before .before .before .before .before .before .before .before .before .before .add .last .1 .0) (c .before .before .before .before .before .before .before .before .before .before .before .before .before .before .before .before .before .before .add .last .1 .1 .0) (c .before .before .before .before .before .before .before .before .before .before .before .before .before .before .before .before .before .before .add .ensures .0) (c .before .before .before .before .before .before .before .before .before .before .before .if1 .left) (c .before .before .before .before .before .before .before .before .before .before .before .before .before .before .before .before .before .before .add .ensures .1) (c .before .before .before .before .before .before .before .before .before .before .before .before .before .before .before .before .before .before .add .kept .1 .0) (c .before .before .before .before .before .before .before .before .before .before .before .before .before .before .before .before .before .before .add .kept .1 .1 .0) (c .before .before .before .before .before .before .before .compare-inside .result) (c .before .before .before .before .before .before .before .compare-inside .last .1 .1 .1 .1 .0) (c .before .before .before .before .before .before .before .compare-inside .last .1 .1 .1 .1 .1 .0) (c .before .before .before .before .before .before .before .compare-inside .ensures .0) (c .if2 .left) (c .before .before .before .before .before .before .before .compare-inside .ensures .1) (c .before .before .before .before .before .before .before .compare-inside .kept .1 .1 .1 .1 .0) (c .before .before .before .before .before .before .before .compare-inside .kept .1 .1 .1 .1 .1 .0)
+compare-entries-loop-again-2 t c =
+    let pre = c .before .before .before .before .before .before .before .before .before .before .before .before .before .before .before .before .before
+    .before .before .before .before .before .before .before .before .before .before .before .before .before .pre in
+    let loop = c .before .before .before .before .before .before .before .before .before .before .before .before .before .before .before .before .before
+    .before .before .before .before .before .before .before .before .loop in
+    let merge-step = c .before .before .before .before .before .before .before .before .before .before .before .before .before .before .before .before
+    .before .before .before .before .before .before .before .before .merge-step in
+    let change = c .before .before .before .before .before .before .before .before .before .before .before .before .before .before .before .before
+    .before .before .before .before .before .before .c in
+    let add = c .before .before .before .before .before .before .before .before .before .before .before .before .before .before .before .before .before
+    .before .add in
+    let if1 = c .before .before .before .before .before .before .before .before .before .before .before .if1 in
+    let compare-inside = c .before .before .before .before .before .before .before .compare-inside in
+    let if2 = c .if2 in
+    turning.going-on (loop .inv) (merge-step .result) (merge-step .ensures) (change .given .0 .0) (change .given .0 .1 .0) (change .given .0 .1 .1 .0)
+    (change .given .1) (pre .1 .1 .0) (add .result) (add .last .1 .0) (add .last .1 .1 .0) (add .ensures .0) (if1 .left) (add .ensures .1) (add .kept .1 .0)
+    (add .kept .1 .1 .0) (compare-inside .result) (compare-inside .last .1 .1 .1 .1 .0) (compare-inside .last .1 .1 .1 .1 .1 .0) (compare-inside .ensures .0)
+    (if2 .left) (compare-inside .ensures .1) (compare-inside .kept .1 .1 .1 .1 .0) (compare-inside .kept .1 .1 .1 .1 .1 .0)
 
 compare-folders-open-both-requires : (t : ℕ) → compare-folders-lts.Need-open-both-requires (compare-folders-claims t) (compare-folders-at t) compare-folders.Post
 compare-folders-open-both-requires t c κs = search needs
@@ -144,17 +288,35 @@ compare-folders-enum-known-l : (t : ℕ) → compare-folders-lts.Need-enum-known
 compare-folders-enum-known-l t c = search needs
 
 compare-folders-sub-compare-entries : (t : ℕ) → compare-folders-lts.Need-sub-compare-entries (compare-folders-claims t) (compare-folders-at t) compare-folders.Post
-compare-folders-sub-compare-entries t c = pos-of-ne-zero (both-within (c .before .before .before .before .before .before .before .before .before .before .args .k) (c .before .before .before .before .before .before .before .before .before .before .args .bundle .now) (c .before .before .before .before .before .before .before .before .before .before .args .a .now) (c .before .before .before .before .before .before .before .before .before .before .args .b .now) (c .before .before .before .before .before .before .before .before .before .before .args .depth) (c .before .before .before .before .before .before .before .before .before .before .args .index .now) (c .before .l .given .0 .0) (c .before .l .given .0 .1 .0) (sym (c .before .before .before .open-both .ensures) ∙ c .before .l .given .1) .0)
+compare-folders-sub-compare-entries t c =
+    let args = c .before .before .before .before .before .before .before .before .before .before .args in
+    let open-both = c .before .before .before .open-both in
+    let l = c .before .l in
+    pos-of-ne-zero (both-within (args .k) (args .bundle .now) (args .a .now) (args .b .now) (args .depth) (args .index .now) (l .given .0 .0)
+    (l .given .0 .1 .0) (sym (open-both .ensures) ∙ l .given .1) .0)
 
 compare-folders-compare-entries-requires : (t : ℕ) → compare-folders-lts.Need-compare-entries-requires (compare-folders-claims t) (compare-folders-at t) compare-folders.Post
 compare-folders-compare-entries-requires t c κs =
-    let f = both-within (c .before .before .before .before .before .before .before .before .before .before .before .before .args .k) (c .before .before .before .before .before .before .before .before .before .before .before .before .args .bundle .now) (c .before .before .before .before .before .before .before .before .before .before .before .before .args .a .now) (c .before .before .before .before .before .before .before .before .before .before .before .before .args .b .now) (c .before .before .before .before .before .before .before .before .before .before .before .before .args .depth) (c .before .before .before .before .before .before .before .before .before .before .before .before .args .index .now) (c .before .before .before .l .given .0 .0) (c .before .before .before .l .given .0 .1 .0) (sym (c .before .before .before .before .before .open-both .ensures) ∙ c .before .before .before .l .given .1) in (
-      turning.opened-falls (c .before .before .before .before .before .before .before .before .before .before .before .before .args .depth) t (c .before .before .before .l .given .0 .0 .left) (c .before .before .before .l .given .0 .1 .0 .left) (c .before .before .before .before .before .before .before .before .before .before .before .before .pre .0) (f .0) (f .1 .1) (f .2 .1),
-      (c .before .before .before .before .before .before .before .before .before .before .before .before .pre .1 .0, (c .before .before .before .before .before .before .before .before .before .before .before .before .pre .1 .1 .0, (turning.short-next (c .before .before .before .before .before .before .before .before .before .before .before .before .args .pl) (c .before .before .before .before .before .before .before .before .before .before .before .before .args .depth) (f .0) (c .before .before .before .before .before .before .before .before .before .before .before .before .pre .1 .1 .1 .0), (c .before .before .before .before .before .before .before .before .before .before .before .before .pre .1 .1 .1 .1, (f .1 .0, f .2 .0))))),
+    let args = c .before .before .before .before .before .before .before .before .before .before .before .before .args in
+    let pre = c .before .before .before .before .before .before .before .before .before .before .before .before .pre in
+    let open-both = c .before .before .before .before .before .open-both in
+    let l = c .before .before .before .l in
+    let f = both-within (args .k) (args .bundle .now) (args .a .now) (args .b .now) (args .depth) (args .index .now) (l .given .0 .0) (l .given .0 .1 .0)
+    (sym (open-both .ensures) ∙ l .given .1) in (
+      turning.opened-falls (args .depth) t (l .given .0 .0 .left) (l .given .0 .1 .0 .left) (pre .0) (f .0) (f .1 .1) (f .2 .1),
+      (pre .1 .0, (pre .1 .1 .0, (turning.short-next (args .pl) (args .depth) (f .0) (pre .1 .1 .1 .0), (pre .1 .1 .1 .1, (f .1 .0, f .2 .0))))),
     )
 
 compare-folders-returns : (t : ℕ) → compare-folders-lts.Need-returns (compare-folders-claims t) (compare-folders-at t) compare-folders.Post
-compare-folders-returns t c = (λ prefix e. turning.tree-closed (c .before .before .before .before .before .before .before .before .before .before .args .depth) (c .before .before .before .before .before .before .before .before .before .before .args .k) (c .before .before .before .before .before .before .before .before .before .before .args .bundle .now) (c .before .before .before .before .before .before .before .before .before .before .args .a .now) (c .before .before .before .before .before .before .before .before .before .before .args .b .now) (c .before .before .before .before .before .before .before .before .before .before .args .index .now) (c .before .before .before .open-both .result) (c .before .before .before .open-both .ensures) (c .before .before .before .before .before .before .before .before .before .before .args .m) _ (c .before .before .before .before .before .before .before .before .before .before .args .items .now) (c .before .before .before .before .before .before .before .before .before .before .args .paths .now) prefix (c .before .v .given .0 .0) (c .before .v .given .1), c .before .before .before .before .before .before .before .before .before .before .pre .1 .1 .1 .1)
+compare-folders-returns t c =
+    let args = c .before .before .before .before .before .before .before .before .before .before .args in
+    let pre = c .before .before .before .before .before .before .before .before .before .before .pre in
+    let open-both = c .before .before .before .open-both in
+    let v = c .before .v in (
+      λ prefix e. turning.tree-closed (args .depth) (args .k) (args .bundle .now) (args .a .now) (args .b .now) (args .index .now) (open-both .result)
+          (open-both .ensures) (args .m) _ (args .items .now) (args .paths .now) prefix (v .given .0 .0) (v .given .1),
+      pre .1 .1 .1 .1,
+    )
 
 compare-folders-same-length : (t : ℕ) → compare-folders-lts.Need-same-length (compare-folders-claims t) (compare-folders-at t) compare-folders.Post
 compare-folders-same-length t c = search needs
@@ -163,28 +325,65 @@ compare-folders-same-length-2 : (t : ℕ) → compare-folders-lts.Need-same-leng
 compare-folders-same-length-2 t c = search needs
 
 compare-folders-returns-2 : (t : ℕ) → compare-folders-lts.Need-returns-2 (compare-folders-claims t) (compare-folders-at t) compare-folders.Post
-compare-folders-returns-2 t c = (λ prefix e. turning.tree-both (c .before .before .before .before .before .before .before .before .before .before .before .before .before .before .before .before .before .args .depth) (c .before .before .before .before .before .before .before .before .before .before .before .before .before .before .before .before .before .args .k) (c .before .before .before .before .before .before .before .before .before .before .before .before .before .before .before .before .before .args .bundle .now) (c .before .before .before .before .before .before .before .before .before .before .before .before .before .before .before .before .before .args .a .now) (c .before .before .before .before .before .before .before .before .before .before .before .before .before .before .before .before .before .args .b .now) (c .before .before .before .before .before .before .before .before .before .before .before .before .before .before .before .before .before .args .index .now) (c .before .before .before .before .before .before .before .before .before .before .open-both .result) (c .before .before .before .before .before .before .before .before .before .before .open-both .ensures) (c .before .before .before .before .before .before .before .before .before .before .before .before .before .before .before .before .before .args .m) _ (c .before .before .before .before .before .before .before .before .before .before .before .before .before .before .before .before .before .args .items .now) (c .before .before .before .before .before .before .before .before .before .before .before .before .before .before .before .before .before .args .paths .now) prefix (c .before .before .before .before .before .before .before .before .l .given .0 .0) (c .before .before .before .before .before .before .before .before .l .given .0 .1 .0) (c .before .before .before .before .before .before .before .before .l .given .1) (c .before .before .before .before .compare-entries .result) (c .before .before .before .before .compare-entries .last .1 .1 .1 .1 .1 .0) (c .before .before .before .before .compare-entries .last .1 .1 .1 .1 .1 .1 .0) (c .before .before .before .before .compare-entries .ensures .0 prefix e), c .before .before .before .before .compare-entries .ensures .1)
+compare-folders-returns-2 t c =
+    let args = c .before .before .before .before .before .before .before .before .before .before .before .before .before .before .before .before
+    .before .args in
+    let open-both = c .before .before .before .before .before .before .before .before .before .before .open-both in
+    let l = c .before .before .before .before .before .before .before .before .l in
+    let compare-entries = c .before .before .before .before .compare-entries in (
+      λ prefix e. turning.tree-both (args .depth) (args .k) (args .bundle .now) (args .a .now) (args .b .now) (args .index .now) (open-both .result)
+          (open-both .ensures) (args .m) _ (args .items .now) (args .paths .now) prefix (l .given .0 .0) (l .given .0 .1 .0) (l .given .1) (compare-entries .result)
+          (compare-entries .last .1 .1 .1 .1 .1 .0) (compare-entries .last .1 .1 .1 .1 .1 .1 .0) (compare-entries .ensures .0 prefix e),
+      compare-entries .ensures .1,
+    )
 
 compare-inside-sub-compare-folders : (t : ℕ) → compare-inside-lts.Need-sub-compare-folders (compare-inside-claims t) (compare-inside-at t) compare-inside.Post
-compare-inside-sub-compare-folders t c = let f = turning.left-side (length (c .before .before .before .before .before .before .before .args .bundle .now)) (c .before .before .before .before .before .before .before .args .c) (c .before .before .before .before .before .before .before .pre .1 .1 .1 .1 .1) in omega (arith, f .0, f .1)
+compare-inside-sub-compare-folders t c =
+    let args = c .before .before .before .before .before .before .before .args in
+    let pre = c .before .before .before .before .before .before .before .pre in
+    let f = turning.left-side (length (args .bundle .now)) (args .c) (pre .1 .1 .1 .1 .1) in
+    omega (arith, f .0, f .1)
 
 compare-inside-part-compare-folders-start : (t : ℕ) → compare-inside-lts.Need-part-compare-folders-start (compare-inside-claims t) (compare-inside-at t) compare-inside.Post
-compare-inside-part-compare-folders-start t c = let f = turning.left-side (length (c .before .before .before .before .before .before .before .args .bundle .now)) (c .before .before .before .before .before .before .before .args .c) (c .before .before .before .before .before .before .before .pre .1 .1 .1 .1 .1) in omega (arith, f .0, f .1)
+compare-inside-part-compare-folders-start t c =
+    let args = c .before .before .before .before .before .before .before .args in
+    let pre = c .before .before .before .before .before .before .before .pre in
+    let f = turning.left-side (length (args .bundle .now)) (args .c) (pre .1 .1 .1 .1 .1) in
+    omega (arith, f .0, f .1)
 
 compare-inside-part-compare-folders-end : (t : ℕ) → compare-inside-lts.Need-part-compare-folders-end (compare-inside-claims t) (compare-inside-at t) compare-inside.Post
-compare-inside-part-compare-folders-end t c = let f = turning.left-side (length (c .before .before .before .before .before .before .before .args .bundle .now)) (c .before .before .before .before .before .before .before .args .c) (c .before .before .before .before .before .before .before .pre .1 .1 .1 .1 .1) in omega (arith, f .0, f .1)
+compare-inside-part-compare-folders-end t c =
+    let args = c .before .before .before .before .before .before .before .args in
+    let pre = c .before .before .before .before .before .before .before .pre in
+    let f = turning.left-side (length (args .bundle .now)) (args .c) (pre .1 .1 .1 .1 .1) in
+    omega (arith, f .0, f .1)
 
 compare-inside-sub-compare-folders-2 : (t : ℕ) → compare-inside-lts.Need-sub-compare-folders-2 (compare-inside-claims t) (compare-inside-at t) compare-inside.Post
-compare-inside-sub-compare-folders-2 t c = let f = turning.right-side (length (c .before .before .before .before .before .before .before .before .args .bundle .now)) (c .before .before .before .before .before .before .before .before .args .c) (c .before .before .before .before .before .before .before .before .pre .1 .1 .1 .1 .1) in omega (arith, f .0, f .1)
+compare-inside-sub-compare-folders-2 t c =
+    let args = c .before .before .before .before .before .before .before .before .args in
+    let pre = c .before .before .before .before .before .before .before .before .pre in
+    let f = turning.right-side (length (args .bundle .now)) (args .c) (pre .1 .1 .1 .1 .1) in
+    omega (arith, f .0, f .1)
 
 compare-inside-part-compare-folders-start-2 : (t : ℕ) → compare-inside-lts.Need-part-compare-folders-start-2 (compare-inside-claims t) (compare-inside-at t) compare-inside.Post
-compare-inside-part-compare-folders-start-2 t c = let f = turning.right-side (length (c .before .before .before .before .before .before .before .before .args .bundle .now)) (c .before .before .before .before .before .before .before .before .args .c) (c .before .before .before .before .before .before .before .before .pre .1 .1 .1 .1 .1) in omega (arith, f .0, f .1)
+compare-inside-part-compare-folders-start-2 t c =
+    let args = c .before .before .before .before .before .before .before .before .args in
+    let pre = c .before .before .before .before .before .before .before .before .pre in
+    let f = turning.right-side (length (args .bundle .now)) (args .c) (pre .1 .1 .1 .1 .1) in
+    omega (arith, f .0, f .1)
 
 compare-inside-part-compare-folders-end-2 : (t : ℕ) → compare-inside-lts.Need-part-compare-folders-end-2 (compare-inside-claims t) (compare-inside-at t) compare-inside.Post
-compare-inside-part-compare-folders-end-2 t c = let f = turning.right-side (length (c .before .before .before .before .before .before .before .before .args .bundle .now)) (c .before .before .before .before .before .before .before .before .args .c) (c .before .before .before .before .before .before .before .before .pre .1 .1 .1 .1 .1) in omega (arith, f .0, f .1)
+compare-inside-part-compare-folders-end-2 t c =
+    let args = c .before .before .before .before .before .before .before .before .args in
+    let pre = c .before .before .before .before .before .before .before .before .pre in
+    let f = turning.right-side (length (args .bundle .now)) (args .c) (pre .1 .1 .1 .1 .1) in
+    omega (arith, f .0, f .1)
 
 compare-inside-compare-folders-requires : (t : ℕ) → compare-inside-lts.Need-compare-folders-requires (compare-inside-claims t) (compare-inside-at t) compare-inside.Post
-compare-inside-compare-folders-requires t c κs = (turning.inside-falls (c .before .before .before .before .before .before .before .before .before .before .before .args .depth) t (c .before .before .before .before .before .before .before .before .before .before .before .pre .0), (c .before .before .before .before .before .before .before .before .before .before .before .pre .1 .0, (omega (arith, c .before .before .before .before .before .before .before .before .before .before .before .pre .1 .1 .0), (c .before .before .before .before .before .before .before .before .before .before .before .pre .1 .1 .1 .0, c .before .before .before .before .before .before .before .before .before .before .before .pre .1 .1 .1 .1 .0))))
+compare-inside-compare-folders-requires t c κs =
+    let args = c .before .before .before .before .before .before .before .before .before .before .before .args in
+    let pre = c .before .before .before .before .before .before .before .before .before .before .before .pre in
+    (turning.inside-falls (args .depth) t (pre .0), (pre .1 .0, (omega (arith, pre .1 .1 .0), (pre .1 .1 .1 .0, pre .1 .1 .1 .1 .0))))
 
 compare-inside-same-length : (t : ℕ) → compare-inside-lts.Need-same-length (compare-inside-claims t) (compare-inside-at t) compare-inside.Post
 compare-inside-same-length t c = search needs
@@ -193,10 +392,25 @@ compare-inside-same-length-2 : (t : ℕ) → compare-inside-lts.Need-same-length
 compare-inside-same-length-2 t c = search needs
 
 compare-inside-returns : (t : ℕ) → compare-inside-lts.Need-returns (compare-inside-claims t) (compare-inside-at t) compare-inside.Post
-compare-inside-returns t c = (λ prefix e. turning.inside-deep (compareFolders (foldersIn (c .before .before .before .before .before .before .before .before .before .before .before .before .before .before .before .before .args .k) (c .before .before .before .before .before .before .before .before .before .before .before .before .before .before .before .before .args .bundle .now) (c .before .before .before .before .before .before .before .before .before .before .before .before .before .before .before .before .args .index .now)) (c .before .before .before .before .before .before .before .before .before .before .before .before .before .before .before .before .args .depth)) prefix (c .before .before .before .before .before .before .before .before .before .before .before .before .before .before .before .before .args .bundle .now) (c .before .before .before .before .before .before .before .before .before .before .before .before .before .before .before .before .args .c) (c .before .before .before .before .before .before .before .before .before .before .before .before .before .before .before .before .args .m) _ (c .before .before .before .before .before .before .before .before .before .before .before .before .before .before .before .before .args .items .now) (c .before .before .before .before .before .before .before .before .before .before .before .before .before .before .before .before .args .paths .now) (c .before .before .before .before .before .before .before .before .before .before .before .if1 .taken) (c .before .before .before .before .compare-folders .result) (c .before .before .before .before .compare-folders .last .1 .1 .1 .1 .1 .0) (c .before .before .before .before .compare-folders .last .1 .1 .1 .1 .1 .1 .0) (c .before .before .before .before .compare-folders .ensures .0 prefix e), c .before .before .before .before .compare-folders .ensures .1)
+compare-inside-returns t c =
+    let args = c .before .before .before .before .before .before .before .before .before .before .before .before .before .before .before .before .args in
+    let if1 = c .before .before .before .before .before .before .before .before .before .before .before .if1 in
+    let compare-folders = c .before .before .before .before .compare-folders in (
+      λ prefix e. turning.inside-deep (compareFolders (foldersIn (args .k) (args .bundle .now) (args .index .now)) (args .depth)) prefix (args .bundle .now)
+          (args .c) (args .m) _ (args .items .now) (args .paths .now) (if1 .taken) (compare-folders .result) (compare-folders .last .1 .1 .1 .1 .1 .0)
+          (compare-folders .last .1 .1 .1 .1 .1 .1 .0) (compare-folders .ensures .0 prefix e),
+      compare-folders .ensures .1,
+    )
 
 compare-inside-returns-2 : (t : ℕ) → compare-inside-lts.Need-returns-2 (compare-inside-claims t) (compare-inside-at t) compare-inside.Post
-compare-inside-returns-2 t c = (λ prefix e. turning.inside-flat (compareFolders (foldersIn (c .before .before .before .before .before .args .k) (c .before .before .before .before .before .args .bundle .now) (c .before .before .before .before .before .args .index .now)) (c .before .before .before .before .before .args .depth)) prefix (c .before .before .before .before .before .args .bundle .now) (c .before .before .before .before .before .args .c) (c .before .before .before .before .before .args .m) _ (c .before .before .before .before .before .args .items .now) (c .before .before .before .before .before .args .paths .now) (c .if1 .left), c .before .before .before .before .before .pre .1 .1 .1 .1 .0)
+compare-inside-returns-2 t c =
+    let args = c .before .before .before .before .before .args in
+    let pre = c .before .before .before .before .before .pre in
+    let if1 = c .if1 in (
+      λ prefix e. turning.inside-flat (compareFolders (foldersIn (args .k) (args .bundle .now) (args .index .now)) (args .depth)) prefix (args .bundle .now)
+          (args .c) (args .m) _ (args .items .now) (args .paths .now) (if1 .left),
+      pre .1 .1 .1 .1 .0,
+    )
 
 pub +compare-entries+compare-folders+compare-inside-spec : {M : Type 1} → statement M
 +compare-entries+compare-folders+compare-inside-spec =

@@ -9,7 +9,13 @@ use Rattle.walk.specs.Code.{itemOf}
 use native.Mathlib.Omega.{arith}
 
 returns : tie.Need-returns
-returns c = (λ prefix e. doing.did-full (c .before .before .before .before .args .m) _ (c .before .before .before .before .args .items .now) (c .before .before .before .before .args .paths .now) (itemOf (c .before .before .before .before .args .bundle .now) prefix (c .before .before .before .before .args .c)) (c .if1 .taken), (c .before .before .before .before .pre .1 .1 .1 .0, omega arith, omega arith))
+returns c =
+    let args = c .before .before .before .before .args in
+    let pre = c .before .before .before .before .pre in
+    let if1 = c .if1 in (
+      λ prefix e. doing.did-full (args .m) _ (args .items .now) (args .paths .now) (itemOf (args .bundle .now) prefix (args .c)) (if1 .taken),
+      (pre .1 .1 .1 .0, omega arith, omega arith),
+    )
 
 sub-joined : tie.Need-sub-joined
 sub-joined c = search needs
@@ -18,7 +24,14 @@ joined-requires : tie.Need-joined-requires
 joined-requires c κs = search needs
 
 add-end : tie.Need-add-end
-add-end c = let f = turning.add-fits (c .before .before .before .before .before .args .m) (c .before .before .before .before .before .args .pl) _ _ (c .before .before .before .before .before .pre .1 .1 .1 .0) (c .before .before .before .before .before .pre .1 .1 .0) (omega (arith, c .before .before .before .before .before .pre .0, c .before .before .before .before .before .pre .1 .1 .1 .1 .0, c .before .before .before .before .before .pre .1 .1 .1 .1 .1)) (c .joined .ensures) (c .before .if1 .left) in omega (arith, f)
+add-end c =
+    let args = c .before .before .before .before .before .args in
+    let pre = c .before .before .before .before .before .pre in
+    let if1 = c .before .if1 in
+    let joined = c .joined in
+    let f = turning.add-fits (args .m) (args .pl) _ _ (pre .1 .1 .1 .0) (pre .1 .1 .0) (omega (arith, pre .0, pre .1 .1 .1 .1 .0, pre .1 .1 .1 .1 .1))
+    (joined .ensures) (if1 .left) in
+    omega (arith, f)
 
 put-item-requires : tie.Need-put-item-requires
 put-item-requires c κs = search needs
@@ -45,7 +58,19 @@ same-length-2 : tie.Need-same-length-2
 same-length-2 c = search needs
 
 returns-2 : tie.Need-returns-2
-returns-2 c = (λ prefix e. doing.did-put (c .before .before .before .before .before .before .before .before .before .before .before .before .before .before .args .m) _ (c .before .before .before .before .before .before .before .before .before .before .before .before .before .before .args .items .now) (c .before .before .before .before .before .before .before .before .before .before .before .before .before .before .args .paths .now) (itemOf (c .before .before .before .before .before .before .before .before .before .before .before .before .before .before .args .bundle .now) prefix (c .before .before .before .before .before .before .before .before .before .before .before .before .before .before .args .c)) (c .before .before .before .before .before .before .before .before .before .before .if1 .left) _ (doing.path-length (c .before .before .before .before .before .before .before .before .before .before .before .before .before .before .args .bundle .now) prefix (c .before .before .before .before .before .before .before .before .before .before .before .before .before .before .args .c) (c .before .before .before .before .before .before .before .before .before .before .before .before .before .before .args .pl) _ e (c .before .before .before .before .before .before .before .before .before .before .before .before .before .before .pre .1 .1 .1 .1 .0) (c .before .before .before .before .before .before .before .before .before .before .before .before .before .before .pre .1 .1 .1 .1 .1) (c .before .before .before .before .before .before .before .before .before .joined .ensures)) _ _ (numbers-room _ _ _ _ _ _ (c .before .before .before .before .before .before .before .put-item .ensures)) (path-room _ _ _ _ prefix _ _ e (c .before .before .put-path .ensures) (c .before .before .before .before .before .before .before .before .before .before .before .before .before .before .pre .1 .0)), turning.added (c .before .before .before .before .before .before .before .before .before .before .before .before .before .before .args .m) (c .before .before .before .before .before .before .before .before .before .before .before .before .before .before .args .pl) _ _ (c .before .before .before .before .before .before .before .before .before .before .before .before .before .before .pre .1 .1 .1 .0) (c .before .before .before .before .before .before .before .before .before .before .before .before .before .before .pre .1 .1 .0) (omega (arith, c .before .before .before .before .before .before .before .before .before .before .before .before .before .before .pre .0, c .before .before .before .before .before .before .before .before .before .before .before .before .before .before .pre .1 .1 .1 .1 .0, c .before .before .before .before .before .before .before .before .before .before .before .before .before .before .pre .1 .1 .1 .1 .1)) (c .before .before .before .before .before .before .before .before .before .joined .ensures) (c .before .before .before .before .before .before .before .before .before .before .if1 .left))
+returns-2 c =
+    let args = c .before .before .before .before .before .before .before .before .before .before .before .before .before .before .args in
+    let pre = c .before .before .before .before .before .before .before .before .before .before .before .before .before .before .pre in
+    let if1 = c .before .before .before .before .before .before .before .before .before .before .if1 in
+    let joined = c .before .before .before .before .before .before .before .before .before .joined in
+    let put-item = c .before .before .before .before .before .before .before .put-item in
+    let put-path = c .before .before .put-path in (
+      λ prefix e. doing.did-put (args .m) _ (args .items .now) (args .paths .now) (itemOf (args .bundle .now) prefix (args .c)) (if1 .left) _
+          (doing.path-length (args .bundle .now) prefix (args .c) (args .pl) _ e (pre .1 .1 .1 .1 .0) (pre .1 .1 .1 .1 .1) (joined .ensures)) _ _
+          (numbers-room _ _ _ _ _ _ (put-item .ensures)) (path-room _ _ _ _ prefix _ _ e (put-path .ensures) (pre .1 .0)),
+      turning.added (args .m) (args .pl) _ _
+          (pre .1 .1 .1 .0) (pre .1 .1 .0) (omega (arith, pre .0, pre .1 .1 .1 .1 .0, pre .1 .1 .1 .1 .1)) (joined .ensures) (if1 .left),
+    )
 
 pub add-spec : {M : Type 1} → statement M
 add-spec =

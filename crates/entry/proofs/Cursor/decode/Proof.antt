@@ -16,7 +16,12 @@ find-nul-requires : tie.Need-find-nul-requires
 find-nul-requires c κs = search needs
 
 sub-left : tie.Need-sub-left
-sub-left c = name-within (c .before .before .before .before .before .before .args .s .now) (c .before .before .before .before .before .before .args .h) (c .before .before .before .before .before .before .args .self .at) _ _ _ (sym (c .before .before .before .before .extract-at .ensures) ∙ c .before .before .m .given .1) (c .find-nul .ensures)
+sub-left c =
+    let args = c .before .before .before .before .before .before .args in
+    let extract-at = c .before .before .before .before .extract-at in
+    let m = c .before .before .m in
+    let find-nul = c .find-nul in
+    name-within (args .s .now) (args .h) (args .self .at) _ _ _ (sym (extract-at .ensures) ∙ m .given .1) (find-nul .ensures)
 
 short-part-requires : tie.Need-short-part-requires
 short-part-requires c κs = search needs
@@ -25,8 +30,16 @@ broken-requires : tie.Need-broken-requires
 broken-requires c κs = search needs
 
 returns : tie.Need-returns
-returns c = c .broken .ensures ∙ ap (brokenAt (c .before .before .before .before .before .before .before .before .before .args .self .at)) (c .before .short-part .ensures)
-    ∙ sym (decode-short (c .before .before .before .before .before .before .before .before .before .args .s .now) (c .before .before .before .before .before .before .before .before .before .args .h) (c .before .before .before .before .before .before .before .before .before .args .self .at) _ _ _ (sym (c .before .before .before .before .before .before .before .extract-at .ensures) ∙ c .before .before .before .before .before .m .given .1) (c .before .before .before .find-nul .ensures) (c .before .before .if1 .taken))
+returns c =
+    let args = c .before .before .before .before .before .before .before .before .before .args in
+    let extract-at = c .before .before .before .before .before .before .before .extract-at in
+    let m = c .before .before .before .before .before .m in
+    let find-nul = c .before .before .before .find-nul in
+    let if1 = c .before .before .if1 in
+    let short-part = c .before .short-part in
+    let broken = c .broken in
+    broken .ensures ∙ ap (brokenAt (args .self .at)) (short-part .ensures)
+    ∙ sym (decode-short (args .s .now) (args .h) (args .self .at) _ _ _ (sym (extract-at .ensures) ∙ m .given .1) (find-nul .ensures) (if1 .taken))
 
 cast-t11 : tie.Need-cast-t11
 cast-t11 c = search needs
@@ -47,10 +60,21 @@ broken-requires-2 : tie.Need-broken-requires-2
 broken-requires-2 c κs = search needs
 
 returns-2 : tie.Need-returns-2
-returns-2 c = sym (decode-whole (c .before .before .before .before .before .before .before .before .args .s .now) (c .before .before .before .before .before .before .before .before .args .h) (c .before .before .before .before .before .before .before .before .args .self .at) _ _ _ (sym (c .before .before .before .before .before .before .extract-at .ensures) ∙ c .before .before .before .before .m .given .1) (c .before .before .find-nul .ensures) (c .before .if1 .left))
+returns-2 c =
+    let args = c .before .before .before .before .before .before .before .before .args in
+    let extract-at = c .before .before .before .before .before .before .extract-at in
+    let m = c .before .before .before .before .m in
+    let find-nul = c .before .before .find-nul in
+    let if1 = c .before .if1 in
+    sym (decode-whole (args .s .now) (args .h) (args .self .at) _ _ _ (sym (extract-at .ensures) ∙ m .given .1) (find-nul .ensures) (if1 .left))
 
 returns-3 : tie.Need-returns-3
-returns-3 c = c .broken2 .ensures ∙ sym (decode-bad (c .before .before .before .before .before .args .s .now) (c .before .before .before .before .before .args .h) (c .before .before .before .before .before .args .self .at) (sym (c .before .before .before .extract-at .ensures) ∙ c .before .enum-told .given .1))
+returns-3 c =
+    let args = c .before .before .before .before .before .args in
+    let extract-at = c .before .before .before .extract-at in
+    let enum-told = c .before .enum-told in
+    let broken2 = c .broken2 in
+    broken2 .ensures ∙ sym (decode-bad (args .s .now) (args .h) (args .self .at) (sym (extract-at .ensures) ∙ enum-told .given .1))
 
 pub decode-spec : {M : Type 1} → statement M
 decode-spec =

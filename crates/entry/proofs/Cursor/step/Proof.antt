@@ -22,7 +22,12 @@ no-entry-requires-2 : tie.Need-no-entry-requires-2
 no-entry-requires-2 c κs = search needs
 
 returns : tie.Need-returns
-returns c = c .no-entry2 .ensures ∙ sym (step-end _ _ _ (sym (c .before .before .before .before .before .bounds .ensures) ∙ c .before .before .before .enum-told .given .1) (c .before .if1 .taken))
+returns c =
+    let bounds = c .before .before .before .before .before .bounds in
+    let enum-told = c .before .before .before .enum-told in
+    let if1 = c .before .if1 in
+    let no-entry2 = c .no-entry2 in
+    no-entry2 .ensures ∙ sym (step-end _ _ _ (sym (bounds .ensures) ∙ enum-told .given .1) (if1 .taken))
 
 decode-requires : tie.Need-decode-requires
 decode-requires c κs = search needs
@@ -34,7 +39,13 @@ returns-2 : tie.Need-returns-2
 returns-2 c = c .no-entry .ensures ∙ sym (step-shut _ _ _ _ (sym (c .before .before .before .before .bounds .ensures) ∙ c .before .before .v .given .1))
 
 returns-3 : tie.Need-returns-3
-returns-3 c = c .stepped .ensures ∙ ap (stepOver _) (c .before .decode .ensures) ∙ sym (step-inside _ _ _ (sym (c .before .before .before .before .before .before .bounds .ensures) ∙ c .before .before .before .before .enum-told .given .1) (c .before .before .if1 .left))
+returns-3 c =
+    let bounds = c .before .before .before .before .before .before .bounds in
+    let enum-told = c .before .before .before .before .enum-told in
+    let if1 = c .before .before .if1 in
+    let decode = c .before .decode in
+    let stepped = c .stepped in
+    stepped .ensures ∙ ap (stepOver _) (decode .ensures) ∙ sym (step-inside _ _ _ (sym (bounds .ensures) ∙ enum-told .given .1) (if1 .left))
 
 pub step-spec : {M : Type 1} → statement M
 step-spec =

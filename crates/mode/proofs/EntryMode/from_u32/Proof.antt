@@ -2,7 +2,7 @@
 use borrow.Author.Needs.{needs}
 use Rattle.mode.proofs.EntryMode.from_u32.Statement.{statement}
 use Rattle.mode.proofs.EntryMode.from_u32.Tie as tie
-use mathlib.Core.Path.{sym, _∙_}
+use mathlib.Core.Path.{sym}
 use Rattle.mode.proofs.Laws.{number-bad, number-good}
 
 cast-t8 : tie.Need-cast-t8

@@ -2,7 +2,7 @@
 use borrow.Author.Needs.{needs}
 use Rattle.mode.proofs.ModeAnswer.alone.Statement.{statement}
 use Rattle.mode.proofs.ModeAnswer.alone.Tie as tie
-use mathlib.Core.Path.{sym, ap, _∙_}
+use mathlib.Core.Path.{sym, ap}
 use Rattle.mode.specs.Read.{alone}
 
 enum-known-read : tie.Need-enum-known-read
