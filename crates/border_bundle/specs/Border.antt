@@ -10,7 +10,6 @@ use Rattle.frame.specs.Place.{placeOf}
 use Rattle.frame.specs.declared.Placed.{Placed}
 use Rattle.frame.specs.declared.Placed.the-variants.{At, Absent}
 use Rattle.bundle.specs.declared.Checked.{Checked}
-use Rattle.path_walk.specs.declared.Followed.{Followed}
 use Rattle.border.specs.Border.{verdictNumbers}
 use Rattle.border_bundle.specs.declared.Object.{Object}
 
@@ -38,7 +37,3 @@ checkedNumbers c = verdictNumbers (c .verdict) ++ c .h ∷ c .rules ∷ c .count
 -- the verdict, kind, first byte, past the last byte
 abbrev pub objectNumbers : Object → List ℕ
 objectNumbers o = verdictNumbers (o .verdict) ++ o .kind ∷ o .start ∷ o .end ∷ []
-
--- the verdict, mode, length of the id
-abbrev pub followedNumbers : Followed → List ℕ
-followedNumbers r = verdictNumbers (r .verdict) ++ r .mode ∷ r .size ∷ []

@@ -59,9 +59,9 @@ module _ (rules at : ℕ) (s : List ℕ) where
     unfolding fieldsAt
     fields-many q = simp (le-leb (at + 5) (length s) p, ← x, ← y, lt-leb count mostRecords q, many-only (idLength h))
 
-    pub fields-id : (h ≡ 20 → ⊥) → (h ≡ 32 → ⊥) → fieldsAt rules at s ≡ Bad
-    unfolding fieldsAt idLength
-    fields-id a b = simp (le-leb (at + 5) (length s) p, ← x, ne-eqb h 20 a, ne-eqb h 32 b)
+    pub fields-id : idLength h ≡ false → fieldsAt rules at s ≡ Bad
+    unfolding fieldsAt
+    fields-id a = simp (le-leb (at + 5) (length s) p, ← x, a)
 
     pub fields-good : (h ≡ 20) ⊎ (h ≡ 32) → count ≤ mostRecords → fieldsAt rules at s ≡ Good (record { h = h; rules = rules; count = count; from = at + 5 })
     unfolding fieldsAt

@@ -76,15 +76,7 @@ fn fields_at(s: &[u8], rules: u16, at: usize) -> Head
     if MOST_RECORDS < count {
         return Head::Bad;
     }
-    if h == 20 {
-        return Head::Good(Header {
-            h,
-            rules,
-            count,
-            from,
-        });
-    }
-    if h == 32 {
+    if (h == 20) | (h == 32) {
         return Head::Good(Header {
             h,
             rules,

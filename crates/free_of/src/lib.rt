@@ -1,19 +1,18 @@
-// Whether a byte does not stand among others, by blocks of thirty-two (docs/FORMAT.md, "Strict reading").
+// Whether a byte does not stand among others, by blocks (docs/FORMAT.md, "Strict reading").
 ghost use mathlib.Core.Path.{_≡_};
 ghost use Prim.Native.Nat.{_+_, _≤_, _<_};
 ghost use lib.ListN.{length};
 ghost use Rattle.ground.specs.Scan.{placeFrom, freeOf};
-use scan::find_byte;
 
-// 0 where none of the thirty-two bytes from a place on is x, and 1 where one is. The loop has no way out.
-fn among_32(s: &[u8], at: usize, x: u8) -> u8
-    requires { ⌜ at + 32 ≤ length (now s) ⌝ }
-    ensures none { λ r. ⌜ (r ≡ 0 → placeFrom x (now (s .entry)) at ≡ placeFrom x (now (s .entry)) (at + 32)) ⌝ }
-    ensures some { λ r. ⌜ ((r ≡ 0 → ⊥) → placeFrom x (now (s .entry)) at < at + 32) ⌝ }
+// 0 where none of n bytes from a place on is x, and 1 where one is. The loop has no way out.
+fn among(s: &[u8], at: usize, n: usize, x: u8) -> u8
+    requires { ⌜ at + n ≤ length (now s) ⌝ }
+    ensures none { λ r. ⌜ (r ≡ 0 → placeFrom x (now (s .entry)) at ≡ placeFrom x (now (s .entry)) (at + n)) ⌝ }
+    ensures some { λ r. ⌜ ((r ≡ 0 → ⊥) → placeFrom x (now (s .entry)) at < at + n) ⌝ }
 {
     let mut hit: u8 = 0;
     let mut k: usize = 0;
-    while k < 32 {
+    while k < n {
         if s[at + k] == x {
             hit = 1;
         }
@@ -30,7 +29,7 @@ fn is_free_far(s: &[u8], x: u8) -> bool
     let mut at = 0;
     let mut left = s.len() - 32;
     loop {
-        if among_32(s, at, x) != 0 {
+        if among(s, at, 32, x) != 0 {
             return false;
         }
         if 32 <= left {
@@ -46,12 +45,31 @@ fn is_free_far(s: &[u8], x: u8) -> bool
     }
 }
 
+// Whether none of k to twice k bytes is x: the first k and the last k, which may overlap.
+fn is_free_near(s: &[u8], k: usize, x: u8) -> bool
+    requires { ⌜ (k ≤ length (now s)) × (length (now s) ≤ k + k) ⌝ }
+    ensures { λ r. ⌜ r ≡ freeOf x (now (s .entry)) ⌝ }
+{
+    let last = s.len() - k;
+    (among(s, 0, k, x) == 0) & (among(s, last, k, x) == 0)
+}
+
 // Whether no byte is x.
 pub fn is_free(s: &[u8], x: u8) -> bool
     ensures { λ r. ⌜ r ≡ freeOf x (now (s .entry)) ⌝ }
 {
-    if 32 <= s.len() {
+    let n = s.len();
+    if 32 <= n {
         return is_free_far(s, x);
     }
-    find_byte(s, 0, x) == s.len()
+    if 16 <= n {
+        return is_free_near(s, 16, x);
+    }
+    if 8 <= n {
+        return is_free_near(s, 8, x);
+    }
+    if 4 <= n {
+        return is_free_near(s, 4, x);
+    }
+    among(s, 0, n, x) == 0
 }

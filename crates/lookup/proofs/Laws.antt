@@ -139,19 +139,25 @@ module _ (h : ℕ) (object : List ℕ) (records : List EntryRecord) (name : List
   search-met : (o : Met) → how (mid low high) ≡ o → searchFrom how low high c ≡ turn o (searchFrom how) low high (mid low high) c
   search-met o q = search-more how low high c l ∙ ap (λ (x : Met). turn x (searchFrom how) low high (mid low high) c) q
 
-  module _ (e : EntryRecord) (read : e ≡ nth records (low + (high - low) / 2)) where
-    pub search-bad : wellFormed h (length object) e ≡ false → searchFrom how low high c ≡ declined (verdict 10 (low + (high - low) / 2))
-    unfolding mid
-    search-bad w = search-met bad (ap (compareEntry h object name folder) (sym read) ∙ met-bad h object name folder e w)
+  -- the middle, in one sum
+  half : (low + high) / 2 ≡ mid low high
+  unfolding mid
+  half = omega arith
+
+  search-half : (o : Met) → how ((low + high) / 2) ≡ o → searchFrom how low high c ≡ turn o (searchFrom how) low high ((low + high) / 2) c
+  search-half o = rw half (search-met o)
+
+  module _ (e : EntryRecord) (read : e ≡ nth records ((low + high) / 2)) where
+    pub search-bad : wellFormed h (length object) e ≡ false → searchFrom how low high c ≡ declined (verdict 10 ((low + high) / 2))
+    search-bad w = search-half bad (ap (compareEntry h object name folder) (sym read) ∙ met-bad h object name folder e w)
 
     -- by what the leaves answer that compare it
     pub search-told : wellFormed h (length object) e ≡ true → (o : Order) {sort : Bool} {r : Order} → sort ≡ folderOf e
         → r ≡ nameOrder (nameOf object e) sort name folder → r ≡ o
-        → searchFrom how low high c ≡ turn (met o) (searchFrom how) low high (low + (high - low) / 2) c
-    unfolding mid
+        → searchFrom how low high c ≡ turn (met o) (searchFrom how) low high ((low + high) / 2) c
     search-told w o {sort} {r} f k t =
         let q : nameOrder (nameOf object e) (folderOf e) name folder ≡ o = ap (λ (x : Bool). nameOrder (nameOf object e) x name folder) (sym f) ∙ sym k ∙ t in
-        search-met (met o) (ap (compareEntry h object name folder) (sym read) ∙ met-good h object name folder e w ∙ ap met q)
+        search-half (met o) (ap (compareEntry h object name folder) (sym read) ∙ met-good h object name folder e w ∙ ap met q)
 
 -- ---- the whole
 

@@ -56,7 +56,7 @@ fn searched(object: &[u8], h: usize, records: &[usize], name: &[u8], folder: boo
     let mut high = records.len() / entry_record::WIDTH;
     let mut compared: usize = 0;
     while low < high {
-        let middle = low + (high - low) / 2;
+        let middle = (low + high) / 2;
         let e = record_at(records, middle);
         if entry_record::well_formed(h, object.len(), e) {
             compared += 1;

@@ -23,7 +23,8 @@ use Rattle.component.specs.Component.{components, isPath}
 use Rattle.component.specs.Named.{Found, there, nowhere}
 use Rattle.path.specs.Path.{walkAlong, refusedWith, answered, followAlong, followIn, followFrom, follow}
 use Rattle.path_walk.specs.declared.Followed.{Followed}
-use Rattle.border_bundle.specs.Border.{noObject, objectAt, objectFrom, objectAsked, checkedNumbers, objectNumbers, followedNumbers}
+use Rattle.border_bundle.specs.Border.{noObject, objectAt, objectFrom, objectAsked, checkedNumbers, objectNumbers}
+use Rattle.border_path.specs.Border.{followedNumbers}
 use Rattle.border_bundle.specs.declared.Object as asked
 use Rattle.call.specs.Call.{Fits, none, _and_}
 use Rattle.paper.specs.Calls.{ofOpening, ofChecked, ofObject, ofFollowed}

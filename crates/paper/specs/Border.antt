@@ -20,6 +20,7 @@ use Rattle.border_tree_write.proofs as btw
 use Rattle.border_commit.proofs as bc
 use Rattle.border_commit_write.proofs as bcw
 use Rattle.border_bundle.proofs as bb
+use Rattle.border_path.proofs as way
 use Rattle.border_check.proofs as bcheck
 use Rattle.border_pieces.proofs as bp
 use Rattle.sarpukten.proofs as c
@@ -253,7 +254,7 @@ behind =
     ∷ call bx.import_tree.Kinds.ps bx.import_tree.Kinds.r bx.import_tree.Reads.Asked bx.import_tree.Reads.Post
     ∷ call bb.check_bundle.Kinds.ps bb.check_bundle.Kinds.r bb.check_bundle.Reads.Asked bb.check_bundle.Reads.Post
     ∷ call bb.bundle_object.Kinds.ps bb.bundle_object.Kinds.r bb.bundle_object.Reads.Asked bb.bundle_object.Reads.Post
-    ∷ call bb.follow_path.Kinds.ps bb.follow_path.Kinds.r bb.follow_path.Reads.Asked bb.follow_path.Reads.Post
+    ∷ call way.follow_path.Kinds.ps way.follow_path.Kinds.r way.follow_path.Reads.Asked way.follow_path.Reads.Post
     ∷ call be.put_in_tree.Kinds.ps be.put_in_tree.Kinds.r be.put_in_tree.Reads.Asked be.put_in_tree.Reads.Post
     ∷ call be.remove_from_tree.Kinds.ps be.remove_from_tree.Kinds.r be.remove_from_tree.Reads.Asked be.remove_from_tree.Reads.Post
     ∷ call bmd.mend_tree.Kinds.ps bmd.mend_tree.Kinds.r bmd.mend_tree.Reads.Asked bmd.mend_tree.Reads.Post

@@ -35,7 +35,7 @@ fn put_id(out: &mut [u8], id: &[u8; 32]) {
 fn follow_path(s: &[u8], g: &[usize], out: &mut [u8]) -> [usize; ANSWERS] {
     let mut t = [0usize; 5];
     let mut id = [0u8; 32];
-    border_bundle::follow_path(a(s, g), b(s, g), c(s, g), &mut t, &mut id);
+    border_path::follow_path(a(s, g), b(s, g), c(s, g), &mut t, &mut id);
     put_id(out, &id);
     five(t)
 }

@@ -28,7 +28,8 @@ ghost use Rattle.border_commit.specs.Border.{commitNumbers};
 ghost use Rattle.border_commit_write.specs.Border.{sizeSaid, answerSaid, outputSaid};
 ghost use Rattle.bundle.specs.Bundle.{checkOf};
 ghost use Rattle.path.specs.Path.{follow};
-ghost use Rattle.border_bundle.specs.Border.{objectAsked, checkedNumbers, objectNumbers, followedNumbers};
+ghost use Rattle.border_bundle.specs.Border.{objectAsked, checkedNumbers, objectNumbers};
+ghost use Rattle.border_path.specs.Border.{followedNumbers};
 ghost use Rattle.border_difference.specs.Border.{compareAnswered, compareItems, comparePaths};
 ghost use Rattle.edit_walk.specs.Walk.{newEntry};
 ghost use Rattle.edit.specs.Edit.{putOutput, removeOutput};
@@ -430,7 +431,7 @@ pub extern "C" fn sarpukten_follow_path(
     ensures { λ _. ⌜ now (answer .exit) ≡ followedNumbers (follow (now (bundle .entry)) (now (root .entry)) (now (path .entry))) ⌝ }
     ensures { λ _. ⌜ now (id .exit) ≡ follow (now (bundle .entry)) (now (root .entry)) (now (path .entry)) .id ⌝ }
 {
-    border_bundle::follow_path(bundle, root, path, answer, id)
+    border_path::follow_path(bundle, root, path, answer, id)
 }
 
 // What differs between two trees of a bundle, by the ids of the two.

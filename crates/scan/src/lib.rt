@@ -1,4 +1,4 @@
-// The scans of bytes, eight and thirty-two at a time.
+// The scans of bytes: eight, sixteen and thirty-two at a time.
 ghost use mathlib.Core.Path.{_≡_};
 ghost use Prim.Native.Nat.{_+_, _≤_, _<_, min};
 ghost use lib.ListN.{length, take, drop};
@@ -104,15 +104,15 @@ pub fn count_to(s: &[u8], x: u8) -> usize
     find_byte(s, 0, x)
 }
 
-// 0 where none of the thirty-two bytes from a place on is NUL, and 1 where one is. The loop has no way out.
-fn in_32(s: &[u8], at: usize) -> u8
-    requires { ⌜ at + 32 ≤ length (now s) ⌝ }
-    ensures none { λ r. ⌜ (r ≡ 0 → placeFrom 0 (now (s .entry)) at ≡ placeFrom 0 (now (s .entry)) (at + 32)) ⌝ }
-    ensures some { λ r. ⌜ ((r ≡ 0 → ⊥) → placeFrom 0 (now (s .entry)) at < at + 32) ⌝ }
+// 0 where none of n bytes from a place on is NUL, and 1 where one is. The loop has no way out.
+fn among(s: &[u8], at: usize, n: usize) -> u8
+    requires { ⌜ at + n ≤ length (now s) ⌝ }
+    ensures none { λ r. ⌜ (r ≡ 0 → placeFrom 0 (now (s .entry)) at ≡ placeFrom 0 (now (s .entry)) (at + n)) ⌝ }
+    ensures some { λ r. ⌜ ((r ≡ 0 → ⊥) → placeFrom 0 (now (s .entry)) at < at + n) ⌝ }
 {
     let mut hit: u8 = 0;
     let mut k: usize = 0;
-    while k < 32 {
+    while k < n {
         if s[at + k] == 0 {
             hit = 1;
         }
@@ -132,7 +132,7 @@ fn skip(s: &[u8], from: usize) -> usize
     let mut at = from;
     let mut left = s.len() - from - 32;
     loop {
-        if in_32(s, at) != 0 {
+        if among(s, at, 32) != 0 {
             return at;
         }
         if 32 <= left {
@@ -148,8 +148,22 @@ fn skip(s: &[u8], from: usize) -> usize
     }
 }
 
-// The first NUL of a block of thirty-two bytes that has one.
-fn nul_of_block(s: &[u8], j: usize) -> usize
+// The first NUL of sixteen bytes that have one.
+fn nul_of_16(s: &[u8], j: usize) -> usize
+    requires { ⌜ j + 16 ≤ length (now s) ⌝ }
+    requires { ⌜ placeFrom 0 (now s) j < j + 16 ⌝ }
+    ensures { λ r. ⌜ r ≡ placeFrom 0 (now (s .entry)) j ⌝ }
+{
+    let a = marks(eight(s, j));
+    if a != 0 {
+        return j + place(a);
+    }
+    let j1 = j + 8;
+    j1 + place(marks(eight(s, j1)))
+}
+
+// The first NUL of thirty-two bytes that have one.
+fn nul_of_32(s: &[u8], j: usize) -> usize
     requires { ⌜ j + 32 ≤ length (now s) ⌝ }
     requires { ⌜ placeFrom 0 (now s) j < j + 32 ⌝ }
     ensures { λ r. ⌜ r ≡ placeFrom 0 (now (s .entry)) j ⌝ }
@@ -163,30 +177,35 @@ fn nul_of_block(s: &[u8], j: usize) -> usize
     if b != 0 {
         return j1 + place(b);
     }
-    let j2 = j + 16;
-    let c = marks(eight(s, j2));
-    if c != 0 {
-        return j2 + place(c);
-    }
-    let j3 = j + 24;
-    j3 + place(marks(eight(s, j3)))
+    nul_of_16(s, j + 16)
 }
 
-// Where NUL stands next at or after a place, as find_byte says it.
+// Where NUL stands next at or after a place that has thirty-two bytes or more from it on, by blocks of thirty-two.
+fn find_far(s: &[u8], from: usize) -> usize
+    requires { ⌜ from + 32 ≤ length (now s) ⌝ }
+    ensures { λ r. ⌜ r ≡ placeFrom 0 (now (s .entry)) from ⌝ }
+{
+    let j = skip(s, from);
+    if s.len() <= j {
+        return s.len();
+    }
+    nul_of_32(s, j)
+}
+
+// Where NUL stands next at or after a place, as find_byte says it. Most names end in the first sixteen bytes.
 pub fn find_nul(s: &[u8], from: usize) -> usize
     ensures { λ r. ⌜ r ≡ placeFrom 0 (now (s .entry)) from ⌝ }
 {
     if s.len() < from {
         return from;
     }
-    if s.len() - from < 32 {
+    if s.len() - from < 48 {
         return find_byte(s, from, 0);
     }
-    let j = skip(s, from);
-    if s.len() <= j {
-        return s.len();
+    if among(s, from, 16) != 0 {
+        return nul_of_16(s, from);
     }
-    nul_of_block(s, j)
+    find_far(s, from + 16)
 }
 
 // The shorter of two lengths.

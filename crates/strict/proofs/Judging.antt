@@ -4,12 +4,14 @@ use native.Mathlib.Omega.{arith}
 use mathlib.Core.Path.{_≡_, refl, sym, ap, subst, _∙_}
 use mathlib.Core.Bool.{Bool, true, false, _||_}
 use mathlib.Core.List.{List, [], _∷_, map}
-use lib.Dec.{ltb, leb}
+use lib.Dec.{eqb, ltb, leb}
 use lib.ListN.{length, getD, take, drop, length-append}
 use lib.Seq.{take-take, take-append-seam}
-use borrow.Author.Tests.{ltb-true}
+use borrow.Author.Tests.{eqb-true, ne-eqb, ltb-true}
 use Rattle.ground.specs.Basics.{pick, part}
 use Rattle.ground.specs.Scan.{sameBytes, freeOf}
+use Rattle.ground.specs.Verdict.{verdict}
+use Rattle.ground.specs.declared.Verdict.{Verdict}
 use Rattle.ground.proofs.Laws.{same-refl, same-true}
 use Rattle.ground.proofs.Table.{rows-agree}
 use Rattle.mode_code.specs.Code.{coded, codeAt, spaced, codeIn, quickAt}
@@ -22,6 +24,9 @@ use Rattle.order.specs.declared.Order.the-variants.{Below, Same, Above}
 use Rattle.entry.specs.Record.{nameOf, folderOf}
 use Rattle.entry.specs.Entry.{Entry, entryOf}
 use Rattle.entry.specs.declared.EntryRecord.{EntryRecord}
+use Rattle.entry.specs.declared.Cursor.{Cursor}
+use Rattle.entry.specs.declared.Decoded.{Decoded}
+use Rattle.entry.specs.declared.Decoded.the-variants.{Whole, Broken}
 use Rattle.doubles.specs.Doubles.{namedBefore}
 use Rattle.doubles.specs.Stack.{placeOf, marksOf}
 use Rattle.doubles.specs.declared.Placed.{Placed}
@@ -33,9 +38,10 @@ use Rattle.order.specs.Order.{isBelow}
 use Rattle.rules.specs.Rules.{isText, judge, orElse, modesOf, nameNumber, bareNumber, standsBefore, isAfter, afterNumber, gitRules}
 use Rattle.rules.proofs.Laws.{texts-five, number-free}
 use Rattle.strict.specs.Strict.{textOf}
-use Rattle.strict.specs.Code.{LastWithin, lastOf, entryNo, afterAt, marksAfter, Roomy}
+use Rattle.strict.specs.Code.{LastWithin, lastOf, entryNo, seenBy, afterAt, marksAfter, Roomy}
 use Rattle.strict.specs.declared.Last.{Last}
 use Rattle.strict.specs.declared.Last.the-variants.{Nothing, After}
+use Rattle.strict.specs.declared.Seen.the-variants.{Kept, Refused}
 
 -- ---- a mode text
 
@@ -145,6 +151,33 @@ module _ (k : ℕ) (s : List ℕ) (at : ℕ) (e : EntryRecord) where
       → judge (gitRules k) before (textOf s at e) (entryOf h s e) ≡ afterNumber before (entryOf h s e)
   unfolding judge gitRules entryNo entryOf
   judged-place h before n = or-last (pick (isText (modesOf k) (textOf s at e)) 0 5) (nameNumber (nameOf s e)) _ n
+
+-- ---- an entry as it is seen
+
+module _ (k : ℕ) (s : List ℕ) (at : ℕ) (d : Decoded) where
+  pub seen-broken : {v : Verdict} → d ≡ Broken v → Refused v ≡ seenBy k s at d
+  seen-broken q = rw q
+
+  module _ (e : EntryRecord) (next : Cursor) (q : d ≡ Whole e next) (number : ℕ) (j : number ≡ entryNo k s at e) where
+    pub seen-bad : (number ≡ 0 → ⊥) → Refused (verdict number at) ≡ seenBy k s at d
+    seen-bad z = rw (q, ← j, ne-eqb number 0 z)
+
+    pub seen-good : number ≡ 0 → Kept e next ≡ seenBy k s at d
+    seen-good z = rw (q, ← j, z)
+
+-- one that is kept was decoded, and nothing is said of it by itself
+pub seen-kept : (k : ℕ) (s : List ℕ) (at : ℕ) (d : Decoded) (e : EntryRecord) (next : Cursor) → seenBy k s at d ≡ Kept e next
+    → (d ≡ Whole e next) × (0 ≡ entryNo k s at e)
+seen-kept k s at (Whole a b) e next q = go (eqb (entryNo k s at a) 0) refl q
+  where
+    go : (v : Bool) → eqb (entryNo k s at a) 0 ≡ v → pick v (Kept a b) (Refused (verdict (entryNo k s at a) at)) ≡ Kept e next
+        → (Whole a b ≡ Whole e next) × (0 ≡ entryNo k s at e)
+    go true p q =
+        let x : a ≡ e = cc in
+        let y : b ≡ next = cc in
+        (rw (x, y), sym (eqb-true (entryNo k s at a) 0 p) ∙ ap (entryNo k s at) x)
+    go false p q = let z : _≡_ {A = ℕ} 0 1 = cc in absurd (omega arith)
+seen-kept k s at (Broken v) e next q = let z : _≡_ {A = ℕ} 0 1 = cc in absurd (omega arith)
 
 -- ---- its place among the entries that were read before, the nearest first
 

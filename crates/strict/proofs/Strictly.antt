@@ -2,10 +2,13 @@
 use Prim.Native.Nat.{ℕ, _+_, _-_, _%_, _<_, _≤_}
 use native.Mathlib.Omega.{arith}
 use mathlib.Core.Path.{_≡_, refl, ap, sym, _∙_}
-use mathlib.Core.Bool.{true}
+use mathlib.Core.Bool.{Bool, true, false}
 use mathlib.Core.List.{List, [], _∷_, map}
+use lib.Dec.{eqb}
 use lib.ListN.{length, drop, replicate, length-take, length-replicate}
 use lib.Seq.{drop-drop}
+use borrow.Author.Tests.{eqb-false}
+use Rattle.ground.specs.Basics.{pick}
 use Rattle.ground.specs.Scan.{countTo, freeOf}
 use Rattle.ground.specs.Verdict.{verdict, mostRecords}
 use Rattle.ground.specs.declared.Verdict.{Verdict}
@@ -19,6 +22,7 @@ use Rattle.entry.specs.Entry.{Entry, entryOf}
 use Rattle.entry.specs.Decode.{decode}
 use Rattle.entry.specs.declared.EntryRecord.{EntryRecord}
 use Rattle.entry.specs.declared.Cursor.{Cursor}
+use Rattle.entry.specs.declared.Decoded.{Decoded}
 use Rattle.entry.specs.declared.Decoded.the-variants.{Whole, Broken}
 use Rattle.entry.proofs.Laws.{Parts, decode-inside, decode-parts}
 use Rattle.doubles.specs.declared.Placed.{Placed}
@@ -30,9 +34,10 @@ use Rattle.reading.specs.Listing.{Listing, tally}
 use Rattle.reading.specs.declared.Counted.the-variants.{Total, Stopped}
 use Rattle.reading.proofs.Laws.{restAt, rest-end, rest-full, rest-broken, rest-whole}
 use Rattle.strict.specs.Strict.{textOf, cut, strictly}
-use Rattle.strict.specs.Code.{Within, LastWithin, lastOf, entryNo, afterAt, marksAfter, Roomy}
+use Rattle.strict.specs.Code.{Within, LastWithin, lastOf, entryNo, seenBy, seenAt, afterAt, marksAfter, Roomy}
 use Rattle.strict.specs.declared.Last.{Last}
 use Rattle.strict.specs.declared.Last.the-variants.{Nothing, After}
+use Rattle.strict.specs.declared.Seen.the-variants.{Kept, Refused}
 use Rattle.strict.proofs.Laws.{cut-bad, cut-fine}
 use Rattle.strict.proofs.Judging.{after-length, judged-itself, judged-place, place-not-after, place-double, place-fine}
 
@@ -123,7 +128,7 @@ module _ (k h : ℕ) (s : List ℕ) (at n m : ℕ) (last : Last) (marks : List �
     reading-full f = sym (r .same ∙ ap (λ (l : Listing). tally n (from l)) (rest-full h s at n p f))
 
     module _ (f : n < mostRecords) where
-      pub reading-broken : {v : Verdict} → decode h at (drop at s) ≡ Broken v → Stopped v ≡ tally 0 (strictly (gitRules k) h s)
+      reading-broken : {v : Verdict} → decode h at (drop at s) ≡ Broken v → Stopped v ≡ tally 0 (strictly (gitRules k) h s)
       unfolding tally cut
       reading-broken d = sym (r .same ∙ ap (λ (l : Listing). tally n (from l)) (rest-broken h s at n p f d))
 
@@ -140,7 +145,7 @@ module _ (k h : ℕ) (s : List ℕ) (at n m : ℕ) (last : Last) (marks : List �
             ∙ ap (tally n) (cut-bad (gitRules k) h s before at e (restAt h s (next .at) (n + 1)) (λ q. z (sym said ∙ q)))
             ∙ ap (λ (i : ℕ). Stopped (verdict i at)) said)
 
-        pub reading-refused : (number ≡ 0 → ⊥) → Stopped (verdict number at) ≡ tally 0 (strictly (gitRules k) h s)
+        reading-refused : (number ≡ 0 → ⊥) → Stopped (verdict number at) ≡ tally 0 (strictly (gitRules k) h s)
         reading-refused z = refuses number (judged-itself k s at e h before (λ q. z (j ∙ q)) ∙ sym j) z
 
         module _ (z : number ≡ 0) (x : Placed) (a : x ≡ afterAt s marks m last e) where
@@ -182,3 +187,18 @@ module _ (k h : ℕ) (s : List ℕ) (at n m : ℕ) (last : Last) (marks : List �
                 within = omega arith;
                 room = rw (b, after-length s marks m (lastOf (r .seen)) e) (r .room);
               }
+
+      -- an entry that is not kept by itself: the refusal
+      pub reading-unseen : (v : Verdict) → seenAt k h s at ≡ Refused v → Stopped v ≡ tally 0 (strictly (gitRules k) h s)
+      reading-unseen v q = go (decode h at (drop at s)) refl q
+        where
+          judged : (e : EntryRecord) (next : Cursor) → decode h at (drop at s) ≡ Whole e next → (b : Bool) → eqb (entryNo k s at e) 0 ≡ b
+              → pick b (Kept e next) (Refused (verdict (entryNo k s at e) at)) ≡ Refused v → Stopped v ≡ tally 0 (strictly (gitRules k) h s)
+          judged e next d true p q = let z : _≡_ {A = ℕ} 0 1 = cc in absurd (omega arith)
+          judged e next d false p q =
+              let x : verdict (entryNo k s at e) at ≡ v = cc in
+              ap Stopped (sym x) ∙ reading-refused e next (entryNo k s at e) d refl (eqb-false (entryNo k s at e) 0 p)
+
+          go : (d : Decoded) → decode h at (drop at s) ≡ d → seenBy k s at d ≡ Refused v → Stopped v ≡ tally 0 (strictly (gitRules k) h s)
+          go (Whole e next) d q = judged e next d (eqb (entryNo k s at e) 0) refl q
+          go (Broken w) d q = let x : w ≡ v = cc in ap Stopped (sym x) ∙ reading-broken d

@@ -1,10 +1,15 @@
 -- What the private leaves of the strict reader answer, by positions in the object. Assumes nothing.
 use Prim.Native.Nat.{ℕ, _+_, _*_, _<_, _≤_}
 use mathlib.Core.List.{List, [], _∷_}
+use lib.Dec.{eqb}
+use lib.ListN.{drop}
 use Rattle.ground.specs.Basics.{pick}
-use Rattle.ground.specs.Verdict.{mostBytes}
+use Rattle.ground.specs.Verdict.{verdict, mostBytes}
 use Rattle.entry.specs.Record.{nameOf, folderOf}
+use Rattle.entry.specs.Decode.{decode}
 use Rattle.entry.specs.declared.EntryRecord.{EntryRecord}
+use Rattle.entry.specs.declared.Decoded.{Decoded}
+use Rattle.entry.specs.declared.Decoded.the-variants.{Whole, Broken}
 use Rattle.doubles.specs.Stack.{placeOf, marksOf}
 use Rattle.doubles.specs.declared.Placed.{Placed}
 use Rattle.doubles.specs.declared.Placed.the-variants.{Fine}
@@ -12,6 +17,8 @@ use Rattle.rules.specs.Rules.{orElse, isText, modesOf, nameNumber}
 use Rattle.strict.specs.Strict.{textOf}
 use Rattle.strict.specs.declared.Last.{Last}
 use Rattle.strict.specs.declared.Last.the-variants.{Nothing, After}
+use Rattle.strict.specs.declared.Seen.{Seen}
+use Rattle.strict.specs.declared.Seen.the-variants.{Kept, Refused}
 
 -- an entry at a place lies inside so many bytes
 abbrev pub Within : ℕ → ℕ → EntryRecord → Type 0
@@ -30,6 +37,15 @@ lastOf (p ∷ ps) = After p
 -- what is said of an entry by itself: 5, 6, 18 or 0
 unfoldable pub entryNo : ℕ → List ℕ → ℕ → EntryRecord → ℕ
 entryNo k s at e = orElse (pick (isText (modesOf k) (textOf s at e)) 0 5) (nameNumber (nameOf s e))
+
+-- what is seen of what was decoded at a place: an entry that keeps the rules by itself, or a refusal
+abbrev pub seenBy : ℕ → List ℕ → ℕ → Decoded → Seen
+seenBy k s at (Whole e next) = pick (eqb (entryNo k s at e) 0) (Kept e next) (Refused (verdict (entryNo k s at e) at))
+seenBy k s at (Broken v) = Refused v
+
+-- and of the bytes there
+abbrev pub seenAt : ℕ → ℕ → List ℕ → ℕ → Seen
+seenAt k h s at = seenBy k s at (decode h at (drop at s))
 
 -- where an entry stands after the one before, with n names open among the marks a
 unfoldable pub afterAt : List ℕ → List ℕ → ℕ → Last → EntryRecord → Placed

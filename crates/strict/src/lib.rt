@@ -7,12 +7,12 @@ ghost use Rattle.ground.specs.Scan.{freeOf};
 ghost use Rattle.ground.specs.Verdict.{verdict, mostBytes};
 ghost use Rattle.entry.specs.Record.{nameOf};
 ghost use Rattle.entry.specs.Decode.{decode};
-ghost use Rattle.mode_code.specs.Code.{codeAt};
+ghost use Rattle.mode_code.specs.Code.{codeAt, quickAt};
 ghost use Rattle.rules.specs.Rules.{isText, modesOf, gitRules};
 ghost use Rattle.reading.specs.Listing.{tally};
 ghost use Rattle.reading.specs.declared.Counted.the-variants.{Stopped};
 ghost use Rattle.strict.specs.Strict.{textOf, strictly, strictCount, strictAnswer, strictRecords};
-ghost use Rattle.strict.specs.Code.{Within, LastWithin, entryNo, afterAt, marksAfter, Roomy};
+ghost use Rattle.strict.specs.Code.{Within, LastWithin, entryNo, seenAt, afterAt, marksAfter, Roomy};
 use doubles::Placed;
 use doubles::place_entry;
 use entry::Cursor;
@@ -45,12 +45,18 @@ enum Last {
     After(EntryRecord),
 }
 
-// One entry at a place as its cursor decodes it, the written modes tried first.
-fn decode_at(s: &[u8], h: usize, at: usize) -> Decoded
+// An entry that keeps the rules by itself, with the cursor past it, or a refusal.
+enum Seen {
+    Kept(EntryRecord, Cursor),
+    Refused(Verdict),
+}
+
+// One entry at a place as its cursor decodes it, by the code of its mode where the mode is one of those written.
+fn decode_at(s: &[u8], h: usize, at: usize, code: usize) -> Decoded
+    requires { ⌜ code ≡ quickAt (now s) at ⌝ }
     ensures { λ r. ⌜ r ≡ decode h at (drop at (now (s .entry))) ⌝ }
 {
     let c = Cursor { at };
-    let code = quick_code(s, at);
     if code == 0 {
         return c.decode(s, h);
     }
@@ -102,12 +108,13 @@ fn after_entry(s: &[u8], marks: &mut [u32], n: usize, last: Last, e: EntryRecord
 }
 
 // Whether the mode text of an entry at a place is one of the rule set's.
-fn is_written(rules: u16, s: &[u8], at: usize, e: EntryRecord) -> bool
+fn is_written(rules: u16, s: &[u8], at: usize, code: usize, e: EntryRecord) -> bool
     requires { ⌜ Within (length (now s)) at e ⌝ }
     requires { ⌜ e .«name_start» ≡ at + codeAt (now s) at % 16 ⌝ }
+    requires { ⌜ code ≡ quickAt (now s) at ⌝ }
     ensures { λ r. ⌜ r ≡ isText (modesOf rules) (textOf (now (s .entry)) at e) ⌝ }
 {
-    if quick_code(s, at) != 0 {
+    if code != 0 {
         return true;
     }
     let start = e.name_start;
@@ -116,18 +123,40 @@ fn is_written(rules: u16, s: &[u8], at: usize, e: EntryRecord) -> bool
 }
 
 // What the strict rules say of an entry at a place by itself, as it was decoded there: 5, 6, 18 or 0.
-fn entry_number(rules: u16, s: &[u8], at: usize, e: EntryRecord) -> usize
+fn entry_number(rules: u16, s: &[u8], at: usize, code: usize, e: EntryRecord) -> usize
     requires { ⌜ Within (length (now s)) at e ⌝ }
     requires { ⌜ freeOf 0 (nameOf (now s) e) ≡ true ⌝ }
     requires { ⌜ e .«name_start» ≡ at + codeAt (now s) at % 16 ⌝ }
+    requires { ⌜ code ≡ quickAt (now s) at ⌝ }
     ensures { λ r. ⌜ r ≡ entryNo rules (now (s .entry)) at e ⌝ }
 {
-    if is_written(rules, s, at, e) {
+    if is_written(rules, s, at, code, e) {
         let start = e.name_start;
         let end = e.name_end;
         return name_number(&s[start..end]);
     }
     MODE_TEXT
+}
+
+// The entry at a place, if it keeps the rules by itself. The code of its mode is found once, for decoding and for judging.
+fn seen_at(rules: u16, s: &[u8], h: usize, at: usize) -> Seen
+    ensures { λ r. ⌜ r ≡ seenAt rules h (now (s .entry)) at ⌝ }
+{
+    let code = quick_code(s, at);
+    match decode_at(s, h, at, code) {
+        Decoded::Whole(e, next) => {
+            let number = entry_number(rules, s, at, code, e);
+            if number != DONE {
+                return Seen::Refused(Verdict {
+                    number,
+                    place: at,
+                    ..FINE
+                });
+            }
+            Seen::Kept(e, next)
+        }
+        Decoded::Broken(v) => Seen::Refused(v),
+    }
 }
 
 // Refused: by a number, at a place.
@@ -154,12 +183,8 @@ fn count_marked(rules: u16, s: &[u8], h: usize, marks: &mut [u32]) -> Counted
         if MOST_RECORDS <= n {
             return stopped(BOUND, 0);
         }
-        match decode_at(s, h, at) {
-            Decoded::Whole(e, next) => {
-                let number = entry_number(rules, s, at, e);
-                if number != DONE {
-                    return stopped(number, at);
-                }
+        match seen_at(rules, s, h, at) {
+            Seen::Kept(e, next) => {
                 match after_entry(s, marks, held, last, e) {
                     Placed::NotAfter => {
                         return stopped(ORDER, at);
@@ -175,7 +200,7 @@ fn count_marked(rules: u16, s: &[u8], h: usize, marks: &mut [u32]) -> Counted
                     }
                 }
             }
-            Decoded::Broken(v) => {
+            Seen::Refused(v) => {
                 return Counted::Stopped(v);
             }
         }

@@ -4,7 +4,8 @@ use Rattle.frame.proofs.fields_at.Statement.{statement}
 use Rattle.frame.proofs.fields_at.Tie as tie
 use native.Mathlib.Omega.{arith}
 use mathlib.Core.Path.{refl, sym}
-use mathlib.Core.Logic.{inl, inr}
+use Rattle.ground.specs.Verdict.{idLength}
+use Rattle.ground.proofs.Laws.{id-is}
 use Rattle.frame.proofs.Laws.{fields-many, fields-id, fields-good}
 
 shared-slice-read-h : tie.Need-shared-slice-read-h
@@ -26,28 +27,15 @@ returns : tie.Need-returns
 returns c = sym (fields-many _ _ _ (c .before .before .before .before .pre) _ _ refl (c .before .four-at .ensures .0) (c .if1 .taken))
 
 returns-2 : tie.Need-returns-2
+unfolding idLength
 returns-2 c =
     let pre = c .before .before .before .before .before .pre in
     let four-at = c .before .before .four-at in
-    let if1 = c .before .if1 in
-    let if2 = c .if2 in
-    sym (fields-good _ _ _ pre _ _ refl (four-at .ensures .0) (inl (if2 .taken)) (if1 .left))
+    sym (fields-good _ _ _ pre _ _ refl (four-at .ensures .0) (id-is _ (c .if2 .taken)) (c .before .if1 .left))
 
 returns-3 : tie.Need-returns-3
-returns-3 c =
-    let pre = c .before .before .before .before .before .before .pre in
-    let four-at = c .before .before .before .four-at in
-    let if1 = c .before .before .if1 in
-    let if3 = c .if3 in
-    sym (fields-good _ _ _ pre _ _ refl (four-at .ensures .0) (inr (if3 .taken)) (if1 .left))
-
-returns-4 : tie.Need-returns-4
-returns-4 c =
-    let pre = c .before .before .before .before .before .before .pre in
-    let four-at = c .before .before .before .four-at in
-    let if2 = c .before .if2 in
-    let if3 = c .if3 in
-    sym (fields-id _ _ _ pre _ _ refl (four-at .ensures .0) (if2 .left) (if3 .left))
+unfolding idLength
+returns-3 c = sym (fields-id _ _ _ (c .before .before .before .before .before .pre) _ _ refl (c .before .before .four-at .ensures .0) (c .if2 .left))
 
 pub fields-at-spec : {M : Type 1} → statement M
 fields-at-spec =
@@ -60,5 +48,4 @@ fields-at-spec =
     add-from
     returns
     returns-2
-    returns-3
-    returns-4)
+    returns-3)

@@ -21,11 +21,11 @@ sub-left c = search needs
 loop-holds : tie.Need-loop-holds Inv-loop μ-loop
 loop-holds c = (omega arith, omega arith)
 
-among-32-requires : tie.Need-among-32-requires Inv-loop μ-loop
-among-32-requires c κs = search needs
+among-requires : tie.Need-among-requires Inv-loop μ-loop
+among-requires c κs = search needs
 
 returns : tie.Need-returns Inv-loop μ-loop
-returns c = free-not _ _ _ (c .before .before .loop .inv .1) 32 (c .before .among-32 .ensures .1 (c .if1 .taken)) (omega arith)
+returns c = free-not _ _ _ (c .before .before .loop .inv .1) 32 (c .before .among .ensures .1 (c .if1 .taken)) (omega arith)
 
 add-at : tie.Need-add-at Inv-loop μ-loop
 add-at c = search needs
@@ -36,13 +36,13 @@ loop-less c = search needs
 loop-again : tie.Need-loop-again Inv-loop μ-loop
 loop-again c =
     let loop = c .before .before .before .loop in
-    (omega arith, free-on _ _ (loop .at) (loop .inv .1) 32 (c .before .before .among-32 .ensures .0 (c .before .if1 .left)))
+    (omega arith, free-on _ _ (loop .at) (loop .inv .1) 32 (c .before .before .among .ensures .0 (c .before .if1 .left)))
 
 returns-2 : tie.Need-returns-2 Inv-loop μ-loop
 returns-2 c =
     let args = c .before .before .before .before .before .before .args in
     let loop = c .before .before .before .before .loop in
-    let on = free-on (args .x) (args .s .now) (loop .at) (loop .inv .1) 32 (c .before .before .before .among-32 .ensures .0 (c .before .before .if1 .left)) in
+    let on = free-on (args .x) (args .s .now) (loop .at) (loop .inv .1) 32 (c .before .before .before .among .ensures .0 (c .before .before .if1 .left)) in
     free-all (args .x) (args .s .now) (omega (arith, on))
 
 add-at-2 : tie.Need-add-at-2 Inv-loop μ-loop
@@ -55,7 +55,7 @@ loop-again-2 : tie.Need-loop-again-2 Inv-loop μ-loop
 loop-again-2 c =
     let args = c .before .before .before .before .before .before .args in
     let loop = c .before .before .before .before .loop in
-    let on = free-on (args .x) (args .s .now) (loop .at) (loop .inv .1) 32 (c .before .before .before .among-32 .ensures .0 (c .before .before .if1 .left)) in
+    let on = free-on (args .x) (args .s .now) (loop .at) (loop .inv .1) 32 (c .before .before .before .among .ensures .0 (c .before .before .if1 .left)) in
     (omega arith, omega (arith, on))
 
 pub is-free-far-spec : {M : Type 1} → statement M
@@ -66,7 +66,7 @@ is-free-far-spec =
     μ-loop
     sub-left
     loop-holds
-    among-32-requires
+    among-requires
     returns
     add-at
     loop-less

@@ -29,9 +29,6 @@ loop-holds c =
     let allowed = c .before .before .before .pre in
     (omega arith, omega (arith, number, gate-open _ _ _ allowed .2), rw (sym number) (lookup-open _ _ _ _ _ allowed))
 
-sub-middle : tie.Need-sub-middle Inv-loop μ-loop
-sub-middle c = search needs
-
 add-middle : tie.Need-add-middle Inv-loop μ-loop
 add-middle c = search needs
 
@@ -158,7 +155,6 @@ searched-spec =
     Inv-loop
     μ-loop
     loop-holds
-    sub-middle
     add-middle
     record-at-requires
     well-formed-requires

@@ -18,17 +18,23 @@ find-byte-requires c κs = search needs
 returns-2 : tie.Need-returns-2
 returns-2 c = search needs
 
-skip-requires : tie.Need-skip-requires
-skip-requires c κs = search needs
+among-requires : tie.Need-among-requires
+among-requires c κs = omega arith
+
+nul-of-16-requires : tie.Need-nul-of-16-requires
+nul-of-16-requires c κs = (omega arith, c .before .among .ensures .1 (c .if3 .taken))
 
 returns-3 : tie.Need-returns-3
-returns-3 c = omega (arith, c .before .skip .ensures .1 .0 ∙ place-end 0 _ _ (c .if3 .taken))
+returns-3 c = search needs
 
-nul-of-block-requires : tie.Need-nul-of-block-requires
-nul-of-block-requires c κs = c .before .skip .ensures .1 .1 (omega arith)
+add-find-far : tie.Need-add-find-far
+add-find-far c = search needs
+
+find-far-requires : tie.Need-find-far-requires
+find-far-requires c κs = omega arith
 
 returns-4 : tie.Need-returns-4
-returns-4 c = search needs
+returns-4 c = c .find-far .ensures ∙ sym (c .before .before .among .ensures .0 (c .before .if3 .left))
 
 pub find-nul-spec : {M : Type 1} → statement M
 find-nul-spec =
@@ -38,7 +44,9 @@ find-nul-spec =
     sub-if2
     find-byte-requires
     returns-2
-    skip-requires
+    among-requires
+    nul-of-16-requires
     returns-3
-    nul-of-block-requires
+    add-find-far
+    find-far-requires
     returns-4)

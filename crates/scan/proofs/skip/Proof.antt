@@ -24,11 +24,11 @@ sub-left-2 c = search needs
 loop-holds : tie.Need-loop-holds Inv-loop μ-loop
 loop-holds c = (omega arith, refl)
 
-in-32-requires : tie.Need-in-32-requires Inv-loop μ-loop
-in-32-requires c κs = search needs
+among-requires : tie.Need-among-requires Inv-loop μ-loop
+among-requires c κs = search needs
 
 returns : tie.Need-returns Inv-loop μ-loop
-returns c = (omega arith, (c .before .before .loop .inv .1, λ h. (omega arith, c .before .in-32 .ensures .1 (c .if1 .taken))))
+returns c = (omega arith, (c .before .before .loop .inv .1, λ h. (omega arith, c .before .among .ensures .1 (c .if1 .taken))))
 
 add-at : tie.Need-add-at Inv-loop μ-loop
 add-at c = search needs
@@ -37,17 +37,17 @@ loop-less : tie.Need-loop-less Inv-loop μ-loop
 loop-less c = search needs
 
 loop-again : tie.Need-loop-again Inv-loop μ-loop
-loop-again c = (omega arith, c .before .before .before .loop .inv .1 ∙ c .before .before .in-32 .ensures .0 (c .before .if1 .left))
+loop-again c = (omega arith, c .before .before .before .loop .inv .1 ∙ c .before .before .among .ensures .0 (c .before .if1 .left))
 
 returns-2 : tie.Need-returns-2 Inv-loop μ-loop
 returns-2 c =
     let args = c .before .before .before .before .before .before .args in
     let loop = c .before .before .before .before .loop in
-    let in-32 = c .before .before .before .in-32 in
+    let among = c .before .before .before .among in
     let if1 = c .before .before .if1 in
     let s = args .s .now in
     let e : loop .at + 32 ≡ length s = omega arith in
-    (omega arith, (loop .inv .1 ∙ in-32 .ensures .0 (if1 .left) ∙ ap (placeFrom 0 s) e, λ h. absurd (omega arith)))
+    (omega arith, (loop .inv .1 ∙ among .ensures .0 (if1 .left) ∙ ap (placeFrom 0 s) e, λ h. absurd (omega arith)))
 
 add-at-2 : tie.Need-add-at-2 Inv-loop μ-loop
 add-at-2 c = search needs
@@ -59,7 +59,7 @@ loop-again-2 : tie.Need-loop-again-2 Inv-loop μ-loop
 loop-again-2 c =
     let loop = c .before .before .before .before .loop in (
       omega arith,
-      loop .inv .1 ∙ place-part 0 _ (loop .at) 32 (loop .left) (c .before .before .before .in-32 .ensures .0 (c .before .before .if1 .left)) (omega arith),
+      loop .inv .1 ∙ place-part 0 _ (loop .at) 32 (loop .left) (c .before .before .before .among .ensures .0 (c .before .before .if1 .left)) (omega arith),
     )
 
 pub skip-spec : {M : Type 1} → statement M
@@ -71,7 +71,7 @@ skip-spec =
     sub-left
     sub-left-2
     loop-holds
-    in-32-requires
+    among-requires
     returns
     add-at
     loop-less

@@ -11,9 +11,6 @@ use mathlib.Core.Path.{sym, _∙_}
 use Rattle.mode_code.proofs.Laws.{quick-is-code}
 use Rattle.reading.proofs.Front.{name-starts, name-ends, name-whole}
 
-quick-code-requires : tie.Need-quick-code-requires
-quick-code-requires c κs = search needs
-
 decode-requires : tie.Need-decode-requires
 decode-requires c κs = search needs
 
@@ -22,10 +19,10 @@ returns c = search needs
 
 add-name-start : tie.Need-add-name-start
 add-name-start c =
-    let args = c .before .before .before .args in
-    let quick-code = c .before .quick-code in
+    let args = c .before .before .args in
+    let pre = c .before .before .pre in
     let if1 = c .if1 in
-    let q = quick-code .ensures ∙ sym (quick-is-code (args .s .now) (args .at) (λ e. if1 .left (quick-code .ensures ∙ e))) in
+    let q = pre ∙ sym (quick-is-code (args .s .now) (args .at) (λ e. if1 .left (pre ∙ e))) in
     omega (arith, name-starts (args .s .now) (args .h) (args .at) _ q (if1 .left))
 
 find-nul-requires : tie.Need-find-nul-requires
@@ -33,11 +30,11 @@ find-nul-requires c κs = search needs
 
 sub-left : tie.Need-sub-left
 sub-left c =
-    let args = c .before .before .before .before .args in
-    let quick-code = c .before .before .quick-code in
+    let args = c .before .before .before .args in
+    let pre = c .before .before .before .pre in
     let if1 = c .before .if1 in
     let find-nul = c .find-nul in
-    let q = quick-code .ensures ∙ sym (quick-is-code (args .s .now) (args .at) (λ e. if1 .left (quick-code .ensures ∙ e))) in
+    let q = pre ∙ sym (quick-is-code (args .s .now) (args .at) (λ e. if1 .left (pre ∙ e))) in
     name-ends (args .s .now) (args .h) (args .at) _ q (if1 .left) _ (find-nul .ensures)
 
 decode-requires-2 : tie.Need-decode-requires-2
@@ -54,19 +51,18 @@ add-next c = search needs
 
 returns-3 : tie.Need-returns-3
 returns-3 c =
-    let args = c .before .before .before .before .before .args in
-    let quick-code = c .before .before .before .quick-code in
+    let args = c .before .before .before .before .args in
+    let pre = c .before .before .before .before .pre in
     let if1 = c .before .before .if1 in
     let find-nul = c .before .find-nul in
     let if2 = c .if2 in
-    let q = quick-code .ensures ∙ sym (quick-is-code (args .s .now) (args .at) (λ e. if1 .left (quick-code .ensures ∙ e))) in
+    let q = pre ∙ sym (quick-is-code (args .s .now) (args .at) (λ e. if1 .left (pre ∙ e))) in
     sym (name-whole (args .s .now) (args .h) (args .at) _ q (if1 .left) _ (find-nul .ensures) (if2 .left))
 
 pub decode-at-spec : {M : Type 1} → statement M
 decode-at-spec =
     tie.close
     (tie.spec
-    quick-code-requires
     decode-requires
     returns
     add-name-start

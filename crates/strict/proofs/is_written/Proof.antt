@@ -6,14 +6,11 @@ use mathlib.Core.Path.{sym, _∙_}
 use Rattle.strict.specs.Strict.{textOf}
 use Rattle.strict.proofs.Judging.{mode-quick}
 
-quick-code-requires : tie.Need-quick-code-requires
-quick-code-requires c κs = search needs
-
 returns : tie.Need-returns
 returns c =
-    let args = c .before .before .before .args in
-    let pre = c .before .before .before .pre in
-    sym (mode-quick (args .rules) (args .s .now) (args .at) (args .e) (λ z. c .if1 .taken (c .before .quick-code .ensures ∙ z)) (pre .1))
+    let args = c .before .before .args in
+    let pre = c .before .before .pre in
+    sym (mode-quick (args .rules) (args .s .now) (args .at) (args .e) (λ z. c .if1 .taken (pre .1 .1 ∙ z)) (pre .1 .0))
 
 sub-space : tie.Need-sub-space
 sub-space c = search needs
@@ -38,7 +35,6 @@ pub is-written-spec : {M : Type 1} → statement M
 is-written-spec =
     tie.close
     (tie.spec
-    quick-code-requires
     returns
     sub-space
     sub-mode-permitted
