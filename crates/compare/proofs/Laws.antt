@@ -7,7 +7,7 @@ use native.Mathlib.Nat.{pow-suc, suc-mul, mul-le-mul-right}
 use native.Mathlib.Decide.{decLt}
 use native.Mathlib.Omega.{arith}
 use lib.ListN.{length, getD, take, drop, length-drop, take-append-drop}
-use lib.Seq.{drop-cons, take-add, take-take}
+use lib.Seq.{drop-cons, take-add, take-take, getD-take}
 use Rattle.scan.specs.Word.{word, Bytes, WordOf}
 use Rattle.scan.proofs.Word.{part-length}
 use Rattle.order.specs.Order.{byNumber, opposite, next, nameOrder}
@@ -160,6 +160,13 @@ module _ (a b : List ℕ) (j : ℕ) {r : Order} (t : Told a b j r) where
   unfolding Told
   told-same e = subst (Told a b j) e t
 
+-- names that do not agree in so many bytes are told by these, however many there are
+pub told-differ : (a b : List ℕ) (j n : ℕ) (r : Order) → Told a b j r → (take j a ≡ take j b → ⊥) → Told a b n r
+unfolding Told
+told-differ a b j n Below t d = t
+told-differ a b j n Same t d = absurd (d t)
+told-differ a b j n Above t d = t
+
 pub told-at : (a b : List ℕ) (j k : ℕ) (r : Order) → j ≡ k → Told a b j r → Told a b k r
 told-at a b j k r e t = subst (λ (x : ℕ). Told a b x r) e t
 
@@ -188,6 +195,19 @@ module _ (a b : List ℕ) (i : ℕ) (h : i < length a) (k : i < length b) (e : t
   byte-same j f l m =
       let z : getD a i 0 ≡ getD b i 0 = omega arith in
       rw (f, take-add i 1 a, take-add i 1 b, e, drop-cons a i 0 h, drop-cons b i 0 k, z)
+
+-- a byte more that is the same, or is not
+pub agree-step : (a b : List ℕ) (i k : ℕ) → i + k < length a → i + k < length b → getD a (i + k) 0 ≡ getD b (i + k) 0 → take (i + k) a ≡ take (i + k) b
+    → take (i + (k + 1)) a ≡ take (i + (k + 1)) b
+agree-step a b i k h l z e = byte-same a b (i + k) h l e (i + (k + 1)) (omega arith) (omega arith) (omega arith)
+
+pub differ-here : (a b : List ℕ) (i k : ℕ) → (getD a (i + k) 0 ≡ getD b (i + k) 0 → ⊥) → take (i + (k + 1)) a ≡ take (i + (k + 1)) b → ⊥
+differ-here a b i k d e =
+    d (sym (getD-take (i + (k + 1)) a (i + k) 0 (omega arith)) ∙ ap (λ (l : List ℕ). getD l (i + k) 0) e ∙ getD-take (i + (k + 1)) b (i + k) 0 (omega arith))
+
+pub differ-on : (a b : List ℕ) (i k : ℕ) → (take (i + k) a ≡ take (i + k) b → ⊥) → take (i + (k + 1)) a ≡ take (i + (k + 1)) b → ⊥
+differ-on a b i k d e =
+    d (sym (take-take (i + k) (i + (k + 1)) a (omega arith)) ∙ ap (take (i + k)) e ∙ take-take (i + k) (i + (k + 1)) b (omega arith))
 
 -- ---- where one of them ends
 

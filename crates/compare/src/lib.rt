@@ -176,40 +176,78 @@ fn from_16(a: &[u8], b: &[u8], n: usize) -> Order
     }
 }
 
-// By their first n bytes, of which the first thirty-two agree.
-fn after_32(a: &[u8], b: &[u8], n: usize) -> Order
-    requires { ⌜ Within (now a) (now b) n × (take 32 (now a) ≡ take 32 (now b)) × (32 ≤ n) ⌝ }
+// 0 where two names that agree up to a place agree in the n bytes from there on too, and 1 where not. The loop has no way out.
+fn differ(a: &[u8], b: &[u8], i: usize, n: usize) -> u8
+    requires { ⌜ Ready (now a) (now b) i n ⌝ }
+    ensures none { λ r. ⌜ (r ≡ 0 → take (i + n) (now (a .entry)) ≡ take (i + n) (now (b .entry))) ⌝ }
+    ensures some { λ r. ⌜ ((r ≡ 0 → ⊥) → take (i + n) (now (a .entry)) ≡ take (i + n) (now (b .entry)) → ⊥) ⌝ }
+{
+    let mut hit: u8 = 0;
+    let mut k: usize = 0;
+    while k < n {
+        if a[i + k] != b[i + k] {
+            hit = 1;
+        }
+        k += 1;
+    }
+    hit
+}
+
+// By their first n bytes, thirty-two or more, and at most sixty-four.
+fn from_32(a: &[u8], b: &[u8], n: usize) -> Order
+    requires { ⌜ Within (now a) (now b) n × (32 ≤ n) × (n ≤ 64) ⌝ }
+    ensures { λ r. ⌜ Told (now (a .entry)) (now (b .entry)) n r ⌝ }
+{
+    if differ(a, b, 0, 16) != 0 {
+        return order_16(a, b, 0);
+    }
+    match order_16(a, b, 16) {
+        Order::Below => Order::Below,
+        Order::Same => order_32(a, b, n - 32),
+        Order::Above => Order::Above,
+    }
+}
+
+// By their first n bytes, of which the first sixty-four agree.
+fn after_64(a: &[u8], b: &[u8], n: usize) -> Order
+    requires { ⌜ Within (now a) (now b) n × (take 64 (now a) ≡ take 64 (now b)) × (64 ≤ n) ⌝ }
     ensures { λ r. ⌜ Told (now (a .entry)) (now (b .entry)) n r ⌝ }
 {
     let last = n - 32;
-    let mut i = 32;
+    let mut i = 64;
     while i < last {
-        match order_32(a, b, i) {
-            Order::Below => {
-                return Order::Below;
-            }
-            Order::Same => {
-                i += 32;
-                continue;
-            }
-            Order::Above => {
-                return Order::Above;
-            }
+        if differ(a, b, i, 32) != 0 {
+            return order_32(a, b, i);
         }
+        i += 32;
     }
     order_32(a, b, last)
 }
 
-// By their first n bytes, thirty-two or more.
-fn from_32(a: &[u8], b: &[u8], n: usize) -> Order
-    requires { ⌜ Within (now a) (now b) n × (32 ≤ n) ⌝ }
+// By their first n bytes, of which the first forty-eight agree.
+fn after_48(a: &[u8], b: &[u8], n: usize) -> Order
+    requires { ⌜ Within (now a) (now b) n × (take 48 (now a) ≡ take 48 (now b)) × (64 ≤ n) ⌝ }
     ensures { λ r. ⌜ Told (now (a .entry)) (now (b .entry)) n r ⌝ }
 {
-    match order_32(a, b, 0) {
+    match order_16(a, b, 48) {
         Order::Below => Order::Below,
-        Order::Same => after_32(a, b, n),
+        Order::Same => after_64(a, b, n),
         Order::Above => Order::Above,
     }
+}
+
+// By their first n bytes, sixty-four or more.
+fn from_64(a: &[u8], b: &[u8], n: usize) -> Order
+    requires { ⌜ Within (now a) (now b) n × (64 ≤ n) ⌝ }
+    ensures { λ r. ⌜ Told (now (a .entry)) (now (b .entry)) n r ⌝ }
+{
+    if differ(a, b, 0, 32) != 0 {
+        return order_32(a, b, 0);
+    }
+    if differ(a, b, 32, 16) != 0 {
+        return order_16(a, b, 32);
+    }
+    after_48(a, b, n)
 }
 
 // By their first n bytes.
@@ -217,6 +255,9 @@ fn by_first(a: &[u8], b: &[u8], n: usize) -> Order
     requires { ⌜ Within (now a) (now b) n ⌝ }
     ensures { λ r. ⌜ Told (now (a .entry)) (now (b .entry)) n r ⌝ }
 {
+    if 64 <= n {
+        return from_64(a, b, n);
+    }
     if 32 <= n {
         return from_32(a, b, n);
     }

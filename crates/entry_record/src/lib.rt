@@ -53,14 +53,15 @@ fn holds_id(h: usize, len: usize, id: usize) -> bool
     id <= len - h
 }
 
-// Whether a record names a mode, a name and an id of h bytes inside so many bytes, and no mode text that starts after the name does.
+// Whether a record names a mode, a name and an id of h bytes inside so many bytes, and no mode text that starts after the name does. The name's end
+// is held to the bytes first, so that the compiler keeps no copy of it for its distance from the start.
 pub fn well_formed(h: usize, len: usize, e: EntryRecord) -> bool
     ensures { λ r. ⌜ r ≡ wellFormed h len e ⌝ }
 {
     let id = holds_id(h, len, e.id_start);
     (e.mode <= 65535)
-        & ((e.name_start <= e.name_end)
-            & ((e.name_end <= len) & (id & (e.text_start <= e.name_start))))
+        & ((e.name_end <= len)
+            & ((e.name_start <= e.name_end) & (id & (e.text_start <= e.name_start))))
 }
 
 // Whether a record is a folder's.
