@@ -2,10 +2,5 @@ pub mod Level
 pub mod Steps
 pub mod Runs
 pub mod Judged
-pub mod Fed
-pub mod Strict
-pub mod Sixteen
-pub mod Bound
-pub mod Theorem
 pub mod Laws
 pub mod Bulk

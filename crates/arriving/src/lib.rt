@@ -1,5 +1,5 @@
 // A strict check of a tree object that arrives in pieces: one name is held, with marks beside it (docs/FORMAT.md, "A check in pieces").
-// Here stand its state, its definitions and what is proved of them; its code is in `pieces` and below.
+// Here stand its state, its definitions and their laws; its code is in `pieces` and below, what it answers on a whole object in `checking`.
 use ground::Verdict;
 
 // The most bytes of a name that is held, and one more than that: as many names can be open at once.

@@ -4,11 +4,11 @@ use mathlib.Core.Path.{_≡_, refl, ap, sym, _∙_}
 use mathlib.Core.List.{List}
 use Rattle.ground.specs.declared.Answer.{Answer}
 use Rattle.arriving.specs.Feed.{together, startOf, feedOf, finishOf, endOf}
-use Rattle.arriving.specs.Whole.{checkOf}
-use Rattle.arriving.specs.Claims.{inPieces, joined, answer}
+use Rattle.checking.specs.Whole.{checkOf}
+use Rattle.checking.specs.Claims.{inPieces, joined, answer}
 use Rattle.arriving.specs.declared.Marks.{Marks}
 use Rattle.arriving.specs.declared.Check.{Check}
-use Rattle.arriving.proofs.Theorem.{piece-laws}
+use Rattle.checking.proofs.Theorem.{piece-laws}
 use Rattle.call.specs.Call.{none, _and_}
 use Rattle.paper.specs.Arrives.{handed, piece, Feeds, no-piece, a-piece, Checked, Arrives}
 

@@ -19,14 +19,14 @@ use Rattle.mode.specs.declared.ModeRead.the-variants.{Mode, Bad}
 use Rattle.entry.specs.Decode.{shortPart}
 use Rattle.rules.specs.Gate.{ruleGate}
 use Rattle.arriving.specs.Feed.{together, fresh, gateVerdict, headPart, endIn, startOf, feedOf, finishOf, endOf}
-use Rattle.arriving.specs.Whole.{checkOf}
-use Rattle.arriving.specs.Claims.{inPieces, joined}
+use Rattle.checking.specs.Whole.{checkOf}
+use Rattle.checking.specs.Claims.{inPieces, joined}
 use Rattle.arriving.specs.declared.Phase.{Phase}
 use Rattle.arriving.specs.declared.Phase.the-variants.{Head, Name, Id}
 use Rattle.arriving.specs.declared.Marks.{Marks}
 use Rattle.arriving.specs.declared.Check.{Check}
 use Rattle.arriving.proofs.Steps.{feed-stopped}
-use Rattle.arriving.proofs.Theorem.{piece-laws}
+use Rattle.checking.proofs.Theorem.{piece-laws}
 use Rattle.border.specs.Border.{answerNumbers}
 use Rattle.piece_state.specs.State.{marksNumbers, marksSaid}
 use Rattle.piece_state.proofs.Each.{Settles, two, three, five, six, seven, sixteen, seventeen, eighteen, each-fed}

@@ -13,9 +13,9 @@ use Rattle.entry.specs.Record.{many}
 use Rattle.rules.specs.Gate.{ruleGate}
 use Rattle.strict.specs.Strict.{strictAnswer}
 use Rattle.arriving.specs.Feed.{together}
-use Rattle.arriving.specs.Whole.{checkOf}
-use Rattle.arriving.specs.Sixteen.{MeetsLong}
-use Rattle.arriving.specs.Claims.{joined, Rooms}
+use Rattle.checking.specs.Whole.{checkOf}
+use Rattle.checking.specs.Sixteen.{MeetsLong}
+use Rattle.checking.specs.Claims.{joined, Rooms}
 use Rattle.arriving.specs.declared.Check.{Check}
 use Rattle.piece_ends.proofs as pieceEnds
 use Rattle.pieces.proofs as pieces

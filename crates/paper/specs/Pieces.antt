@@ -4,8 +4,8 @@ use mathlib.Core.Path.{_≡_}
 use mathlib.Core.List.{List, [], _∷_, _++_}
 use lib.ListN.{getD}
 use denote.Ref.{now}
-use Rattle.arriving.specs.Whole.{checkOf}
-use Rattle.arriving.specs.Claims.{joined, Rooms}
+use Rattle.checking.specs.Whole.{checkOf}
+use Rattle.checking.specs.Claims.{joined, Rooms}
 use Rattle.arriving.specs.declared.Marks.{Marks}
 use Rattle.border.specs.Border.{answerNumbers}
 use Rattle.piece_state.proofs as state

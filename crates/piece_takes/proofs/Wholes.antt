@@ -29,8 +29,7 @@ use Rattle.doubles.specs.declared.Placed.{Placed}
 use Rattle.doubles.specs.declared.Placed.the-variants.{Fine, NotAfter, Double}
 use Rattle.rules.specs.Rules.{isText, modesOf, bareNumber}
 use Rattle.rules.proofs.Laws.{name-empty, number-bad}
-use Rattle.strict.specs.Strict.{textOf}
-use Rattle.strict.proofs.Judging.{mode-quick}
+use Rattle.rules.proofs.Quick.{mode-quick}
 use Rattle.arriving.specs.Feed.{mostHeld, together, fresh, feedOf, byteStep}
 use Rattle.arriving.specs.Bulk.{Took}
 use Rattle.arriving.specs.declared.Phase.{Phase}
@@ -75,7 +74,7 @@ read-there at n m (Mode k i) e =
 read-there at n m Bad e = let z : _≡_ {A = ℕ} 0 1 = cc in absurd (omega arith)
 
 whole-of : (s : List ℕ) (i h : ℕ) (e : Seen) → Lies s i h e → Whole s i h e
-unfolding textOf readModeAt
+unfolding readModeAt
 whole-of s i h e o =
     let c : ℕ = quickAt s i in
     let f = code-fits s i h c refl (o .code) in
@@ -88,8 +87,7 @@ whole-of s i h e o =
       reads = read-there i (c % 16) m (readMode (drop i s)) r ∙ ap (Mode m) y;
       starts = omega (arith, f, o .starts);
       written = λ k. ap (λ (j : ℕ). isText (modesOf k) (part i (j - 1) s)) (o .starts)
-          ∙ mode-quick k s i (record { mode = 0; «name_start» = i + c % 16; «name_end» = 0; «id_start» = 0; «text_start» = 0 }) (o .code)
-          (ap (λ (v : ℕ). i + v % 16) (sym q));
+          ∙ mode-quick k s i (i + c % 16) (o .code) (ap (λ (v : ℕ). i + v % 16) (sym q));
       sort = o .sort;
       ends = o .ends;
       whole = o .whole;

@@ -26,8 +26,8 @@ use Rattle.arriving.specs.declared.Marks.{Marks}
 use Rattle.arriving.specs.declared.Phase.the-variants.{Head}
 use Rattle.arriving.specs.Feed.{together, startOf, meet, nameMarks, nameHeld, judged, placed, closed, closedEnds, idMarks, idEnds, body, bodies, begin, headStep}
 use Rattle.arriving.specs.Feed.{over, byteStep, feedOf, finishOf}
-use Rattle.arriving.specs.Whole.{heldName, heldMode, arriving, checkOf}
-use Rattle.arriving.specs.Claims.{inPieces, answer}
+use Rattle.checking.specs.Whole.{heldName, heldMode, arriving, checkOf}
+use Rattle.checking.specs.Claims.{inPieces, answer}
 use Rattle.examples.specs.Examples.{O}
 
 -- a check, and its answer

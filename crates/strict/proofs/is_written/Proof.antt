@@ -3,14 +3,15 @@ use borrow.Author.Needs.{needs}
 use Rattle.strict.proofs.is_written.Statement.{statement}
 use Rattle.strict.proofs.is_written.Tie as tie
 use mathlib.Core.Path.{sym, _∙_}
+use Rattle.rules.proofs.Quick.{mode-quick}
 use Rattle.strict.specs.Strict.{textOf}
-use Rattle.strict.proofs.Judging.{mode-quick}
 
 returns : tie.Need-returns
+unfolding textOf
 returns c =
     let args = c .before .before .args in
     let pre = c .before .before .pre in
-    sym (mode-quick (args .rules) (args .s .now) (args .at) (args .e) (λ z. c .if1 .taken (pre .1 .1 ∙ z)) (pre .1 .0))
+    sym (mode-quick (args .rules) (args .s .now) (args .at) (args .e .«name_start») (λ z. c .if1 .taken (pre .1 .1 ∙ z)) (pre .1 .0))
 
 sub-space : tie.Need-sub-space
 sub-space c = search needs

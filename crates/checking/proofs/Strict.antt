@@ -30,8 +30,8 @@ use Rattle.strict.specs.Strict.{textOf, cut, strictly, strictAnswer}
 use Rattle.reading.specs.Whole.{inRoom, answerOf}
 use Rattle.reading.specs.declared.Counted.{Counted}
 use Rattle.reading.specs.declared.Counted.the-variants.{Total, Stopped}
 use Rattle.arriving.specs.Feed.{mostHeld}
-use Rattle.arriving.specs.Whole.{heldName, heldMode, arriving, told, checkIn, orShut, checkOf}
+use Rattle.checking.specs.Whole.{heldName, heldMode, arriving, told, checkIn, orShut, checkOf}
 
 abbrev numberOf : Counted → ℕ
 numberOf k = told k .verdict .number

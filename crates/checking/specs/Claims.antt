@@ -10,10 +10,10 @@ use Rattle.ground.specs.declared.Gate.the-variants.{Open}
 use Rattle.entry.specs.Record.{many}
 use Rattle.rules.specs.Gate.{ruleGate}
 use Rattle.strict.specs.Strict.{strictAnswer}
 use Rattle.arriving.specs.Feed.{mostHeld, mostEnds, together, startOf, feedOf, endOf}
-use Rattle.arriving.specs.Whole.{checkOf}
-use Rattle.arriving.specs.Sixteen.{MeetsLong}
+use Rattle.checking.specs.Whole.{checkOf}
+use Rattle.checking.specs.Sixteen.{MeetsLong}
 use Rattle.arriving.specs.declared.Check.{Check}
 
 -- piece after piece, and the object that they make
 unfoldable pub inPieces : Check → List (List ℕ) → Check

@@ -29,8 +29,8 @@ use Rattle.reading.specs.Listing.{stop, entry, follow, tally}
 use Rattle.reading.specs.declared.Counted.{Counted}
 use Rattle.reading.specs.declared.Counted.the-variants.{Stopped}
 use Rattle.strict.specs.Strict.{textOf, cut}
 use Rattle.arriving.specs.Feed.{mostHeld}
-use Rattle.arriving.specs.Whole.{shortAt, heldName, heldMode, arriving, told, checkIn, orShut, checkOf}
+use Rattle.checking.specs.Whole.{shortAt, heldName, heldMode, arriving, told, checkIn, orShut, checkOf}
 
 module _ (R : Rules) (h : ℕ) (s : List ℕ) where
   -- what is counted where more follows or not

@@ -7,15 +7,15 @@ use mathlib.Core.Logic.{_⊎_, inl, inr}
 use lib.ListN.{length, take, drop, length-take, length-drop, take-append-drop}
 use Rattle.ground.specs.Verdict.{verdict, refused, mostBytes}
 use Rattle.ground.specs.declared.Answer.{Answer}
 use Rattle.arriving.specs.Feed.{together, startOf, feedOf, endOf}
-use Rattle.arriving.specs.Whole.{checkOf}
-use Rattle.arriving.specs.Claims.{inPieces, joined, Rooms, answer, PieceLaws}
+use Rattle.checking.specs.Whole.{checkOf}
+use Rattle.checking.specs.Claims.{inPieces, joined, Rooms, answer, PieceLaws}
 use Rattle.arriving.specs.declared.Check.{Check}
 use Rattle.arriving.proofs.Steps.{feed-none, feed-cut, feed-stopped}
-use Rattle.arriving.proofs.Fed.{fed-checks}
-use Rattle.arriving.proofs.Strict.{check-alike}
-use Rattle.arriving.proofs.Sixteen.{sixteen-only, sixteen-there}
-use Rattle.arriving.proofs.Bound.{check-past}
+use Rattle.checking.proofs.Fed.{fed-checks}
+use Rattle.checking.proofs.Strict.{check-alike}
+use Rattle.checking.proofs.Sixteen.{sixteen-only, sixteen-there}
+use Rattle.checking.proofs.Bound.{check-past}
 
 pub pieces-joined : (c : Check) (ps : List (List ℕ)) → inPieces c ps ≡ feedOf c (joined ps)
 unfolding inPieces joined

@@ -34,10 +34,10 @@ use Rattle.rules.specs.Rules.{orElse, isText, modesOf, nameNumber, permitted, i
 use Rattle.rules.specs.Gate.{ruleGate}
 use Rattle.strict.specs.Strict.{textOf, cut}
 use Rattle.strict.proofs.Laws.{cut-bad, cut-fine}
 use Rattle.arriving.specs.Feed.{mostHeld}
-use Rattle.arriving.specs.Whole.{shortAt, endAt, arriving, told, checkIn, orShut, checkOf}
-use Rattle.arriving.specs.Sixteen.{Reached, begins, past, MeetsLong}
-use Rattle.arriving.proofs.Fed.{arriving-none, arriving-full, arriving-bad, arriving-long, arriving-short, arriving-whole}
+use Rattle.checking.specs.Whole.{shortAt, endAt, arriving, told, checkIn, orShut, checkOf}
+use Rattle.checking.specs.Sixteen.{Reached, begins, past, MeetsLong}
+use Rattle.checking.proofs.Fed.{arriving-none, arriving-full, arriving-bad, arriving-long, arriving-short, arriving-whole}
 
 module _ (more : Bool) (rs h : ℕ) (s : List ℕ) where
   abbrev from : ℕ → List Entry → ℕ → Answer

@@ -39,17 +39,17 @@ use Rattle.doubles.specs.declared.Placed.{Placed}
 use Rattle.doubles.specs.declared.Placed.the-variants.{Fine, Double}
 use Rattle.doubles.proofs.Theorem.{Ascends}
 use Rattle.doubles.proofs.Placing.{Tracks, tracks-none}
 use Rattle.arriving.specs.Feed.{mostHeld, mostEnds, together, refuse, judged, endsNext, placing, placed, closed, closedEnds, begin, overMode, overIn, feedOf, fresh, startOf, gateVerdict, headPart, endIn, endOf}
-use Rattle.arriving.specs.Whole.{shortAt, endAt, heldName, heldMode, arriving, told, checkIn, orShut, checkOf}
+use Rattle.checking.specs.Whole.{shortAt, endAt, heldName, heldMode, arriving, told, checkIn, orShut, checkOf}
 use Rattle.arriving.specs.declared.Last.{Last}
 use Rattle.arriving.specs.declared.Line.{Line}
 use Rattle.arriving.specs.declared.Phase.{Phase}
 use Rattle.arriving.specs.declared.Phase.the-variants.{Head, Name, Id}
 use Rattle.arriving.specs.declared.Marks.{Marks}
 use Rattle.arriving.specs.declared.Check.{Check}
 use Rattle.arriving.proofs.Steps.{feed-none, feed-more, feed-cut, feed-stopped, finish-stopped, marksOf, st, finish-in, step-over, step-full, step-nul}
 use Rattle.arriving.proofs.Runs.{heads-run, eighth-run, ids-run, ids-all, names-run, names-long, lineOf, naming, mode-run}
 use Rattle.arriving.proofs.Judged.{Holds, holds-fits, name-held, judged-is, name-some, goes-up, Stands, stands}
 
 -- ---- where the bytes end: the object ends there, or goes on past the bound
 

@@ -1,0 +1,5 @@
+pub mod Fed
+pub mod Strict
+pub mod Sixteen
+pub mod Bound
+pub mod Theorem
