@@ -22,7 +22,8 @@
  *   - A strict read keeps marks on the stack, numbers of 4 bytes: 64 where the object has at most 2,079 bytes, 512 where it has at most
  *     131,072, 4,096 where it has at most 8,388,608, else 46,341. The last two are in functions of their own, so that an object of at most
  *     131,072 bytes takes less than 3 KB of stack, one of at most 8 MiB less than 20 KB, and only a longer one some 190 KB.
- *     sarpukten_bisect_entries keeps 192 numbers of its own. Like every other call it takes less than 2 KB.
+ *     A plain read keeps the lengths of the first 2,040 names there, a byte each, and takes less than 3 KB. sarpukten_bisect_entries keeps
+ *     192 numbers of its own. Like every other call it takes less than 2 KB.
  *   - sarpukten_check_bundle and sarpukten_follow_path take less than 6 KB of stack, and 4 MiB more where a bundle has more than 1,024 objects
  *     and their ids do not ascend: the places of the ids are then sorted in an array of 1,048,576 numbers of 4 bytes, in a function of its
  *     own, so that no other bundle takes it. Each component of a path takes some 300 bytes more, 64 of them less than 20 KB.
@@ -36,7 +37,7 @@
  *   - It uses the red zone, the 128 bytes below the stack pointer: an interrupt handler needs a stack of its own (an IST entry), or interrupts
  *     are off during a call.
  *   - It makes no system call, has no thread-local storage, no writable data and no start-up code, and is position independent.
- *   - The most stack that any call needs is said above, at strict reads and at each call that needs more. Large frames are touched page by
+ *   - The most stack that any call needs is said above, at reads and at each call that needs more. Large frames are touched page by
  *     page from the top, so that a guard page below the stack is met.
  *
  * What the caller owes, since C cannot show it

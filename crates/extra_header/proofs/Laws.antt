@@ -127,6 +127,17 @@ module _ (s : List ℕ) (at space lf : ℕ) (p : space ≡ placeFrom 32 s at) (q
         unfolding foldedOr
         extra-line e = extra-is ∙ simp (le-ltb (lf + 1) end e)
 
+-- a blank line is none, wherever a space stands
+pub extra-blank : (s : List ℕ) (at lf : ℕ) → lf ≡ placeFrom 10 s at → lf ≤ at → extraAt s at ≡ No
+extra-blank s at lf q h = by (placeFrom 32 s at) refl
+  where
+    by : (space : ℕ) → space ≡ placeFrom 32 s at → extraAt s at ≡ No
+    by space p = go (ltb at space) refl
+      where
+        go : (t : Bool) → ltb at space ≡ t → extraAt s at ≡ No
+        go false e = extra-unnamed s at space lf p q (ltb-false at space e)
+        go true e = extra-bare s at space lf p q (ltb-true at space e) (omega (arith, ltb-true at space e))
+
 -- what a header that is there says of the bytes: where its name and its first line end, and whether lines fold it
 pub record ExtraParts (s : List ℕ) (at : ℕ) (x : HeaderRecord) (next : ℕ) : Type 0 where
   pub space : ℕ

@@ -29,12 +29,15 @@ fn fold_end(s: &[u8], start: usize) -> usize
     at
 }
 
-// The extra header at a place, tried first as folded, then as one line.
+// The extra header at a place, tried first as folded, then as one line. A blank line is known by its LF, before a space is sought behind it.
 pub fn extra_at(s: &[u8], at: usize) -> Extra
     ensures { λ r. ⌜ r ≡ extraAt (now (s .entry)) at ⌝ }
 {
-    let space = find_byte(s, at, b' ');
     let lf = find_byte(s, at, b'\n');
+    if lf <= at {
+        return Extra::No;
+    }
+    let space = find_byte(s, at, b' ');
     if space <= at {
         return Extra::No;
     }

@@ -1,13 +1,15 @@
 // A whole tree object into lent records (docs/FORMAT.md, "Reading"). Follows tree/ref_iter.rs.
 ghost use mathlib.Core.Path.{_≡_};
 ghost use Prim.Native.Nat.{_≤_};
-ghost use lib.ListN.{length, take, drop};
+ghost use lib.ListN.{length, getD, take, drop};
 ghost use lib.Seq.{sets};
+ghost use Rattle.ground.specs.Scan.{placeFrom};
 ghost use Rattle.entry.specs.Record.{many};
 ghost use Rattle.entry.specs.Decode.{decode, decodedVerdict};
 ghost use Rattle.mode_code.specs.Code.{codeAt};
 ghost use Rattle.reading.specs.Listing.{listing, tally, recordsIn, flats};
 ghost use Rattle.reading.specs.Whole.{inRoom, finished, readAnswer, readRecords};
+ghost use Rattle.reading.specs.Lengths.{remembered, Known, Lengths};
 use entry::Cursor;
 use entry::Decoded;
 use entry::EntryRecord;
@@ -53,9 +55,39 @@ fn verdict_at(s: &[u8], h: usize, at: usize) -> Verdict
     }
 }
 
-// The first pass of the plain reader.
-fn count_plain(s: &[u8], h: usize) -> Counted
-    ensures { λ r. ⌜ r ≡ tally 0 (listing h (now (s .entry))) ⌝ }
+// The length of entry n's name, kept where it is a byte's and there is room for it.
+fn remember(lengths: &mut [u8], n: usize, len: usize)
+    ensures { λ r. ⌜ now (lengths .exit) ≡ remembered (now (lengths .entry)) n len ⌝ }
+{
+    if lengths.len() <= n {
+        return;
+    }
+    if 255 < len {
+        return;
+    }
+    lengths[n] = len as u8;
+}
+
+// Where the name of entry n ends, which starts at a place: by its length where that is kept, else it is sought.
+fn name_end(s: &[u8], from: usize, lengths: &[u8], n: usize) -> usize
+    requires { ⌜ (from ≤ length (now s)) × Known (now s) from (getD (now lengths) n 0) ⌝ }
+    ensures { λ r. ⌜ r ≡ placeFrom 0 (now (s .entry)) from ⌝ }
+{
+    if lengths.len() <= n {
+        return find_nul(s, from);
+    }
+    let len = lengths[n] as usize;
+    if len == 0 {
+        return find_nul(s, from);
+    }
+    from + len
+}
+
+// The first pass of the plain reader, which keeps the names' lengths for the second.
+fn count_plain(s: &[u8], h: usize, lengths: &mut [u8]) -> Counted
+    requires { ⌜ Lengths h (now s) (now lengths) ⌝ }
+    ensures count { λ r. ⌜ r ≡ tally 0 (listing h (now (s .entry))) ⌝ }
+    ensures lengths { λ r. ⌜ Lengths h (now (s .entry)) (now (lengths .exit)) ⌝ }
 {
     let mut at: usize = 0;
     let mut n: usize = 0;
@@ -70,11 +102,13 @@ fn count_plain(s: &[u8], h: usize) -> Counted
         if code == 0 {
             return Counted::Stopped(verdict_at(s, h, at));
         }
-        let end = find_nul(s, at + code % 16);
+        let from = at + code % 16;
+        let end = find_nul(s, from);
         let left = s.len() - end;
         if left <= h {
             return Counted::Stopped(verdict_at(s, h, at));
         }
+        remember(lengths, n, end - from);
         at = end + 1 + h;
         n += 1;
     }
@@ -82,8 +116,8 @@ fn count_plain(s: &[u8], h: usize) -> Counted
 }
 
 // The second pass: the records of the first entries that can be read, so many at most, from the front of the lent list.
-fn fill(s: &[u8], h: usize, count: usize, records: &mut [usize])
-    requires { ⌜ count ≤ many (length (now records)) ⌝ }
+fn fill(s: &[u8], h: usize, count: usize, lengths: &[u8], records: &mut [usize])
+    requires { ⌜ (count ≤ many (length (now records))) × Lengths h (now s) (now lengths) ⌝ }
     ensures { λ r. ⌜ now (records .exit) ≡ sets (now (records .entry)) 0 (flats (take count (recordsIn (listing h (now (s .entry)))))) ⌝ }
 {
     let mut at: usize = 0;
@@ -98,7 +132,7 @@ fn fill(s: &[u8], h: usize, count: usize, records: &mut [usize])
         }
         let mode = code / 16;
         let name_start = at + code % 16;
-        let name_end = find_nul(s, name_start);
+        let name_end = name_end(s, name_start, lengths, n);
         let left = s.len() - name_end;
         if left <= h {
             return;
@@ -117,8 +151,10 @@ fn fill(s: &[u8], h: usize, count: usize, records: &mut [usize])
     }
 }
 
-// The end of a reading, once its entries were counted: 4 where the lent list is too short for them, else their records are stored.
-pub fn finish(s: &[u8], h: usize, got: Counted, records: &mut [usize]) -> Answer
+// The end of a reading, once its entries were counted, by the names' lengths that are known: 4 where the lent list is too short for them, else
+// their records are stored.
+fn finish_by(s: &[u8], h: usize, got: Counted, lengths: &[u8], records: &mut [usize]) -> Answer
+    requires { ⌜ Lengths h (now s) (now lengths) ⌝ }
     ensures answer { λ r. ⌜ r ≡ inRoom (many (length (now (records .entry)))) got ⌝ }
     ensures records { λ r. ⌜ now (records .exit) ≡ finished h (now (s .entry)) got (now (records .entry)) ⌝ }
 {
@@ -138,13 +174,32 @@ pub fn finish(s: &[u8], h: usize, got: Counted, records: &mut [usize]) -> Answer
                     count: 0,
                 };
             }
-            fill(s, h, n, records);
+            fill(s, h, n, lengths, records);
             Answer {
                 verdict: FINE,
                 count: n,
             }
         }
     }
+}
+
+// The same where none is known.
+pub fn finish(s: &[u8], h: usize, got: Counted, records: &mut [usize]) -> Answer
+    ensures answer { λ r. ⌜ r ≡ inRoom (many (length (now (records .entry)))) got ⌝ }
+    ensures records { λ r. ⌜ now (records .exit) ≡ finished h (now (s .entry)) got (now (records .entry)) ⌝ }
+{
+    let none = [0u8; 1];
+    finish_by(s, h, got, &none, records)
+}
+
+// Both passes, within the bounds. A name is sought once in the first 2,040 entries, and twice in those behind them.
+fn read_plain(s: &[u8], h: usize, records: &mut [usize]) -> Answer
+    ensures answer { λ r. ⌜ r ≡ inRoom (many (length (now (records .entry)))) (tally 0 (listing h (now (s .entry)))) ⌝ }
+    ensures records { λ r. ⌜ now (records .exit) ≡ finished h (now (s .entry)) (tally 0 (listing h (now (s .entry)))) (now (records .entry)) ⌝ }
+{
+    let mut lengths = [0u8; 2040];
+    let got = count_plain(s, h, &mut lengths);
+    finish_by(s, h, got, &lengths, records)
 }
 
 // The object's entries as records, five numbers each; a refusal changes none of the numbers lent.
@@ -158,6 +213,6 @@ pub fn read_tree(bytes: &[u8], h: usize, records: &mut [usize]) -> Answer
             verdict: v,
             count: 0,
         },
-        Gate::Open => finish(bytes, h, count_plain(bytes, h), records),
+        Gate::Open => read_plain(bytes, h, records),
     }
 }

@@ -12,7 +12,7 @@ use lib.Seq.{drop-drop, getD-drop}
 use Rattle.ground.specs.Basics.{pick}
 use Rattle.ground.specs.Scan.{countTo, placeFrom, commonStart}
 use Rattle.ground.proofs.Laws.{equal, count-take, count-at, place-from, place-next, common-same, common-differ, common-left, common-right}
-use Rattle.scan.specs.Word.{WordOf, marksOf, zeros, Marked, FirstAt}
+use Rattle.scan.specs.Word.{WordOf, marksOf, zeros, FirstAt}
 use Rattle.scan.proofs.Word.{part-length, xors, xors-length, word-xors, xor-zero, zeros-all, zeros-some}
 
 -- a byte more that is not x
@@ -79,17 +79,9 @@ module _ (x : ℕ) (s : List ℕ) (i m : ℕ) (h : i + 8 ≤ length s) (p : Word
   place-in r f n =
       omega (arith, f (marksOf x (take 8 (drop i s))) marks-eight p n, marked, marks-eight, zeros-some _ m p n, count-take x 8 (drop i s))
 
--- the same for NUL, whose marks are those of the bytes as they are
-module _ (s : List ℕ) (i w m : ℕ) (h : i + 8 ≤ length s) (p : WordOf (take 8 (drop i s)) w) (f : Marked w m) where
-  pub nul-past : (j : ℕ) → m ≡ 0 → j ≡ i + 8 → placeFrom 0 s i ≡ placeFrom 0 s j
-  nul-past = place-past 0 s i m h (f (take 8 (drop i s)) (part-length s i 8 h) p)
-
-  pub nul-in : (r : ℕ) → FirstAt m r → (m ≡ 0 → ⊥) → placeFrom 0 s i ≡ i + r
-  nul-in = place-in 0 s i m h (f (take 8 (drop i s)) (part-length s i 8 h) p)
-
-  -- where one of the eight is NUL there is a mark
-  pub nul-among : (r : ℕ) → FirstAt m r → placeFrom 0 s i < i + 8 → placeFrom 0 s i ≡ i + r
-  nul-among r g l = nul-in r g (λ e. absurd (omega (arith, nul-past (i + 8) e refl, place-from 0 s (i + 8))))
+  -- where one of the eight is x there is a mark
+  pub place-among : (r : ℕ) → FirstAt m r → placeFrom x s i < i + 8 → placeFrom x s i ≡ i + r
+  place-among r g l = place-in r g (λ e. absurd (omega (arith, place-past (i + 8) e refl, place-from x s (i + 8))))
 
 -- ---- how far two lists agree
 

@@ -79,13 +79,11 @@ fn find_last(s: &[u8], from: usize, x: u8) -> usize
     i
 }
 
-// Where x stands next at or after a place, or where the bytes end (the place itself if that is past the end).
-pub fn find_byte(s: &[u8], from: usize, x: u8) -> usize
+// The same, eight bytes at a time.
+fn find_near(s: &[u8], from: usize, x: u8) -> usize
+    requires { ⌜ from ≤ length (now s) ⌝ }
     ensures { λ r. ⌜ r ≡ placeFrom x (now (s .entry)) from ⌝ }
 {
-    if s.len() < from {
-        return from;
-    }
     let mut i = from;
     while 8 <= s.len() - i {
         let m = marks_at(s, i, x);
@@ -97,28 +95,77 @@ pub fn find_byte(s: &[u8], from: usize, x: u8) -> usize
     find_last(s, i, x)
 }
 
-// How many bytes stand before the first x: all of them where there is none.
-pub fn count_to(s: &[u8], x: u8) -> usize
-    ensures { λ r. ⌜ r ≡ countTo x (now (s .entry)) ⌝ }
-{
-    find_byte(s, 0, x)
-}
-
-// 0 where none of n bytes from a place on is NUL, and 1 where one is. The loop has no way out.
-fn among(s: &[u8], at: usize, n: usize) -> u8
+// 0 where none of n bytes from a place on is x, and 1 where one is. The loop has no way out.
+fn among(s: &[u8], at: usize, n: usize, x: u8) -> u8
     requires { ⌜ at + n ≤ length (now s) ⌝ }
-    ensures none { λ r. ⌜ (r ≡ 0 → placeFrom 0 (now (s .entry)) at ≡ placeFrom 0 (now (s .entry)) (at + n)) ⌝ }
-    ensures some { λ r. ⌜ ((r ≡ 0 → ⊥) → placeFrom 0 (now (s .entry)) at < at + n) ⌝ }
+    ensures none { λ r. ⌜ (r ≡ 0 → placeFrom x (now (s .entry)) at ≡ placeFrom x (now (s .entry)) (at + n)) ⌝ }
+    ensures some { λ r. ⌜ ((r ≡ 0 → ⊥) → placeFrom x (now (s .entry)) at < at + n) ⌝ }
 {
     let mut hit: u8 = 0;
     let mut k: usize = 0;
     while k < n {
-        if s[at + k] == 0 {
+        if s[at + k] == x {
             hit = 1;
         }
         k += 1;
     }
     hit
+}
+
+// The first x of sixteen bytes that have one.
+fn first_of_16(s: &[u8], j: usize, x: u8) -> usize
+    requires { ⌜ j + 16 ≤ length (now s) ⌝ }
+    requires { ⌜ placeFrom x (now s) j < j + 16 ⌝ }
+    ensures { λ r. ⌜ r ≡ placeFrom x (now (s .entry)) j ⌝ }
+{
+    let a = marks_at(s, j, x);
+    if a != 0 {
+        return j + place(a);
+    }
+    let j1 = j + 8;
+    j1 + place(marks_at(s, j1, x))
+}
+
+// The first x of thirty-two bytes that have one.
+fn first_of_32(s: &[u8], j: usize, x: u8) -> usize
+    requires { ⌜ j + 32 ≤ length (now s) ⌝ }
+    requires { ⌜ placeFrom x (now s) j < j + 32 ⌝ }
+    ensures { λ r. ⌜ r ≡ placeFrom x (now (s .entry)) j ⌝ }
+{
+    let a = marks_at(s, j, x);
+    if a != 0 {
+        return j + place(a);
+    }
+    let j1 = j + 8;
+    let b = marks_at(s, j1, x);
+    if b != 0 {
+        return j1 + place(b);
+    }
+    first_of_16(s, j + 16, x)
+}
+
+// Where x stands next at or after a place, or where the bytes end (the place itself if that is past the end).
+pub fn find_byte(s: &[u8], from: usize, x: u8) -> usize
+    ensures { λ r. ⌜ r ≡ placeFrom x (now (s .entry)) from ⌝ }
+{
+    if s.len() < from {
+        return from;
+    }
+    let mut i = from;
+    while 32 <= s.len() - i {
+        if among(s, i, 32, x) != 0 {
+            return first_of_32(s, i, x);
+        }
+        i += 32;
+    }
+    find_near(s, i, x)
+}
+
+// How many bytes stand before the first x: all of them where there is none. It is asked of few bytes, or of such as come soon.
+pub fn count_to(s: &[u8], x: u8) -> usize
+    ensures { λ r. ⌜ r ≡ countTo x (now (s .entry)) ⌝ }
+{
+    find_near(s, 0, x)
 }
 
 // The block of thirty-two bytes that has the next NUL at or after a place, or where the bytes end. The last block ends with them, and may
@@ -132,7 +179,7 @@ fn skip(s: &[u8], from: usize) -> usize
     let mut at = from;
     let mut left = s.len() - from - 32;
     loop {
-        if among(s, at, 32) != 0 {
+        if among(s, at, 32, 0) != 0 {
             return at;
         }
         if 32 <= left {
@@ -148,38 +195,6 @@ fn skip(s: &[u8], from: usize) -> usize
     }
 }
 
-// The first NUL of sixteen bytes that have one.
-fn nul_of_16(s: &[u8], j: usize) -> usize
-    requires { ⌜ j + 16 ≤ length (now s) ⌝ }
-    requires { ⌜ placeFrom 0 (now s) j < j + 16 ⌝ }
-    ensures { λ r. ⌜ r ≡ placeFrom 0 (now (s .entry)) j ⌝ }
-{
-    let a = marks(eight(s, j));
-    if a != 0 {
-        return j + place(a);
-    }
-    let j1 = j + 8;
-    j1 + place(marks(eight(s, j1)))
-}
-
-// The first NUL of thirty-two bytes that have one.
-fn nul_of_32(s: &[u8], j: usize) -> usize
-    requires { ⌜ j + 32 ≤ length (now s) ⌝ }
-    requires { ⌜ placeFrom 0 (now s) j < j + 32 ⌝ }
-    ensures { λ r. ⌜ r ≡ placeFrom 0 (now (s .entry)) j ⌝ }
-{
-    let a = marks(eight(s, j));
-    if a != 0 {
-        return j + place(a);
-    }
-    let j1 = j + 8;
-    let b = marks(eight(s, j1));
-    if b != 0 {
-        return j1 + place(b);
-    }
-    nul_of_16(s, j + 16)
-}
-
 // Where NUL stands next at or after a place that has thirty-two bytes or more from it on, by blocks of thirty-two.
 fn find_far(s: &[u8], from: usize) -> usize
     requires { ⌜ from + 32 ≤ length (now s) ⌝ }
@@ -189,7 +204,7 @@ fn find_far(s: &[u8], from: usize) -> usize
     if s.len() <= j {
         return s.len();
     }
-    nul_of_32(s, j)
+    first_of_32(s, j, 0)
 }
 
 // Where NUL stands next at or after a place, as find_byte says it. Most names end in the first sixteen bytes.
@@ -200,10 +215,10 @@ pub fn find_nul(s: &[u8], from: usize) -> usize
         return from;
     }
     if s.len() - from < 48 {
-        return find_byte(s, from, 0);
+        return find_near(s, from, 0);
     }
-    if among(s, from, 16) != 0 {
-        return nul_of_16(s, from);
+    if among(s, from, 16, 0) != 0 {
+        return first_of_16(s, from, 0);
     }
     find_far(s, from + 16)
 }

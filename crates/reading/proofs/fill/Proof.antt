@@ -2,29 +2,33 @@
 use borrow.Author.Needs.{needs}
 use Rattle.reading.proofs.fill.Statement.{statement}
 use Rattle.reading.proofs.fill.Tie as tie
-use Prim.Native.Nat.{_-_, _*_}
+use Prim.Native.Nat.{ℕ, _+_, _-_, _*_, _%_}
 use native.Mathlib.Omega.{arith}
-use mathlib.Core.Path.{_≡_, refl, sym, _∙_}
+use mathlib.Core.Path.{_≡_, refl, sym, ap, _∙_}
 use lib.ListN.{length, take}
 use lib.Seq.{sets}
 use Rattle.entry.specs.Record.{width}
+use Rattle.reading.specs.Lengths.{nameAt, placeOf}
 use Rattle.reading.specs.Listing.{listing, recordsIn, flats}
 use Rattle.reading.proofs.Laws.{restAt, whole-here, none-full, none-left, store-start, store-turn, store-end, store-none}
+use Rattle.reading.proofs.Lengths.{place-after}
 use Rattle.reading.proofs.Front.{code-none, name-starts, name-ends, name-short, name-whole}
 
 abbrev Inv-loop : tie.InvT-loop
-Inv-loop s h count records₀ at₀ n₀ records at n =
+Inv-loop s h count lengths records₀ at₀ n₀ records at n =
     (length records ≡ length records₀)
     × (sets records₀ 0 (flats (take count (recordsIn (listing h s))))
     ≡ sets records (n * width) (flats (take (count - n) (recordsIn (restAt h s at n)))))
+    × (at ≡ placeOf h s n)
 
 abbrev μ-loop : tie.MeasureT-loop
-μ-loop s h count records₀ at₀ n₀ records at n = count - n
+μ-loop s h count lengths records₀ at₀ n₀ records at n = count - n
 
 loop-holds : tie.Need-loop-holds Inv-loop μ-loop
+unfolding placeOf
 loop-holds c =
-    let args = c .before .before .args in
-    (refl, store-start (args .records .now) (args .count) (recordsIn (listing (args .h) (args .s .now))))
+    let args = c .before .before .before .args in
+    (refl, store-start (args .records .now) (args .count) (recordsIn (listing (args .h) (args .s .now))), refl)
 
 same-length : tie.Need-same-length Inv-loop μ-loop
 same-length c =
@@ -34,7 +38,7 @@ same-length c =
 returns : tie.Need-returns Inv-loop μ-loop
 returns c =
     let loop = c .before .before .loop in
-    let args = c .before .before .before .before .before .args in
+    let args = c .before .before .before .before .before .before .args in
     sym (loop .inv .1 ∙ store-none (loop .records) (loop .n * width) (args .count - loop .n) (restAt (args .h) (args .s .now) (loop .at) (loop .n))
     (none-full (args .h) (args .s .now) (loop .at) (loop .n) (c .if1 .taken)))
 
@@ -50,7 +54,7 @@ returns-2 : tie.Need-returns-2 Inv-loop μ-loop
 returns-2 c =
     let if1 = c .before .before .if1 in
     let loop = c .before .before .before .before .loop in
-    let args = c .before .before .before .before .before .before .before .args in
+    let args = c .before .before .before .before .before .before .before .before .args in
     let d = code-none (args .s .now) (args .h) (loop .at) _ (c .before .mode-code .ensures) (c .if2 .taken) in
     sym (loop .inv .1 ∙ store-none (loop .records) (loop .n * width) (args .count - loop .n) (restAt (args .h) (args .s .now) (loop .at) (loop .n))
     (none-left (args .h) (args .s .now) (loop .at) (loop .n) (if1 .left) d))
@@ -58,18 +62,24 @@ returns-2 c =
 add-name-start : tie.Need-add-name-start Inv-loop μ-loop
 add-name-start c =
     let loop = c .before .before .before .before .loop in
-    let args = c .before .before .before .before .before .before .before .args in
+    let args = c .before .before .before .before .before .before .before .before .args in
     omega (arith, name-starts (args .s .now) (args .h) (loop .at) _ (c .before .mode-code .ensures) (c .if2 .left))
 
-find-nul-requires : tie.Need-find-nul-requires Inv-loop μ-loop
-find-nul-requires c κs = search needs
+name-end-requires : tie.Need-name-end-requires Inv-loop μ-loop
+name-end-requires c κs =
+    let mode-code = c .before .mode-code in
+    let loop = c .before .before .before .before .loop in
+    let args = c .before .before .before .before .before .before .before .before .args in
+    let pre = c .before .before .before .before .before .before .before .before .pre in
+    let named = ap (λ (k : ℕ). loop .at + k % 16) (mode-code .ensures) ∙ ap (nameAt (args .s .now)) (loop .inv .2) in
+    (name-starts (args .s .now) (args .h) (loop .at) _ (mode-code .ensures) (c .if2 .left), rw named (pre .1 (loop .n)))
 
 sub-left : tie.Need-sub-left Inv-loop μ-loop
 sub-left c =
     let mode-code = c .before .before .mode-code in
     let loop = c .before .before .before .before .before .loop in
-    let args = c .before .before .before .before .before .before .before .before .args in
-    name-ends (args .s .now) (args .h) (loop .at) _ (mode-code .ensures) (c .before .if2 .left) _ (c .find-nul .ensures)
+    let args = c .before .before .before .before .before .before .before .before .before .args in
+    name-ends (args .s .now) (args .h) (loop .at) _ (mode-code .ensures) (c .before .if2 .left) _ (c .name-end .ensures)
 
 same-length-3 : tie.Need-same-length-3 Inv-loop μ-loop
 same-length-3 c =
@@ -82,8 +92,8 @@ returns-3 c =
     let mode-code = c .before .before .before .mode-code in
     let if1 = c .before .before .before .before .if1 in
     let loop = c .before .before .before .before .before .before .loop in
-    let args = c .before .before .before .before .before .before .before .before .before .args in
-    let d = name-short (args .s .now) (args .h) (loop .at) _ (mode-code .ensures) (if2 .left) _ (c .before .find-nul .ensures) (c .if3 .taken) in
+    let args = c .before .before .before .before .before .before .before .before .before .before .args in
+    let d = name-short (args .s .now) (args .h) (loop .at) _ (mode-code .ensures) (if2 .left) _ (c .before .name-end .ensures) (c .if3 .taken) in
     sym (loop .inv .1 ∙ store-none (loop .records) (loop .n * width) (args .count - loop .n) (restAt (args .h) (args .s .now) (loop .at) (loop .n))
     (none-left (args .h) (args .s .now) (loop .at) (loop .n) (if1 .left) d))
 
@@ -106,20 +116,21 @@ loop-again : tie.Need-loop-again Inv-loop μ-loop
 loop-again c =
     let put-entry = c .before .before .put-entry in
     let if3 = c .before .before .before .before .if3 in
-    let find-nul = c .before .before .before .before .before .find-nul in
+    let name-end = c .before .before .before .before .before .name-end in
     let if2 = c .before .before .before .before .before .before .if2 in
     let mode-code = c .before .before .before .before .before .before .before .mode-code in
     let if1 = c .before .before .before .before .before .before .before .before .if1 in
     let loop-test = c .before .before .before .before .before .before .before .before .before .loop-test in
     let loop = c .before .before .before .before .before .before .before .before .before .before .loop in
-    let args = c .before .before .before .before .before .before .before .before .before .before .before .before .before .args in
-    let pre = c .before .before .before .before .before .before .before .before .before .before .before .before .before .pre in
-    let d = name-whole (args .s .now) (args .h) (loop .at) _ (mode-code .ensures) (if2 .left) _ (find-nul .ensures) (if3 .left) in
+    let args = c .before .before .before .before .before .before .before .before .before .before .before .before .before .before .args in
+    let pre = c .before .before .before .before .before .before .before .before .before .before .before .before .before .before .pre in
+    let d = name-whole (args .s .now) (args .h) (loop .at) _ (mode-code .ensures) (if2 .left) _ (name-end .ensures) (if3 .left) in
     let e = whole-here (args .h) (args .s .now) (loop .at) (loop .n) (if1 .left) d in
-    let fits = pre in
+    let fits = pre .0 in
     let same = loop .inv .0 in
     let kept = put-entry .kept .0 ∙ loop .inv .0 in
-    (kept, store-turn (loop .records) _ (loop .n) _ (args .count) _ _ _ e (omega arith) (loop-test .taken) (put-entry .ensures) (loop .inv .1))
+    let turned = store-turn (loop .records) _ (loop .n) _ (args .count) _ _ _ e (omega arith) (loop-test .taken) (put-entry .ensures) (loop .inv .1) in
+    (kept, turned, place-after (args .h) (args .s .now) (loop .n) (loop .at) _ _ (loop .inv .2) (mode-code .ensures) (name-end .ensures))
 
 same-length-4 : tie.Need-same-length-4 Inv-loop μ-loop
 same-length-4 c = c .before .loop .inv .0
@@ -140,7 +151,7 @@ fill-spec =
     same-length-2
     returns-2
     add-name-start
-    find-nul-requires
+    name-end-requires
     sub-left
     same-length-3
     returns-3

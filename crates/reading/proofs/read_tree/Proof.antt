@@ -15,11 +15,8 @@ enum-known-v c = search needs
 enum-told : tie.Need-enum-told
 enum-told c = search needs
 
-count-plain-requires : tie.Need-count-plain-requires
-count-plain-requires c κs = search needs
-
-finish-requires : tie.Need-finish-requires
-finish-requires c κs = search needs
+read-plain-requires : tie.Need-read-plain-requires
+read-plain-requires c κs = search needs
 
 returns : tie.Need-returns
 returns c =
@@ -32,14 +29,13 @@ same-length c = search needs
 
 returns-2 : tie.Need-returns-2
 returns-2 c =
-    let finish = c .before .before .finish in
-    let count-plain = c .before .before .before .before .count-plain in
-    let enum-told = c .before .before .before .before .before .enum-told in
-    let bounds = c .before .before .before .before .before .before .before .bounds in
-    let args = c .before .before .before .before .before .before .before .before .before .before .args in
+    let read-plain = c .before .before .read-plain in
+    let enum-told = c .before .before .before .before .enum-told in
+    let bounds = c .before .before .before .before .before .before .bounds in
+    let args = c .before .before .before .before .before .before .before .before .before .args in
     let plain = listing (args .h) (args .bytes .now) in
     read-both (args .h) (args .bytes .now) (args .records .now) plain (plain-refuses _ _) (λ n t. refl) (sym (bounds .ensures) ∙ enum-told .given .1)
-    (count-plain .ensures) (finish .ensures)
+    refl (read-plain .ensures)
 
 pub read-tree-spec : {M : Type 1} → statement M
 read-tree-spec =
@@ -48,8 +44,7 @@ read-tree-spec =
     bounds-requires
     enum-known-v
     enum-told
-    count-plain-requires
-    finish-requires
+    read-plain-requires
     returns
     same-length
     returns-2)

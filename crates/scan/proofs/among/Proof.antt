@@ -11,10 +11,10 @@ use Rattle.ground.specs.Scan.{placeFrom}
 use Rattle.scan.proofs.Laws.{place-step, place-most}
 
 abbrev Inv-loop : tie.InvT-loop
-Inv-loop s at n hit₀ k₀ hit k = (k ≤ n) × (hit ≡ 0 → placeFrom 0 s at ≡ placeFrom 0 s (at + k)) × ((hit ≡ 0 → ⊥) → placeFrom 0 s at < at + k)
+Inv-loop s at n x hit₀ k₀ hit k = (k ≤ n) × (hit ≡ 0 → placeFrom x s at ≡ placeFrom x s (at + k)) × ((hit ≡ 0 → ⊥) → placeFrom x s at < at + k)
 
 abbrev μ-loop : tie.MeasureT-loop
-μ-loop s at n hit₀ k₀ hit k = n - k
+μ-loop s at n x hit₀ k₀ hit k = n - k
 
 loop-holds : tie.Need-loop-holds Inv-loop μ-loop
 loop-holds c = (omega arith, λ z. rw add-zero, λ n. absurd (n refl))
@@ -38,7 +38,7 @@ loop-again c =
     let if1 = c .if1 in (
       omega arith,
       ⊎-elim (λ w z. absurd (omega (arith, sym (w .1) ∙ z))) (λ w z. place-step _ _ _ _ (omega arith) (w .0 .left) (loop .inv .1 (sym (w .1) ∙ z))) (if1 .came),
-      ⊎-elim (λ w n. omega (arith, place-most 0 (args .s .now) (args .at) (loop .k) (omega arith) (w .0 .taken)))
+      ⊎-elim (λ w n. omega (arith, place-most (args .x) (args .s .now) (args .at) (loop .k) (omega arith) (w .0 .taken)))
           (λ w n. omega (arith, loop .inv .2 (λ z. n (w .1 ∙ z)))) (if1 .came),
     )
 

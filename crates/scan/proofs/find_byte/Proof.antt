@@ -8,7 +8,6 @@ use borrow.Author.Needs.{needs}
 use lib.ListN.{length}
 use Rattle.ground.specs.Scan.{placeFrom}
 use Rattle.ground.proofs.Laws.{place-end}
-use Rattle.scan.proofs.Laws.{place-past, place-in}
 
 abbrev Inv-loop : tie.InvT-loop
 Inv-loop s from x i₀ i = (i ≤ length s) × (placeFrom x s from ≡ placeFrom x s i)
@@ -25,23 +24,14 @@ loop-holds c = (omega arith, refl)
 sub-loop : tie.Need-sub-loop Inv-loop μ-loop
 sub-loop c = search needs
 
-marks-at-requires : tie.Need-marks-at-requires Inv-loop μ-loop
-marks-at-requires c κs = search needs
+among-requires : tie.Need-among-requires Inv-loop μ-loop
+among-requires c κs = omega arith
 
-place-requires : tie.Need-place-requires Inv-loop μ-loop
-place-requires c κs = search needs
-
-add-result : tie.Need-add-result Inv-loop μ-loop
-add-result c = search needs
+first-of-32-requires : tie.Need-first-of-32-requires Inv-loop μ-loop
+first-of-32-requires c κs = (omega arith, c .before .among .ensures .1 (c .if2 .taken))
 
 returns-2 : tie.Need-returns-2 Inv-loop μ-loop
-returns-2 c =
-    let args = c .before .before .before .before .before .before .before .args in
-    let loop = c .before .before .before .before .loop in
-    let marks-at = c .before .before .marks-at in
-    let if2 = c .before .if2 in
-    let place = c .place in
-    sym (loop .inv .1 ∙ place-in (args .x) (args .s .now) (loop .i) _ (omega arith) (marks-at .ensures) _ (place .ensures .0) (if2 .taken))
+returns-2 c = c .first-of-32 .ensures ∙ sym (c .before .before .before .before .loop .inv .1)
 
 add-i : tie.Need-add-i Inv-loop μ-loop
 add-i c = search needs
@@ -50,16 +40,13 @@ loop-less : tie.Need-loop-less Inv-loop μ-loop
 loop-less c = search needs
 
 loop-again : tie.Need-loop-again Inv-loop μ-loop
-loop-again c =
-    let args = c .before .before .before .before .before .before .args in
-    let loop = c .before .before .before .loop in
-    (omega arith, loop .inv .1 ∙ place-past (args .x) (args .s .now) (loop .i) _ (omega arith) (c .before .marks-at .ensures) _ (c .if2 .left) (omega arith))
+loop-again c = (omega arith, c .before .before .before .loop .inv .1 ∙ c .before .among .ensures .0 (c .if2 .left))
 
-find-last-requires : tie.Need-find-last-requires Inv-loop μ-loop
-find-last-requires c κs = search needs
+find-near-requires : tie.Need-find-near-requires Inv-loop μ-loop
+find-near-requires c κs = search needs
 
 returns-3 : tie.Need-returns-3 Inv-loop μ-loop
-returns-3 c = c .find-last .ensures ∙ sym (c .before .before .loop .inv .1)
+returns-3 c = c .find-near .ensures ∙ sym (c .before .before .loop .inv .1)
 
 pub find-byte-spec : {M : Type 1} → statement M
 find-byte-spec =
@@ -70,12 +57,11 @@ find-byte-spec =
     returns
     loop-holds
     sub-loop
-    marks-at-requires
-    place-requires
-    add-result
+    among-requires
+    first-of-32-requires
     returns-2
     add-i
     loop-less
     loop-again
-    find-last-requires
+    find-near-requires
     returns-3)

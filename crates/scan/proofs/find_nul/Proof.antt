@@ -12,8 +12,8 @@ returns c = sym (place-end 0 (c .before .before .args .s .now) (c .before .befor
 sub-if2 : tie.Need-sub-if2
 sub-if2 c = search needs
 
-find-byte-requires : tie.Need-find-byte-requires
-find-byte-requires c κs = search needs
+find-near-requires : tie.Need-find-near-requires
+find-near-requires c κs = search needs
 
 returns-2 : tie.Need-returns-2
 returns-2 c = search needs
@@ -21,8 +21,8 @@ returns-2 c = search needs
 among-requires : tie.Need-among-requires
 among-requires c κs = omega arith
 
-nul-of-16-requires : tie.Need-nul-of-16-requires
-nul-of-16-requires c κs = (omega arith, c .before .among .ensures .1 (c .if3 .taken))
+first-of-16-requires : tie.Need-first-of-16-requires
+first-of-16-requires c κs = (omega arith, c .before .among .ensures .1 (c .if3 .taken))
 
 returns-3 : tie.Need-returns-3
 returns-3 c = search needs
@@ -42,10 +42,10 @@ find-nul-spec =
     (tie.spec
     returns
     sub-if2
-    find-byte-requires
+    find-near-requires
     returns-2
     among-requires
-    nul-of-16-requires
+    first-of-16-requires
     returns-3
     add-find-far
     find-far-requires
