@@ -12,13 +12,14 @@ use lib.Seq.{sets, drop-cons}
 use borrow.Author.Tests.{eqb-true, eqb-false, leb-false}
 use Rattle.ground.specs.Basics.{pick}
 use Rattle.ground.specs.Verdict.{mostBytes, mostRecords}
-use Rattle.arriving.specs.Feed.{mostHeld, together, placedAt, feedOf}
+use Rattle.arriving.specs.Feed.{mostHeld, together, placedAt, byteStep, feedOf}
 use Rattle.arriving.specs.Bulk.{Took}
 use Rattle.arriving.specs.declared.Phase.{Phase}
 use Rattle.arriving.specs.declared.Phase.the-variants.{Head, Name, Id}
 use Rattle.arriving.specs.declared.Marks.{Marks}
 use Rattle.arriving.specs.declared.Check.{Check}
 use Rattle.arriving.specs.declared.Taken.{Taken}
+use Rattle.arriving.proofs.Laws.{feed-turn, feed-end}
 use Rattle.arriving.proofs.Bulk.{took-none, took-rest, took-ids, head-begin, head-turn, later-fine}
 use Rattle.piece_some.specs.Bytes.{upTo, headSome, someIn, heldIn, mostOf, someOf, someHeld}
 use Rattle.piece_takes.proofs.Stands.{names-took}
@@ -101,6 +102,26 @@ module _ (held ends : List ℕ) (m : Marks) (s : List ℕ) (i : ℕ) (room : len
   first w true y = second w (eqb-true (m .verdict .number) 0 y) (leb mostBytes (m .at)) refl
   first w false y = took-rest held ends m s i w (eqb-false (m .verdict .number) 0 y)
 
-  pub some-took : i ≤ length s → (after : List ℕ) (t : Taken) → (t ≡ someOf held m s i) × (after ≡ someHeld held m s i) → Took held ends m s i after ends t
+  some-took : i ≤ length s → (after : List ℕ) (t : Taken) → (t ≡ someOf held m s i) × (after ≡ someHeld held m s i) → Took held ends m s i after ends t
   unfolding someOf someHeld
   some-took w after t d = rw (d .0, d .1) (first w (eqb (m .verdict .number) 0) refl)
+
+-- ---- one turn over a piece: whole entries, then bytes that need no step of their own, then one that does
+
+module _ (held ends : List ℕ) (m : Marks) (s : List ℕ) (i : ℕ) (middle left : List ℕ) (w : Taken)
+    (p : Took held ends m s i middle left w × (length middle ≡ mostHeld)) (after : List ℕ) (t : Taken)
+    (q : (t ≡ someOf middle (w .marks) s (w .next)) × (after ≡ someHeld middle (w .marks) s (w .next))) where
+  someBytes : Took middle left (w .marks) s (w .next) after left t
+  someBytes = some-took middle left (w .marks) s (w .next) (p .1) (p .0 .within) after t q
+
+  pub turn-from : i ≤ t .next
+  turn-from = omega (arith, p .0 .from, someBytes .from)
+
+  pub turn-end : length s ≤ t .next → feedOf (together held ends m) (drop i s) ≡ together after left (t .marks)
+  turn-end l = p .0 .same ∙ someBytes .same ∙ feed-end (together after left (t .marks)) s (t .next) l
+
+  pub turn-step : t .next < length s → (last open· : List ℕ) (x : Marks)
+      → together last open· x ≡ byteStep (together after left (t .marks)) (getD s (t .next) 0)
+      → feedOf (together held ends m) (drop i s) ≡ feedOf (together last open· x) (drop (t .next + 1) s)
+  turn-step l last open· x e =
+      p .0 .same ∙ someBytes .same ∙ feed-turn (together after left (t .marks)) s (t .next) l (together last open· x) e

@@ -1,12 +1,14 @@
 -- Whole entries of a piece taken at once. Assumes nothing.
 use Prim.Native.Nat.{ℕ, zero, suc, _+_, _-_, _/_, _%_, _≤_, _<_, min}
-use native.Mathlib.Decide.{decLt}
 use native.Mathlib.Omega.{arith}
 use mathlib.Core.Path.{_≡_, refl, ap, sym, _∙_}
 use mathlib.Core.Bool.{Bool, true, false}
 use mathlib.Core.List.{List, [], _∷_}
+use mir.Val.{Val}
+use denote.Laws.{Is}
+use denote.Struct.Declared.{row}
 use lib.Dec.{eqb}
-use lib.ListN.{length, getD, take, drop, replicate, length-take, length-drop}
+use lib.ListN.{length, take, drop, replicate, length-take, length-drop, length-map}
 use lib.Seq.{sets, length-sets, drop-drop, take-take}
 use borrow.Author.Tests.{eq-eqb, ne-eqb, eqb-true, eqb-false}
 use Rattle.ground.specs.Basics.{pick, part}
@@ -30,7 +32,7 @@ use Rattle.doubles.specs.declared.Placed.the-variants.{Fine, NotAfter, Double}
 use Rattle.rules.specs.Rules.{isText, modesOf, bareNumber}
 use Rattle.rules.proofs.Laws.{name-empty, number-bad}
 use Rattle.rules.proofs.Quick.{mode-quick}
-use Rattle.arriving.specs.Feed.{mostHeld, together, fresh, feedOf, byteStep}
+use Rattle.arriving.specs.Feed.{mostHeld, together, fresh, feedOf}
 use Rattle.arriving.specs.Bulk.{Took}
 use Rattle.arriving.specs.declared.Phase.{Phase}
 use Rattle.arriving.specs.declared.Phase.the-variants.{Head}
@@ -38,7 +40,8 @@ use Rattle.arriving.specs.declared.Marks.{Marks}
 use Rattle.arriving.specs.declared.Check.{Check}
 use Rattle.arriving.specs.declared.Taken.{Taken}
 use Rattle.arriving.proofs.Steps.{st}
-use Rattle.arriving.proofs.Laws.{feed-turn, feed-end}
+use Rattle.arriving.proofs.Marks.{the-type}
+use Rattle.arriving.proofs.Laws.{feed-end}
 use Rattle.piece_seen.specs.Whole.{seenAt}
 use Rattle.piece_seen.specs.declared.Seen.{Seen}
 use Rattle.piece_seen.proofs.Whole.{Lies, lies, code-fits}
@@ -337,7 +340,7 @@ module _ (s : List ℕ) (h : ℕ) where
   held-long NotAfter held name = refl
   held-long Double held name = length-sets held 0 name
 
-  module _ (g : Going) (w : Runs s h (g .run)) (room : length (g .held) ≡ mostHeld) where
+  module _ (g : Going) (room : length (g .held) ≡ mostHeld) where
     abbrev seen· : Seen
     seen· = seenAt s (g .run .next) h
 
@@ -365,7 +368,7 @@ module _ (s : List ℕ) (h : ℕ) where
     unfolding oneMore
     one-single n = single-by (eqb (seen· .end) 0) (placedIn g s seen·) n
 
-    module _ (few : g .run .count < mostRecords) where
+    module _ (w : Runs s h (g .run)) (few : g .run .count < mostRecords) where
       placed-went : Whole s (g .run .next) h seen· → (p : Placed) → p ≡ placedIn g s seen·
           → Went (g .held) (g .ends) (g .run) s h (heldAfter p (g .held) name·) (openIn g s seen·) (runAfter (g .run) h seen· p)
       placed-went o (Fine k) u =
@@ -384,6 +387,16 @@ module _ (s : List ℕ) (h : ℕ) where
       unfolding oneMore
       one-went = went-by (eqb (seen· .end) 0) refl
 
+  all-room : (n : ℕ) (g : Going) → length (g .held) ≡ mostHeld → length (allFrom n s h g .held) ≡ mostHeld
+  unfolding allFrom
+  all-room zero g room = room
+  all-room (suc n) g room = go (eqb (oneMore s h g .run .next) (g .run .next)) (all-room n (oneMore s h g) (one-room g room))
+    where
+      go : (v : Bool) → length (allFrom n s h (oneMore s h g) .held) ≡ mostHeld
+          → length (pick v (oneMore s h g) (allFrom n s h (oneMore s h g)) .held) ≡ mostHeld
+      go true f = one-room g room
+      go false f = f
+
   abbrev Goes : Going → Going → Type 0
   Goes g t = Went (g .held) (g .ends) (g .run) s h (t .held) (t .ends) (t .run)
 
@@ -393,7 +406,7 @@ module _ (s : List ℕ) (h : ℕ) where
   all-went (suc n) g w room b = go (eqb (oneMore s h g .run .next) (g .run .next)) refl (all-went n (oneMore s h g))
     where
       one : Goes g (oneMore s h g)
-      one = one-went g w room (omega arith)
+      one = one-went g room w (omega arith)
 
       go : (v : Bool) → eqb (oneMore s h g .run .next) (g .run .next) ≡ v
           → (Runs s h (oneMore s h g .run) → length (oneMore s h g .held) ≡ mostHeld → n ≤ mostRecords - oneMore s h g .run .count
@@ -402,12 +415,16 @@ module _ (s : List ℕ) (h : ℕ) where
       go true z f = one
       go false z f =
           let k = eqb-false (oneMore s h g .run .next) (g .run .next) z in
-          let d = one-single g w room k in
+          let d = one-single g room k in
           went-then (g .held) (g .ends) (g .run) s h (oneMore s h g .held) (oneMore s h g .ends) (oneMore s h g .run) one d _ _ _
-          (f (runs-next (g .held) (g .ends) (g .run) s h (oneMore s h g .held) (oneMore s h g .ends) (oneMore s h g .run) w one d) (one-room g w room)
+          (f (runs-next (g .held) (g .ends) (g .run) s h (oneMore s h g .held) (oneMore s h g .ends) (oneMore s h g .run) w one d) (one-room g room)
           (omega (arith, one-counts s h g k)))
 
 -- ---- bytes of a piece
+
+-- who owns marks knows that eight first bytes are kept
+pub eight-kept : (m : Marks) (vs : List Val) → Is (row the-type) m vs → length (m .head) ≡ 8
+eight-kept m vs p = simp length-map at (p .1 .1 .1 .1 .1 .1 .1 .1 .1 .1 .0 .1 .0 .1)
 
 -- the marks where an entry begins
 module _ (m : Marks) (left : ℕ) (b : Between m left) where
@@ -472,20 +489,11 @@ module _ (held ends : List ℕ) (m : Marks) (s : List ℕ) (i : ℕ) (w : i ≤ 
           within = went .within;
         }
 
-    pub took-ran : (x : Taken) → x ≡ ranOf m (m .at + (t .next - i)) (length s) i t → Took held ends m s i after left x
+    kept-room : length after ≡ mostHeld
+    kept-room =
+        let x = all-begin s (m .h) (runOf m i) held ends (b .after .1) in
+        rw (a .1 .0, x) (all-room s (m .h) (mostRecords - m .count) (going (runOf m i) held ends) room)
+
+    pub took-ran : (x : Taken) → x ≡ ranOf m (m .at + (t .next - i)) (length s) i t → Took held ends m s i after left x × (length after ≡ mostHeld)
     unfolding ranOf
-    took-ran x q = rw q (took-by (t .double) refl)
-
-pub took-then : (held ends : List ℕ) (m : Marks) (s : List ℕ) (i : ℕ) (middle open· : List ℕ) (x : Taken) (after left : List ℕ) (y : Taken)
-    → Took held ends m s i middle open· x → Took middle open· (x .marks) s (x .next) after left y → Took held ends m s i after left y
-took-then held ends m s i middle open· x after left y a b =
-    record { same = a .same ∙ b .same; from = omega (arith, a .from, b .from); within = b .within }
-
--- a turn goes on: to the end, or past one byte more
-pub turn-more : (i a b c all : ℕ) → i < all → i ≤ a → a ≤ b → b ≤ all → b ≤ c → (b < all → b < c) → i < c
-turn-more i a b c all p q r s t f = elim (decLt b all) [ yes w ↦ let u = f w in omega arith | no w ↦ omega arith ]
-
-pub took-step : (held ends : List ℕ) (m : Marks) (s : List ℕ) (i : ℕ) → i < length s → (after left : List ℕ) (x : Marks)
-    → together after left x ≡ byteStep (together held ends m) (getD s i 0) → Took held ends m s i after left (record { marks = x; next = i + 1 })
-took-step held ends m s i w after left x e =
-    record { same = feed-turn (together held ends m) s i w (together after left x) e; from = omega arith; within = omega arith }
+    took-ran x q = (rw q (took-by (t .double) refl), kept-room)
