@@ -1,6 +1,5 @@
 -- The ways through the leaves that take bytes which need no step of their own. Assumes nothing.
 use Prim.Native.Nat.{ℕ, _+_, _-_, _≤_, _<_, min}
-use native.Mathlib.Decide.{decLt}
 use native.Mathlib.Omega.{arith}
 use mathlib.Core.Path.{_≡_, refl, ap, sym, subst, _∙_}
 use mathlib.Core.Bool.{true, false, _&&_}
@@ -33,17 +32,12 @@ line-within held last l s i most w r e =
     )
 
 -- with the line that is answered
-pub part-is : (held : List ℕ) (m : Marks) (l : Line) (s : List ℕ) (i most : ℕ) (r : Line) → r ≡ nameSome held (m .last) l (part i (i + most) s) → (y : Marks)
-    → y ≡ placedAt m (m .at + (r .size - l .size)) (m .head) (Name r) → (after : List ℕ) → after ≡ sets held (l .size) (nameMore l (part i (i + most) s))
-    → (record { marks = y; next = i + (r .size - l .size) } ≡ namePart m l i (nameSome held (m .last) l (part i (i + most) s)))
-    × (after ≡ sets held (l .size) (nameMore l (part i (i + most) s)))
-part-is held m l s i most r e y q after h = (
-  ap (λ (z : Marks). record { marks = z; next = i + (r .size - l .size) }) q ∙ ap (namePart m l i) e,
-  h,
-)
+pub part-is : (m : Marks) (l : Line) (i : ℕ) (r x : Line) → r ≡ x → (y : Marks) → y ≡ placedAt m (m .at + (r .size - l .size)) (m .head) (Name r)
+    → (after kept : List ℕ) → after ≡ kept → (record { marks = y; next = i + (r .size - l .size) } ≡ namePart m l i x) × (after ≡ kept)
+part-is m l i r x e y q after kept h = (ap (λ (z : Marks). record { marks = z; next = i + (r .size - l .size) }) q ∙ ap (namePart m l i) e, h)
 
 -- of an entry's first bytes
-head-is : (m : Marks) (k : ℕ) (s : List ℕ) (i n : ℕ) (head : List ℕ) → head ≡ sets (m .head) k (part i (i + n) s) → (y : Marks)
+pub head-is : (m : Marks) (k : ℕ) (s : List ℕ) (i n : ℕ) (head : List ℕ) → head ≡ sets (m .head) k (part i (i + n) s) → (y : Marks)
     → y ≡ placedAt m (m .at + n) head (Head (k + n)) → record { marks = y; next = i + n } ≡ headSome m k s i n
 head-is m k s i n head h y q =
     ap (λ (x : Marks). record { marks = x; next = i + n }) (q ∙ ap (λ (x : List ℕ). placedAt m (m .at + n) x (Head (k + n))) h)
@@ -56,29 +50,29 @@ module _ (m : Marks) (k : ℕ) (s : List ℕ) (i most : ℕ) where
     pub head-eighth : 7 ≤ k → upTo m i ≡ headIn m k s i most
     head-eighth w = rw (f, le-leb 7 k w)
 
-    pub head-taken : k < 7 → (n : ℕ) → n ≡ min (7 - k) most → (head : List ℕ) → head ≡ sets (m .head) k (part i (i + n) s) → (y : Marks)
-        → y ≡ placedAt m (m .at + n) head (Head (k + n)) → record { marks = y; next = i + n } ≡ headIn m k s i most
-    head-taken w n q head h y z = rw (f, lt-leb 7 k w) (head-is m k s i n head h y z ∙ ap (headSome m k s i) q)
+    pub head-taken : k < 7 → (n : ℕ) → n ≡ min (7 - k) most → (t : Taken) → t ≡ headSome m k s i n → t ≡ headIn m k s i most
+    head-taken w n q t z = rw (f, lt-leb 7 k w) (z ∙ ap (headSome m k s i) q)
 
 -- of an id
-pub id-taken : (m : Marks) (l : Line) (left i most n : ℕ) → n ≡ min (left - 1) most → (y : Marks)
+pub id-taken : (m : Marks) (l : Line) (left i most j n : ℕ) → j ≡ left - 1 → n ≡ min j most → (y : Marks)
     → y ≡ placedAt m (m .at + n) (m .head) (Id l (left - n)) → record { marks = y; next = i + n } ≡ idSome m l left i (min (left - 1) most)
-id-taken m l left i most n q y z = ap (λ (x : Marks). record { marks = x; next = i + n }) z ∙ ap (idSome m l left i) q
+id-taken m l left i most j n u q y z =
+    ap (λ (x : Marks). record { marks = x; next = i + n }) z ∙ ap (idSome m l left i) (q ∙ ap (λ (x : ℕ). min x most) u)
 
 -- what is taken, and what is held afterwards
 module _ (held : List ℕ) (m : Marks) (s : List ℕ) (i most : ℕ) where
   abbrev Ins : Phase → Taken → List ℕ → Type 0
   Ins p t after = (t ≡ someIn held m s i most p) × (after ≡ heldIn held s i most p)
 
-  in-head : (k : ℕ) → m .phase ≡ Head k → (t : Taken) → t ≡ headIn m k s i most → Ins (m .phase) t held
+  pub in-head : (k : ℕ) → m .phase ≡ Head k → (t : Taken) → t ≡ headIn m k s i most → Ins (m .phase) t held
   in-head k e t z = subst (λ (p : Phase). Ins p t held) (sym e) (z, refl)
 
-  in-name : (l : Line) → m .phase ≡ Name l → (t : Taken) (after : List ℕ)
+  pub in-name : (l : Line) → m .phase ≡ Name l → (t : Taken) (after : List ℕ)
       → (t ≡ namePart m l i (nameSome held (m .last) l (part i (i + most) s))) × (after ≡ sets held (l .size) (nameMore l (part i (i + most) s)))
       → Ins (m .phase) t after
   in-name l e t after z = rw e z
 
-  in-id : (l : Line) (left : ℕ) → m .phase ≡ Id l left → (t : Taken) → t ≡ idSome m l left i (min (left - 1) most) → Ins (m .phase) t held
+  pub in-id : (l : Line) (left : ℕ) → m .phase ≡ Id l left → (t : Taken) → t ≡ idSome m l left i (min (left - 1) most) → Ins (m .phase) t held
   in-id l left e t z = subst (λ (p : Phase). Ins p t held) (sym e) (z, refl)
 
 module _ (held : List ℕ) (m : Marks) (s : List ℕ) (i : ℕ) where
@@ -90,40 +84,24 @@ module _ (held : List ℕ) (m : Marks) (s : List ℕ) (i : ℕ) where
   some-rest n = (rw (ne-eqb (m .verdict .number) 0 n), rw (ne-eqb (m .verdict .number) 0 n))
 
   module _ (z : m .verdict .number ≡ 0) where
-    some-over : mostBytes ≤ m .at → Some (upTo m i) held
+    pub some-over : mostBytes ≤ m .at → Some (upTo m i) held
     unfolding someOf someHeld
     some-over w = (rw (eq-eqb (m .verdict .number) 0 z, le-leb mostBytes (m .at) w), rw (eq-eqb (m .verdict .number) 0 z, le-leb mostBytes (m .at) w))
 
-    some-end : m .at < mostBytes → length s ≤ i → Some (upTo m i) held
-    unfolding someOf someHeld
-    some-end a w = (
-      rw (eq-eqb (m .verdict .number) 0 z, lt-leb mostBytes (m .at) a, le-leb (length s) i w),
-      rw (eq-eqb (m .verdict .number) 0 z, lt-leb mostBytes (m .at) a, le-leb (length s) i w),
-    )
+    module _ (a : m .at < mostBytes) where
+      pub some-end : length s ≤ i → Some (upTo m i) held
+      unfolding someOf someHeld
+      some-end w = (
+        rw (eq-eqb (m .verdict .number) 0 z, lt-leb mostBytes (m .at) a, le-leb (length s) i w),
+        rw (eq-eqb (m .verdict .number) 0 z, lt-leb mostBytes (m .at) a, le-leb (length s) i w),
+      )
 
-    module _ (most : ℕ) (q : most ≡ mostOf m s i) where
-      pub some-none : most ≡ 0 → Some (upTo m i) held
-      some-none e = elim (decLt (m .at) mostBytes) [ yes a ↦ some-end a (omega arith) | no n ↦ some-over (omega arith) ]
-
-      module _ (n : most ≡ 0 → ⊥) where
-        some-in : (t : Taken) (after : List ℕ) → Ins held m s i most (m .phase) t after → Some t after
-        unfolding someOf someHeld
-        some-in t after d =
-            let a : m .at < mostBytes = elim (decLt (m .at) mostBytes) [ yes a ↦ a | no b ↦ absurd (n (omega arith)) ] in
-            let w : i < length s = elim (decLt i (length s)) [ yes a ↦ a | no b ↦ absurd (n (omega arith)) ] in (
-              rw (eq-eqb (m .verdict .number) 0 z, lt-leb mostBytes (m .at) a, lt-leb (length s) i w)
-                  (d .0 ∙ ap (λ (n : ℕ). someIn held m s i n (m .phase)) q),
-              rw (eq-eqb (m .verdict .number) 0 z, lt-leb mostBytes (m .at) a, lt-leb (length s) i w)
-                  (d .1 ∙ ap (λ (n : ℕ). heldIn held s i n (m .phase)) q),
-            )
-
-        pub some-head : (k : ℕ) → m .phase ≡ Head k → (t : Taken) → t ≡ headIn m k s i most → Some t held
-        some-head k e t d = some-in t held (in-head held m s i most k e t d)
-
-        pub some-name : (l : Line) → m .phase ≡ Name l → (t : Taken) (after : List ℕ)
-            → (t ≡ namePart m l i (nameSome held (m .last) l (part i (i + most) s))) × (after ≡ sets held (l .size) (nameMore l (part i (i + most) s)))
-            → Some t after
-        some-name l e t after d = some-in t after (in-name held m s i most l e t after d)
-
-        pub some-id : (l : Line) (left : ℕ) → m .phase ≡ Id l left → (t : Taken) → t ≡ idSome m l left i (min (left - 1) most) → Some t held
-        some-id l left e t d = some-in t held (in-id held m s i most l left e t d)
+      pub some-in : i < length s → (most : ℕ) → most ≡ mostOf m s i → (t : Taken) (after : List ℕ)
+          → (t ≡ someIn held m s i most (m .phase)) × (after ≡ heldIn held s i most (m .phase)) → Some t after
+      unfolding someOf someHeld
+      some-in w most q t after d = (
+        rw (eq-eqb (m .verdict .number) 0 z, lt-leb mostBytes (m .at) a, lt-leb (length s) i w)
+            (d .0 ∙ ap (λ (n : ℕ). someIn held m s i n (m .phase)) q),
+        rw (eq-eqb (m .verdict .number) 0 z, lt-leb mostBytes (m .at) a, lt-leb (length s) i w)
+            (d .1 ∙ ap (λ (n : ℕ). heldIn held s i n (m .phase)) q),
+      )

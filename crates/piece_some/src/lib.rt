@@ -7,7 +7,7 @@ ghost use lib.Seq.{sets};
 ghost use Rattle.ground.specs.Basics.{part};
 ghost use Rattle.ground.specs.Verdict.{mostBytes};
 ghost use Rattle.piece_name.specs.Names.{nameMore, nameSome};
-ghost use Rattle.piece_some.specs.Bytes.{headIn, namePart, idSome, someOf, someHeld};
+ghost use Rattle.piece_some.specs.Bytes.{headSome, headIn, namePart, idSome, someIn, heldIn, someOf, someHeld};
 use arriving::Line;
 use arriving::Marks;
 use arriving::Phase;
@@ -25,34 +25,30 @@ fn shorter(a: usize, b: usize) -> usize
     if a < b { a } else { b }
 }
 
-// How many bytes may be taken, as many as are there and keep the bound.
-fn most_in(at: usize, all: usize, i: usize) -> usize
-    ensures { λ r. ⌜ r ≡ min (all - i) (mostBytes - at) ⌝ }
+// One less.
+fn one_less(n: usize) -> usize
+    ensures { λ r. ⌜ r ≡ n - 1 ⌝ }
 {
-    if MOST_BYTES <= at {
+    if n == 0 {
         return 0;
     }
-    if all <= i {
-        return 0;
-    }
-    shorter(all - i, MOST_BYTES - at)
+    n - 1
 }
 
-// Of so many bytes all but the last, and no more than a number.
-fn but_last(left: usize, most: usize) -> usize
-    ensures { λ r. ⌜ r ≡ min (left - 1) most ⌝ }
+// So many of an entry's first bytes.
+fn head_some(m: Marks, k: usize, piece: &[u8], i: usize, n: usize) -> Taken
+    requires { ⌜ (i + n ≤ length (now piece)) × (m .at + n ≤ mostBytes) × (k + n ≤ 7) ⌝ }
+    ensures { λ r. ⌜ r ≡ headSome m k (now (piece .entry)) i n ⌝ }
 {
-    if most < left {
-        return most;
-    }
-    if left == 0 {
-        return 0;
-    }
-    left - 1
+    let mut head = m.head;
+    let next = i + n;
+    put(&mut head, k, &piece[i..next]);
+    let marks = placed_at(m, m.at + n, head, Phase::Head(k + n));
+    Taken { marks, next }
 }
 
 // Of an entry's first bytes so many at most: not the eighth, and none where the entry is one too many.
-fn head_in(mut m: Marks, k: usize, piece: &[u8], i: usize, most: usize) -> Taken
+fn head_in(m: Marks, k: usize, piece: &[u8], i: usize, most: usize) -> Taken
     requires { ⌜ (i + most ≤ length (now piece)) × (m .at + most ≤ mostBytes) ⌝ }
     ensures { λ r. ⌜ r ≡ headIn m k (now (piece .entry)) i most ⌝ }
 {
@@ -63,48 +59,48 @@ fn head_in(mut m: Marks, k: usize, piece: &[u8], i: usize, most: usize) -> Taken
         return Taken { marks: m, next: i };
     }
     let n = shorter(7 - k, most);
-    let next = i + n;
-    let mut head = m.head;
-    put(&mut head, k, &piece[i..next]);
-    m = placed_at(m, m.at + n, head, Phase::Head(k + n));
-    Taken { marks: m, next }
+    head_some(m, k, piece, i, n)
 }
 
 // The bytes of a name among so many.
-fn name_part(
-    held: &mut [u8; 4096],
-    mut m: Marks,
-    l: Line,
-    piece: &[u8],
-    i: usize,
-    most: usize,
-) -> Taken
+fn name_part(held: &mut [u8; 4096], m: Marks, l: Line, piece: &[u8], i: usize, most: usize) -> Taken
     requires { ⌜ (i + most ≤ length (now piece)) × (m .at + most ≤ mostBytes) ⌝ }
     ensures taken { λ r. ⌜ r ≡ namePart m l i (nameSome (now (held .entry)) (m .last) l (part i (i + most) (now (piece .entry)))) ⌝ }
     ensures held { λ r. ⌜ now (held .exit) ≡ sets (now (held .entry)) (l .size) (nameMore l (part i (i + most) (now (piece .entry)))) ⌝ }
 {
+    let last = m.last;
     let end = i + most;
-    let line = name_some(held, m.last, l, &piece[i..end]);
+    let line = name_some(held, last, l, &piece[i..end]);
     let n = line.size - l.size;
+    let next = i + n;
     let head = m.head;
-    m = placed_at(m, m.at + n, head, Phase::Name(line));
-    Taken {
-        marks: m,
-        next: i + n,
-    }
+    let marks = placed_at(m, m.at + n, head, Phase::Name(line));
+    Taken { marks, next }
 }
 
 // Of an id so many bytes at most, and not the last.
-fn id_some(mut m: Marks, l: Line, left: usize, i: usize, most: usize) -> Taken
+fn id_some(m: Marks, l: Line, left: usize, i: usize, most: usize) -> Taken
     requires { ⌜ (m .at + most ≤ mostBytes) × (i + most < 9223372036854775808) ⌝ }
     ensures { λ r. ⌜ r ≡ idSome m l left i (min (left - 1) most) ⌝ }
 {
-    let n = but_last(left, most);
+    let n = shorter(one_less(left), most);
     let head = m.head;
-    m = placed_at(m, m.at + n, head, Phase::Id(l, left - n));
-    Taken {
-        marks: m,
-        next: i + n,
+    let marks = placed_at(m, m.at + n, head, Phase::Id(l, left - n));
+    let next = i + n;
+    Taken { marks, next }
+}
+
+// Bytes of an entry, so many at most.
+fn some_in(held: &mut [u8; 4096], m: Marks, piece: &[u8], i: usize, most: usize) -> Taken
+    requires { ⌜ (i + most ≤ length (now piece)) × (m .at + most ≤ mostBytes) ⌝ }
+    ensures taken { λ r. ⌜ r ≡ someIn (now (held .entry)) m (now (piece .entry)) i most (m .phase) ⌝ }
+    ensures held { λ r. ⌜ now (held .exit) ≡ heldIn (now (held .entry)) (now (piece .entry)) i most (m .phase) ⌝ }
+{
+    let phase = m.phase;
+    match phase {
+        Phase::Head(k) => head_in(m, k, piece, i, most),
+        Phase::Name(l) => name_part(held, m, l, piece, i, most),
+        Phase::Id(l, left) => id_some(m, l, left, i, most),
     }
 }
 
@@ -119,14 +115,12 @@ pub fn some(held: &mut [u8; 4096], m: Marks, piece: &[u8], i: usize) -> Taken
             next: piece.len(),
         };
     }
-    let most = most_in(m.at, piece.len(), i);
-    if most == 0 {
+    if MOST_BYTES <= m.at {
         return Taken { marks: m, next: i };
     }
-    let phase = m.phase;
-    match phase {
-        Phase::Head(k) => head_in(m, k, piece, i, most),
-        Phase::Name(l) => name_part(held, m, l, piece, i, most),
-        Phase::Id(l, left) => id_some(m, l, left, i, most),
+    if piece.len() <= i {
+        return Taken { marks: m, next: i };
     }
+    let most = shorter(piece.len() - i, MOST_BYTES - m.at);
+    some_in(held, m, piece, i, most)
 }
