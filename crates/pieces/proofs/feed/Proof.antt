@@ -2,8 +2,6 @@
 use borrow.Author.Needs.{needs}
 use Rattle.pieces.proofs.feed.Statement.{statement}
 use Rattle.pieces.proofs.feed.Tie as tie
-use Rattle.pieces.proofs.feed.Reads as reads
-use Rattle.pieces.proofs.feed.Lts as lts
 use mathlib.Core.Path.{_≡_, refl, sym, _∙_}
 use Prim.Native.Nat.{_-_}
 use native.Mathlib.Omega.{arith}

@@ -2,8 +2,6 @@
 use borrow.Author.Needs.{needs}
 use Rattle.pieces.proofs.whole.Statement.{statement}
 use Rattle.pieces.proofs.whole.Tie as tie
-use Rattle.pieces.proofs.whole.Reads as reads
-use Rattle.pieces.proofs.whole.Lts as lts
 use mathlib.Core.Path.{sym, _∙_}
 use native.Mathlib.Omega.{arith}
 use Rattle.piece_between.proofs.Between.{between-is}
@@ -24,11 +22,13 @@ sub-ran c =
     let pre = c .before .before .before .before .before .before .before .before .before .before .pre in
     let if1 = c .before .before .before .before .before .if1 in
     let is-between = c .before .before .before .before .before .before .is-between in
+    let lent2 = c .before .before .before .before .before .before .before .lent2 in
     let all-entries = c .before .all-entries in
     omega (
       arith,
       run-within (args .held .now) (args .ends .now) (args .m) (args .piece .now) (args .i) pre
-          (between-is (args .m) _ (sym (is-between .ensures) ∙ if1 .taken)) (c .before .before .before .before .before .before .before .lent2 .given .0) _ _ (all-entries .result) (all-entries .ensures),
+          (between-is (args .m) _ (sym (is-between .ensures) ∙ if1 .taken))
+          (lent2 .given .0) _ _ (all-entries .result) (all-entries .ensures),
     )
 
 add-ran : tie.Need-add-ran
@@ -37,11 +37,13 @@ add-ran c =
     let pre = c .before .before .before .before .before .before .before .before .before .before .before .pre in
     let if1 = c .before .before .before .before .before .before .if1 in
     let is-between = c .before .before .before .before .before .before .before .is-between in
+    let lent2 = c .before .before .before .before .before .before .before .before .lent2 in
     let all-entries = c .before .before .all-entries in
     omega (
       arith,
       run-within (args .held .now) (args .ends .now) (args .m) (args .piece .now) (args .i) pre
-          (between-is (args .m) _ (sym (is-between .ensures) ∙ if1 .taken)) (c .before .before .before .before .before .before .before .before .lent2 .given .0) _ _ (all-entries .result) (all-entries .ensures),
+          (between-is (args .m) _ (sym (is-between .ensures) ∙ if1 .taken))
+          (lent2 .given .0) _ _ (all-entries .result) (all-entries .ensures),
     )
 
 ran-requires : tie.Need-ran-requires
@@ -54,9 +56,11 @@ returns c =
     let good = c .before .before .before .before .before .before .before .before .before .before .before .before .good in
     let if1 = c .before .before .before .before .before .before .before .if1 in
     let is-between = c .before .before .before .before .before .before .before .before .is-between in
+    let lent2 = c .before .before .before .before .before .before .before .before .before .lent2 in
     let all-entries = c .before .before .before .all-entries in
     took-ran (args .held .now) (args .ends .now) (args .m) (args .piece .now) (args .i) pre
-    (between-is (args .m) _ (sym (is-between .ensures) ∙ if1 .taken)) (c .before .before .before .before .before .before .before .before .before .lent2 .given .0) _ _ (all-entries .result) (all-entries .ensures)
+    (between-is (args .m) _ (sym (is-between .ensures) ∙ if1 .taken))
+    (lent2 .given .0) _ _ (all-entries .result) (all-entries .ensures)
     (eight-kept (args .m) _ (good .1 .1 .0)) (c .ran .result) (c .ran .ensures)
 
 returns-2 : tie.Need-returns-2

@@ -39,7 +39,8 @@ returns-2 c =
     let args = c .before .before .before .before .before .before .args in
     let marks-at = c .before .before .before .before .marks-at in
     let marks-at2 = c .before .before .marks-at2 in
-    let past = place-past (args .x) (args .s .now) (args .j) _ (omega arith) (marks-at .ensures) (args .j + 8) (c .before .before .before .if1 .left) (omega arith) in
+    let if1 = c .before .before .before .if1 in
+    let past = place-past (args .x) (args .s .now) (args .j) _ (omega arith) (marks-at .ensures) (args .j + 8) (if1 .left) (omega arith) in
     sym (past ∙ place-in (args .x) (args .s .now) (args .j + 8) _ (omega arith) (marks-at2 .ensures) _ (c .place2 .ensures .0) (c .before .if2 .taken))
 
 add-first-of-16 : tie.Need-add-first-of-16
@@ -60,7 +61,8 @@ returns-3 c =
     let args = c .before .before .before .before .before .before .args in
     let marks-at = c .before .before .before .before .marks-at in
     let marks-at2 = c .before .before .marks-at2 in
-    let past = place-past (args .x) (args .s .now) (args .j) _ (omega arith) (marks-at .ensures) (args .j + 8) (c .before .before .before .if1 .left) (omega arith) in
+    let if1 = c .before .before .before .if1 in
+    let past = place-past (args .x) (args .s .now) (args .j) _ (omega arith) (marks-at .ensures) (args .j + 8) (if1 .left) (omega arith) in
     let past2 = place-past (args .x) (args .s .now) (args .j + 8) _ (omega arith) (marks-at2 .ensures) (args .j + 16) (c .before .if2 .left) (omega arith) in
     c .first-of-16 .ensures ∙ sym (past ∙ past2)
 
