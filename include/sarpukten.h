@@ -414,7 +414,7 @@ SARPUKTEN_CHECKED size_t sarpukten_compare_trees(
 
 /* Mends an object: puts to the front of out one that rule set 2 accepts, and into fates at i what was done to entry i: 0 kept, 1 kept with
  * another mode text, 2 dropped for its name, 3 dropped for its mode, 4 dropped because an entry before it that was kept has its name.
- * Refuses 1, 2, 3, 4 (place: entries of the object), 8. The new object is never longer than the old one. Stack: some 5 KiB up to 1,024
+ * Refuses 1, 2, 3, 4 (place: entries of the object), 8. The new object is never longer than the old one. Stack: some 7 KiB up to 1,024
  * entries, else a little over 4 MiB. */
 SARPUKTEN_CHECKED size_t sarpukten_mend_tree(
     const uint8_t *bytes, size_t bytes_len, size_t h, size_t *fates, size_t fates_len, uint8_t *out, size_t out_len,
