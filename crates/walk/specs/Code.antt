@@ -2,11 +2,12 @@
 use Prim.Native.Nat.{ℕ, zero, suc, _+_, _*_, _≤_}
 use mathlib.Core.Path.{_≡_}
 use mathlib.Core.List.{List, [], map}
-use lib.Dec.{leb}
+use lib.Dec.{eqb, leb}
 use lib.ListN.{length, take, drop}
 use lib.Seq.{sets}
 use Rattle.ground.specs.Basics.{pick, part}
-use Rattle.ground.specs.Verdict.{verdict, mostBytes}
+use Rattle.ground.specs.Verdict.{verdict, counted, refused, mostBytes}
+use Rattle.ground.specs.declared.Answer.{Answer}
 use Rattle.frame.specs.declared.Header.{Header}
 use Rattle.reading.specs.Listing.{plain, recordsIn}
 use Rattle.merge.specs.Merge.{bytesOf, idIn}
@@ -38,6 +39,13 @@ foldersIn k s index id = folderAt (k .h) s (openIn k s id index)
 -- how two roots differ, by those folders: 2 over the bound
 unfoldable pub walkIn : Header → List ℕ → List ℕ → List ℕ → List ℕ → Out
 walkIn k s index left right = pick (leb (length s) mostBytes) (compareFolders (foldersIn k s index) levels [] left right 0) (refusedBy (verdict 2 0))
+
+-- the answer from the mark of a walk by the room that was lent: its refusal; then 4 with the items needed, then 8 with the bytes that the paths need
+unfoldable pub answerOf : Mark → ℕ → ℕ → Answer
+answerOf w room bytes =
+    pick (eqb (w .verdict .number) 0)
+    (pick (leb (w .count) room) (pick (leb (w .used) bytes) (counted (w .count)) (refused (verdict 8 (w .used)))) (refused (verdict 4 (w .count))))
+    (refused (w .verdict))
 
 -- a side of a change, its name, and the item that it is below a path
 abbrev pub sideIn : List ℕ → Side → items.Side

@@ -5,9 +5,9 @@ ghost use Prim.Native.Nat.{ℕ, _+_, _≤_, _<_};
 ghost use lib.ListN.{length};
 ghost use Rattle.ground.specs.Verdict.{mostBytes, stored};
 ghost use Rattle.merge.specs.Merge.{Within, ChangeWithin};
-ghost use Rattle.walk.specs.Walk.{put, compareEntries, compareFolders};
+ghost use Rattle.walk.specs.Walk.{put, compareEntries, compareFolders, levels};
 ghost use Rattle.walk.specs.Lent.{pathsOf, numbersOf, itemsIn, fitted};
-ghost use Rattle.walk.specs.Code.{entriesFrom, foldersIn, walkIn, inside, Added, itemOf, joinLength, Held, Did, Small, Short};
+ghost use Rattle.walk.specs.Code.{entriesFrom, foldersIn, walkIn, answerOf, inside, Added, itemOf, joinLength, Held, Did, Small, Short};
 use frame::Header;
 use ground::Answer;
 use ground::BOUND;
@@ -37,6 +37,20 @@ pub struct Mark {
     pub count: usize,
     pub used: usize,
 }
+
+// Those levels, as the specification counts them.
+fn levels() -> usize
+    ensures { λ r. ⌜ r ≡ levels ⌝ }
+{
+    LEVELS
+}
+
+// The mark before the first item.
+const NONE: Mark = Mark {
+    verdict: FINE,
+    count: 0,
+    used: 0,
+};
 
 // The length of a path from its folder's and its name's.
 fn joined(pl: usize, name: usize) -> usize
@@ -113,14 +127,8 @@ fn compare_folders(
     ensures { λ r. ⌜ ((prefix : List ℕ) → length prefix ≡ pl → Did m (Held prefix ps (now (paths .entry))) (now (items .entry)) (now (paths .entry)) (compareFolders (foldersIn k (now (bundle .entry)) (now (index .entry))) depth prefix (now (a .entry)) (now (b .entry)) (m .count)) r (now (items .exit)) (now (paths .exit))) ⌝ }
     ensures { λ r. ⌜ Small r ⌝ }
 {
-    let count = m.count;
-    let used = m.used;
     match open_both(bundle, k, a, b, depth, index) {
-        Pair::Closed(v) => Mark {
-            verdict: v,
-            count,
-            used,
-        },
+        Pair::Closed(v) => Mark { verdict: v, ..m },
         Pair::Both(l, r) => compare_entries(
             bundle,
             k,
@@ -179,51 +187,36 @@ fn compare_inside(
             index,
         );
     }
-    let count = m.count;
-    let used = m.used;
-    Mark {
-        verdict: FINE,
-        count,
-        used,
-    }
+    Mark { verdict: FINE, ..m }
 }
 
 // The entries of two folders, merged: an item for each that differs, and after it what differs inside.
 fn compare_entries(
     bundle: &[u8],
     k: Header,
-    from: Rest,
-    other: Rest,
+    mut l: Rest,
+    mut r: Rest,
     depth: usize,
     items: &mut [usize],
     paths: &mut [u8],
-    start: Mark,
+    mut m: Mark,
     ps: usize,
     pl: usize,
     index: &[u32],
 ) -> Mark
     requires { ⌜ length (now bundle) ≤ mostBytes ⌝ }
-    requires { ⌜ ps + pl ≤ start .used ⌝ }
+    requires { ⌜ ps + pl ≤ m .used ⌝ }
     requires { ⌜ Short pl (depth + 1) ⌝ }
-    requires { ⌜ Small start ⌝ }
-    requires { ⌜ Within (now bundle) from ⌝ }
-    requires { ⌜ Within (now bundle) other ⌝ }
-    ensures { λ r. ⌜ ((prefix : List ℕ) → length prefix ≡ pl → Did start (Held prefix ps (now (paths .entry))) (now (items .entry)) (now (paths .entry)) (compareEntries (compareFolders (foldersIn k (now (bundle .entry)) (now (index .entry))) depth) prefix (entriesFrom (k .h) (now (bundle .entry)) from) (start .count) (entriesFrom (k .h) (now (bundle .entry)) other)) r (now (items .exit)) (now (paths .exit))) ⌝ }
-    ensures { λ r. ⌜ Small r ⌝ }
+    requires { ⌜ Small m ⌝ }
+    requires { ⌜ Within (now bundle) l ⌝ }
+    requires { ⌜ Within (now bundle) r ⌝ }
+    ensures { λ w. ⌜ ((prefix : List ℕ) → length prefix ≡ pl → Did m (Held prefix ps (now (paths .entry))) (now (items .entry)) (now (paths .entry)) (compareEntries (compareFolders (foldersIn k (now (bundle .entry)) (now (index .entry))) depth) prefix (entriesFrom (k .h) (now (bundle .entry)) l) (m .count) (entriesFrom (k .h) (now (bundle .entry)) r)) w (now (items .exit)) (now (paths .exit))) ⌝ }
+    ensures { λ w. ⌜ Small w ⌝ }
 {
-    let mut l = from;
-    let mut r = other;
-    let mut m = start;
     loop {
         match merge_step(bundle, k.h, l, r) {
             Step::Done => {
-                let count = m.count;
-                let used = m.used;
-                return Mark {
-                    verdict: FINE,
-                    count,
-                    used,
-                };
+                return Mark { verdict: FINE, ..m };
             }
             Step::Same(next, past) => {
                 l = next;
@@ -232,15 +225,13 @@ fn compare_entries(
             }
             Step::Differs(c, next, past) => {
                 let p = add(bundle, items, paths, m, ps, pl, c);
-                let v = p.verdict;
-                if v.number != DONE {
+                if p.verdict.number != DONE {
                     return p;
                 }
                 let at = m.used;
                 let size = p.used - at;
                 let w = compare_inside(bundle, k, c, depth, items, paths, p, at, size, index);
-                let u = w.verdict;
-                if u.number != DONE {
+                if w.verdict.number != DONE {
                     return w;
                 }
                 l = next;
@@ -249,6 +240,83 @@ fn compare_entries(
             }
         }
     }
+}
+
+// The answer from the mark of a walk, with room for so many items and so many bytes: its refusal, 4, 8.
+fn by_room(w: Mark, room: usize, bytes: usize) -> Answer
+    ensures { λ r. ⌜ r ≡ answerOf w room bytes ⌝ }
+{
+    let v = w.verdict;
+    let count = w.count;
+    if v.number != DONE {
+        return Answer {
+            verdict: v,
+            count: 0,
+        };
+    }
+    if room < count {
+        return Answer {
+            verdict: Verdict {
+                number: FEW_RECORDS,
+                place: count,
+                ..FINE
+            },
+            count: 0,
+        };
+    }
+    if bytes < w.used {
+        return Answer {
+            verdict: Verdict {
+                number: SHORT_OUTPUT,
+                place: w.used,
+                ..FINE
+            },
+            count: 0,
+        };
+    }
+    Answer {
+        verdict: FINE,
+        count,
+    }
+}
+
+// What a walk with nothing lent says, with room for so many items and so many bytes: 2 over the bound, then as above.
+fn measured(
+    bundle: &[u8],
+    k: Header,
+    left: &[u8],
+    right: &[u8],
+    index: &[u32],
+    room: usize,
+    bytes: usize,
+) -> Answer
+    ensures { λ r. ⌜ r ≡ fitted room bytes (walkIn k (now (bundle .entry)) (now (index .entry)) (now (left .entry)) (now (right .entry))) ⌝ }
+{
+    if MOST_BYTES < bundle.len() {
+        return Answer {
+            verdict: Verdict {
+                number: BOUND,
+                ..FINE
+            },
+            count: 0,
+        };
+    }
+    let mut items = [0usize; 0];
+    let mut paths = [0u8; 0];
+    let w = compare_folders(
+        bundle,
+        k,
+        left,
+        right,
+        levels(),
+        &mut items,
+        &mut paths,
+        NONE,
+        0,
+        0,
+        index,
+    );
+    by_room(w, room, bytes)
 }
 
 // What differs between the trees of two ids, whatever the index is: 2 over the bound, the walk with nothing lent and its refusal, 4, 8, and the
@@ -266,78 +334,30 @@ pub fn walk_trees(
     ensures items { λ r. ⌜ now (items .exit) ≡ stored (r .verdict) (numbersOf 0 (walkIn k (now (bundle .entry)) (now (index .entry)) (now (left .entry)) (now (right .entry)) .items)) (now (items .entry)) ⌝ }
     ensures paths { λ r. ⌜ now (paths .exit) ≡ stored (r .verdict) (pathsOf (walkIn k (now (bundle .entry)) (now (index .entry)) (now (left .entry)) (now (right .entry)) .items)) (now (paths .entry)) ⌝ }
 {
-    if MOST_BYTES < bundle.len() {
-        return Answer {
-            verdict: Verdict {
-                number: BOUND,
-                ..FINE
-            },
-            count: 0,
-        };
-    }
-    let none = Mark {
-        verdict: FINE,
-        count: 0,
-        used: 0,
-    };
-    let mut no_items = [0usize; 0];
-    let mut no_bytes = [0u8; 0];
-    let w = compare_folders(
+    let a = measured(
         bundle,
         k,
         left,
         right,
-        LEVELS,
-        &mut no_items,
-        &mut no_bytes,
-        none,
-        0,
-        0,
         index,
+        items.len() / ITEM,
+        paths.len(),
     );
-    let v = w.verdict;
-    let count = w.count;
-    if v.number != DONE {
-        return Answer {
-            verdict: v,
-            count: 0,
-        };
-    }
-    if items.len() / ITEM < count {
-        return Answer {
-            verdict: Verdict {
-                number: FEW_RECORDS,
-                place: count,
-                ..FINE
-            },
-            count: 0,
-        };
-    }
-    if paths.len() < w.used {
-        return Answer {
-            verdict: Verdict {
-                number: SHORT_OUTPUT,
-                place: w.used,
-                ..FINE
-            },
-            count: 0,
-        };
+    if a.verdict.number != DONE {
+        return a;
     }
     compare_folders(
         bundle,
         k,
         left,
         right,
-        LEVELS,
+        levels(),
         items,
         paths,
-        none,
+        NONE,
         0,
         0,
         index,
     );
-    Answer {
-        verdict: FINE,
-        count,
-    }
+    a
 }

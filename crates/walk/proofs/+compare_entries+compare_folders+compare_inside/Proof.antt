@@ -65,18 +65,18 @@ abbrev compare-inside-claims : ℕ → compare-inside-lts.Claims
 compare-inside-claims t = (compare-folders-below t, compare-folders.Post)
 
 abbrev compare-entries-Inv-loop : compare-entries-lts.InvT-loop
-compare-entries-Inv-loop bundle k depth items₀ paths₀ ps pl index l₀ r₀ m₀ items paths l r m =
+compare-entries-Inv-loop bundle k l₀ r₀ depth items₀ paths₀ m₀ ps pl index l r items paths m =
     turning.Going (compareFolders (foldersIn k bundle index) depth) (k .h) bundle ps pl l₀ r₀ m₀ items₀ paths₀ l r m items paths
 
 abbrev compare-entries-μ-loop : compare-entries-lts.MeasureT-loop
-compare-entries-μ-loop bundle k depth items₀ paths₀ ps pl index l₀ r₀ m₀ items paths l r m = l .left + r .left
+compare-entries-μ-loop bundle k l₀ r₀ depth items₀ paths₀ m₀ ps pl index l r items paths m = l .left + r .left
 
 compare-entries-loop-holds : (t : ℕ) → compare-entries-lts.Need-loop-holds (compare-entries-claims t) (compare-entries-at t) compare-entries.Post compare-entries-Inv-loop compare-entries-μ-loop
 compare-entries-loop-holds t c =
     let args = c .before .before .before .before .args in
     let pre = c .before .before .before .before .pre in
     turning.going-start (compareFolders (foldersIn (args .k) (args .bundle .now) (args .index .now)) (args .depth)) (args .k .h) (args .bundle .now) (args .ps)
-    (args .pl) (args .from) (args .other) (args .start) (args .items .now) (args .paths .now) (pre .1 .1 .1 .1 .1 .0) (pre .1 .1 .1 .1 .1 .1)
+    (args .pl) (args .l) (args .r) (args .m) (args .items .now) (args .paths .now) (pre .1 .1 .1 .1 .1 .0) (pre .1 .1 .1 .1 .1 .1)
     (pre .1 .1 .1 .1 .0)
 
 compare-entries-merge-step-requires : (t : ℕ) → compare-entries-lts.Need-merge-step-requires (compare-entries-claims t) (compare-entries-at t) compare-entries.Post compare-entries-Inv-loop compare-entries-μ-loop
@@ -146,24 +146,24 @@ compare-entries-add-requires t c κs =
 
 compare-entries-same-length-3 : (t : ℕ) → compare-entries-lts.Need-same-length-3 (compare-entries-claims t) (compare-entries-at t) compare-entries.Post compare-entries-Inv-loop compare-entries-μ-loop
 compare-entries-same-length-3 t c =
-    let loop = c .before .before .before .before .before .before .before .before .before .before .before .before .before .before .loop in
-    let add = c .before .before .before .before .before .before .before .add in
+    let loop = c .before .before .before .before .before .before .before .before .before .before .before .before .before .loop in
+    let add = c .before .before .before .before .before .before .add in
     add .kept .1 .0 ∙ loop .inv .items-kept
 
 compare-entries-same-length-4 : (t : ℕ) → compare-entries-lts.Need-same-length-4 (compare-entries-claims t) (compare-entries-at t) compare-entries.Post compare-entries-Inv-loop compare-entries-μ-loop
 compare-entries-same-length-4 t c =
-    let loop = c .before .before .before .before .before .before .before .before .before .before .before .before .before .before .loop in
-    let add = c .before .before .before .before .before .before .before .add in
+    let loop = c .before .before .before .before .before .before .before .before .before .before .before .before .before .loop in
+    let add = c .before .before .before .before .before .before .add in
     add .kept .1 .1 .0 ∙ loop .inv .paths-kept
 
 compare-entries-returns-2 : (t : ℕ) → compare-entries-lts.Need-returns-2 (compare-entries-claims t) (compare-entries-at t) compare-entries.Post compare-entries-Inv-loop compare-entries-μ-loop
 compare-entries-returns-2 t c =
     let pre = c .before .before .before .before .before .before .before .before .before .before .before .before .before .before .before .before .before
-    .before .before .pre in
-    let loop = c .before .before .before .before .before .before .before .before .before .before .before .before .before .before .loop in
-    let merge-step = c .before .before .before .before .before .before .before .before .before .before .before .before .before .merge-step in
-    let change = c .before .before .before .before .before .before .before .before .before .before .before .c in
-    let add = c .before .before .before .before .before .before .before .add in
+    .before .pre in
+    let loop = c .before .before .before .before .before .before .before .before .before .before .before .before .before .loop in
+    let merge-step = c .before .before .before .before .before .before .before .before .before .before .before .before .merge-step in
+    let change = c .before .before .before .before .before .before .before .before .before .before .c in
+    let add = c .before .before .before .before .before .before .add in
     let if1 = c .if1 in (
       turning.going-full (loop .inv) (merge-step .result) (merge-step .ensures) (change .given .0 .0) (change .given .0 .1 .0) (change .given .0 .1 .1 .0)
           (change .given .1) (pre .1 .1 .0) (add .result) (add .last .1 .0) (add .last .1 .1 .0) (add .ensures .0) (if1 .taken),
@@ -171,20 +171,18 @@ compare-entries-returns-2 t c =
     )
 
 compare-entries-sub-size : (t : ℕ) → compare-entries-lts.Need-sub-size (compare-entries-claims t) (compare-entries-at t) compare-entries.Post compare-entries-Inv-loop compare-entries-μ-loop
-compare-entries-sub-size t c = omega (arith, c .before .before .before .before .before .before .before .before .add .ensures .1 .1)
+compare-entries-sub-size t c = omega (arith, c .before .before .before .before .before .before .before .add .ensures .1 .1)
 
 compare-entries-compare-inside-requires : (t : ℕ) → compare-entries-lts.Need-compare-inside-requires (compare-entries-claims t) (compare-entries-at t) compare-entries.Post compare-entries-Inv-loop compare-entries-μ-loop
 compare-entries-compare-inside-requires t c κs =
     let args = c .before .before .before .before .before .before .before .before .before .before .before .before .before .before .before .before .before
-    .before .before .before .before .before .args in
+    .before .before .before .before .args in
     let pre = c .before .before .before .before .before .before .before .before .before .before .before .before .before .before .before .before .before
-    .before .before .before .before .before .pre in
-    let loop = c .before .before .before .before .before .before .before .before .before .before .before .before .before .before .before .before
-    .before .loop in
-    let merge-step = c .before .before .before .before .before .before .before .before .before .before .before .before .before .before .before
-    .before .merge-step in
-    let change = c .before .before .before .before .before .before .before .before .before .before .before .before .before .before .c in
-    let add = c .before .before .before .before .before .before .before .before .before .before .add in (
+    .before .before .before .before .pre in
+    let loop = c .before .before .before .before .before .before .before .before .before .before .before .before .before .before .before .before .loop in
+    let merge-step = c .before .before .before .before .before .before .before .before .before .before .before .before .before .before .before .merge-step in
+    let change = c .before .before .before .before .before .before .before .before .before .before .before .before .before .c in
+    let add = c .before .before .before .before .before .before .before .before .before .add in (
       turning.entry-falls (args .depth) _ t (pre .0),
       (
         pre .1 .0,
@@ -205,35 +203,32 @@ compare-entries-compare-inside-requires t c κs =
 compare-entries-same-length-5 : (t : ℕ) → compare-entries-lts.Need-same-length-5 (compare-entries-claims t) (compare-entries-at t) compare-entries.Post compare-entries-Inv-loop compare-entries-μ-loop
 compare-entries-same-length-5 t c =
     let loop = c .before .before .before .before .before .before .before .before .before .before .before .before .before .before .before .before .before
-    .before .before .before .before .before .before .before .before .loop in
-    let add = c .before .before .before .before .before .before .before .before .before .before .before .before .before .before .before .before .before
-    .before .add in
-    let compare-inside = c .before .before .before .before .before .before .before .compare-inside in
+    .before .before .before .before .before .before .loop in
+    let add = c .before .before .before .before .before .before .before .before .before .before .before .before .before .before .before .before .add in
+    let compare-inside = c .before .before .before .before .before .before .compare-inside in
     compare-inside .kept .1 .1 .1 .1 .0 ∙ add .kept .1 .0 ∙ loop .inv .items-kept
 
 compare-entries-same-length-6 : (t : ℕ) → compare-entries-lts.Need-same-length-6 (compare-entries-claims t) (compare-entries-at t) compare-entries.Post compare-entries-Inv-loop compare-entries-μ-loop
 compare-entries-same-length-6 t c =
     let loop = c .before .before .before .before .before .before .before .before .before .before .before .before .before .before .before .before .before
-    .before .before .before .before .before .before .before .before .loop in
-    let add = c .before .before .before .before .before .before .before .before .before .before .before .before .before .before .before .before .before
-    .before .add in
-    let compare-inside = c .before .before .before .before .before .before .before .compare-inside in
+    .before .before .before .before .before .before .loop in
+    let add = c .before .before .before .before .before .before .before .before .before .before .before .before .before .before .before .before .add in
+    let compare-inside = c .before .before .before .before .before .before .compare-inside in
     compare-inside .kept .1 .1 .1 .1 .1 .0 ∙ add .kept .1 .1 .0 ∙ loop .inv .paths-kept
 
 compare-entries-returns-3 : (t : ℕ) → compare-entries-lts.Need-returns-3 (compare-entries-claims t) (compare-entries-at t) compare-entries.Post compare-entries-Inv-loop compare-entries-μ-loop
 compare-entries-returns-3 t c =
     let pre = c .before .before .before .before .before .before .before .before .before .before .before .before .before .before .before .before .before
-    .before .before .before .before .before .before .before .before .before .before .before .before .before .pre in
+    .before .before .before .before .before .before .before .before .before .before .before .pre in
     let loop = c .before .before .before .before .before .before .before .before .before .before .before .before .before .before .before .before .before
-    .before .before .before .before .before .before .before .before .loop in
+    .before .before .before .before .before .before .loop in
     let merge-step = c .before .before .before .before .before .before .before .before .before .before .before .before .before .before .before .before
-    .before .before .before .before .before .before .before .before .merge-step in
+    .before .before .before .before .before .before .merge-step in
     let change = c .before .before .before .before .before .before .before .before .before .before .before .before .before .before .before .before
-    .before .before .before .before .before .before .c in
-    let add = c .before .before .before .before .before .before .before .before .before .before .before .before .before .before .before .before .before
-    .before .add in
-    let if1 = c .before .before .before .before .before .before .before .before .before .before .before .if1 in
-    let compare-inside = c .before .before .before .before .before .before .before .compare-inside in
+    .before .before .before .before .c in
+    let add = c .before .before .before .before .before .before .before .before .before .before .before .before .before .before .before .before .add in
+    let if1 = c .before .before .before .before .before .before .before .before .before .before .if1 in
+    let compare-inside = c .before .before .before .before .before .before .compare-inside in
     let if2 = c .if2 in (
       turning.going-stop (loop .inv) (merge-step .result) (merge-step .ensures) (change .given .0 .0) (change .given .0 .1 .0) (change .given .0 .1 .1 .0)
           (change .given .1) (pre .1 .1 .0) (add .result) (add .last .1 .0) (add .last .1 .1 .0) (add .ensures .0) (if1 .left) (add .ensures .1) (add .kept .1 .0)
@@ -245,13 +240,13 @@ compare-entries-returns-3 t c =
 compare-entries-loop-less-2 : (t : ℕ) → compare-entries-lts.Need-loop-less-2 (compare-entries-claims t) (compare-entries-at t) compare-entries.Post compare-entries-Inv-loop compare-entries-μ-loop
 compare-entries-loop-less-2 t c =
     let args = c .before .before .before .before .before .before .before .before .before .before .before .before .before .before .before .before .before
-    .before .before .before .before .before .before .before .before .before .before .before .before .before .args in
+    .before .before .before .before .before .before .before .before .before .before .before .args in
     let loop = c .before .before .before .before .before .before .before .before .before .before .before .before .before .before .before .before .before
-    .before .before .before .before .before .before .before .before .loop in
+    .before .before .before .before .before .before .loop in
     let merge-step = c .before .before .before .before .before .before .before .before .before .before .before .before .before .before .before .before
-    .before .before .before .before .before .before .before .before .merge-step in
+    .before .before .before .before .before .before .merge-step in
     let change = c .before .before .before .before .before .before .before .before .before .before .before .before .before .before .before .before
-    .before .before .before .before .before .before .c in
+    .before .before .before .before .c in
     omega (
       arith,
       (merging.differs-leads (args .k .h) (args .bundle .now) (loop .l) (loop .r) (loop .inv .left-in) (loop .inv .right-in) (merge-step .result)
@@ -261,17 +256,16 @@ compare-entries-loop-less-2 t c =
 compare-entries-loop-again-2 : (t : ℕ) → compare-entries-lts.Need-loop-again-2 (compare-entries-claims t) (compare-entries-at t) compare-entries.Post compare-entries-Inv-loop compare-entries-μ-loop
 compare-entries-loop-again-2 t c =
     let pre = c .before .before .before .before .before .before .before .before .before .before .before .before .before .before .before .before .before
-    .before .before .before .before .before .before .before .before .before .before .before .before .before .pre in
+    .before .before .before .before .before .before .before .before .before .before .before .pre in
     let loop = c .before .before .before .before .before .before .before .before .before .before .before .before .before .before .before .before .before
-    .before .before .before .before .before .before .before .before .loop in
+    .before .before .before .before .before .before .loop in
     let merge-step = c .before .before .before .before .before .before .before .before .before .before .before .before .before .before .before .before
-    .before .before .before .before .before .before .before .before .merge-step in
+    .before .before .before .before .before .before .merge-step in
     let change = c .before .before .before .before .before .before .before .before .before .before .before .before .before .before .before .before
-    .before .before .before .before .before .before .c in
-    let add = c .before .before .before .before .before .before .before .before .before .before .before .before .before .before .before .before .before
-    .before .add in
-    let if1 = c .before .before .before .before .before .before .before .before .before .before .before .if1 in
-    let compare-inside = c .before .before .before .before .before .before .before .compare-inside in
+    .before .before .before .before .c in
+    let add = c .before .before .before .before .before .before .before .before .before .before .before .before .before .before .before .before .add in
+    let if1 = c .before .before .before .before .before .before .before .before .before .before .if1 in
+    let compare-inside = c .before .before .before .before .before .before .compare-inside in
     let if2 = c .if2 in
     turning.going-on (loop .inv) (merge-step .result) (merge-step .ensures) (change .given .0 .0) (change .given .0 .1 .0) (change .given .0 .1 .1 .0)
     (change .given .1) (pre .1 .1 .0) (add .result) (add .last .1 .0) (add .last .1 .1 .0) (add .ensures .0) (if1 .left) (add .ensures .1) (add .kept .1 .0)
