@@ -5,7 +5,7 @@ use native.Mathlib.Nat.{add-zero}
 use native.Mathlib.Numerals.{add-one}
 use native.Mathlib.Decide.{decLt}
 use mathlib.Core.Path.{_≡_, refl, ap, sym, subst, _∙_}
-use mathlib.Core.Bool.{Bool, true, false}
+use mathlib.Core.Bool.{Bool, true, false, _&&_}
 use mathlib.Core.List.{List, [], _∷_, _++_, append-nil}
 use mathlib.Core.Logic.{_⊎_, inl, inr, ⊎-elim}
 use lib.Dec.{eqb, leb}
@@ -18,7 +18,7 @@ use Rattle.ground.specs.declared.Verdict.{Verdict}
 use Rattle.ground.specs.declared.Answer.{Answer}
 use Rattle.ground.specs.declared.Gate.{Gate}
 use Rattle.ground.specs.declared.Gate.the-variants.{Open, Shut}
-use Rattle.ground.proofs.Laws.{gate-shut, sets-append, sets-front, stored-done}
+use Rattle.ground.proofs.Laws.{gate-shut, sets-append, sets-front, stored-done, stored-refused}
 use Rattle.output.proofs.Laws.{sets-none, sets-past, gated-shut, gated-open}
 use Rattle.entry.specs.Record.{recordsOf}
 use Rattle.entry.specs.Record as entries
@@ -61,23 +61,38 @@ module _ (sought : List ℕ) (i : ℕ) where
 -- ---- one answer
 
 module _ (h : ℕ) (object records names : List ℕ) (q : Sought) where
-  pub one-backward : q .end < q .start → oneAnswer h object records names q ≡ declined (verdict 10 0)
-  unfolding oneAnswer wellSought
-  one-backward p = simp (lt-leb (q .start) (q .end) p)
-
-  pub one-outside : q .start ≤ q .end → length names < q .end → oneAnswer h object records names q ≡ declined (verdict 10 0)
-  unfolding oneAnswer wellSought
-  one-outside p o = simp (le-leb (q .start) (q .end) p, lt-leb (q .end) (length names) o)
-
-  pub one-marked : q .start ≤ q .end → q .end ≤ length names → 1 < q .mark → oneAnswer h object records names q ≡ declined (verdict 10 0)
-  unfolding oneAnswer wellSought
-  one-marked p o m = simp (le-leb (q .start) (q .end) p, le-leb (q .end) (length names) o, lt-leb (q .mark) 1 m)
+  pub one-bad : wellSought (length names) q ≡ false → oneAnswer h object records names q ≡ declined (verdict 10 0)
+  unfolding oneAnswer
+  one-bad e = rw e
 
   -- what the single call gives
-  pub one-single : q .start ≤ q .end → q .end ≤ length names → q .mark ≤ 1
-      → oneAnswer h object records names q ≡ single h object records names q
-  unfolding oneAnswer wellSought
-  one-single p o m = simp (le-leb (q .start) (q .end) p, le-leb (q .end) (length names) o, le-leb (q .mark) 1 m)
+  pub one-single : wellSought (length names) q ≡ true → oneAnswer h object records names q ≡ single h object records names q
+  unfolding oneAnswer
+  one-single e = rw e
+
+module _ (len : ℕ) (q : Sought) where
+  pub well-backward : q .end < q .start → wellSought len q ≡ false
+  unfolding wellSought
+  well-backward p = rw (lt-leb (q .start) (q .end) p)
+
+  pub well-outside : q .start ≤ q .end → len < q .end → wellSought len q ≡ false
+  unfolding wellSought
+  well-outside p o = rw (le-leb (q .start) (q .end) p, lt-leb (q .end) len o)
+
+  pub well-marked : q .start ≤ q .end → q .end ≤ len → wellSought len q ≡ leb (q .mark) 1
+  unfolding wellSought
+  well-marked p o = rw (le-leb (q .start) (q .end) p, le-leb (q .end) len o)
+
+  -- a name that is well formed lies inside
+  pub well-inside : wellSought len q ≡ true → (q .start ≤ q .end) × (q .end ≤ len)
+  unfolding wellSought
+  well-inside = go (leb (q .start) (q .end)) refl (leb (q .end) len) refl
+    where
+      go : (t : Bool) → leb (q .start) (q .end) ≡ t → (u : Bool) → leb (q .end) len ≡ u → (t && (u && leb (q .mark) 1)) ≡ true
+          → (q .start ≤ q .end) × (q .end ≤ len)
+      go true e true f w = (leb-true _ _ e, leb-true _ _ f)
+      go true e false f w = let z : _≡_ {A = ℕ} 0 1 = cc in absurd (omega arith)
+      go false e u f w = let z : _≡_ {A = ℕ} 0 1 = cc in absurd (omega arith)
 
 -- ---- the two passes, from an index on
 
@@ -285,17 +300,14 @@ passed-done v n z = simp (eq-eqb (v .number) 0 z)
 pub passed-bad : (v : Verdict) (n : ℕ) → (v .number ≡ 0 → ⊥) → unlessBad v n ≡ refused v
 passed-bad v n z = simp (ne-eqb (v .number) 0 z)
 
--- what is stored goes by the number alone
-by-number : (v w : Verdict) (l out : List ℕ) → v .number ≡ w .number → stored v l out ≡ stored w l out
-unfolding stored
-by-number v w l out n = ap (λ (k : ℕ). pick (eqb k 0) (l ++ drop (length l) out) out) n
+-- the verdict on the names as an answer, and the list after it
+pub ran-bad : (v w : Verdict) (n : ℕ) (l out : List ℕ) → v ≡ w → (v .number ≡ 0 → ⊥) → (refused v ≡ unlessBad w n) × (out ≡ stored v l out)
+ran-bad v w n l out e z = (sym (passed-bad v n z) ∙ ap (λ (x : Verdict). unlessBad x n) e, sym (stored-refused _ _ _ z))
 
-passed-number : (v : Verdict) (n : ℕ) → v .number ≡ unlessBad v n .verdict .number
-passed-number v n = go (eqb (v .number) 0) refl
-  where
-    go : (t : Bool) → eqb (v .number) 0 ≡ t → v .number ≡ pick t (counted n) (refused v) .verdict .number
-    go true q = eqb-true _ _ q
-    go false q = refl
+pub ran-done : (v w : Verdict) (n : ℕ) (l out after : List ℕ) → v ≡ w → v .number ≡ 0 → after ≡ stored v l out
+    → (counted n ≡ unlessBad w n) × (after ≡ stored fine l out)
+unfolding stored
+ran-done v w n l out after e z s = (sym (passed-done v n z) ∙ ap (λ (x : Verdict). unlessBad x n) e, s ∙ rw (eq-eqb _ _ z))
 
 module _ (h : ℕ) (object records names sought : List ℕ) (numbers bytes count : ℕ) (b : bytes ≡ max (length object) (length names))
     (c : count ≡ entries.many (length records)) where
@@ -313,9 +325,9 @@ module _ (h : ℕ) (object records names sought : List ℕ) (numbers bytes count
   many-open g = gated-open _ _ (gate-is ∙ g)
 
   -- the call's answer and the list after it, from the verdict on the names
-  pub many-ran : firstGate h bytes count (many (length sought)) (many numbers) ≡ Open → (v : Verdict) → v ≡ firstBad (oneAnswer h object records names) 0 (soughtOf sought)
-      → (l out after : List ℕ) → after ≡ stored v l out → (r : Answer) → r ≡ unlessBad v (many (length sought))
+  pub many-ran : firstGate h bytes count (many (length sought)) (many numbers) ≡ Open → (r : Answer)
+      → r ≡ unlessBad (firstBad (oneAnswer h object records names) 0 (soughtOf sought)) (many (length sought)) → (l out after : List ℕ) → after ≡ stored (r .verdict) l out
       → (r ≡ manyAnswer h object records names sought numbers) × (after ≡ stored (manyAnswer h object records names sought numbers .verdict) l out)
-  many-ran g v e l out after s r p =
-      let same : r ≡ manyAnswer h object records names sought numbers = p ∙ ap (λ (x : Verdict). unlessBad x (many (length sought))) e ∙ sym (many-open g) in
-      (same, s ∙ by-number v (r .verdict) l out (passed-number v (many (length sought)) ∙ ap (λ (x : Answer). x .verdict .number) (sym p)) ∙ ap (λ (x : Answer). stored (x .verdict) l out) same)
+  many-ran g r p l out after s =
+      let same : r ≡ manyAnswer h object records names sought numbers = p ∙ sym (many-open g) in
+      (same, s ∙ ap (λ (x : Answer). stored (x .verdict) l out) same)

@@ -6,7 +6,7 @@ ghost use Prim.Native.Nat.{ℕ, _+_, _*_, _<_, _≤_};
 ghost use lib.ListN.{length, getD, take, drop};
 ghost use lib.Seq.{sets};
 ghost use Rattle.ground.specs.Verdict.{stored};
-ghost use Rattle.lookups.specs.Many.{width, many, noSought, soughtOf, oneAnswer, firstBad, kept, allKept, firstGate, unlessBad, manyAnswer, answersAfter};
+ghost use Rattle.lookups.specs.Many.{width, many, noSought, soughtOf, wellSought, oneAnswer, firstBad, kept, allKept, firstGate, unlessBad, manyAnswer, answersAfter};
 use entry_record::WIDTH;
 use ground::Answer;
 use ground::BAD_RECORD;
@@ -55,23 +55,29 @@ fn sought_at(sought: &[usize], i: usize) -> Sought
     Sought { start, end, mark }
 }
 
+// Whether a sought name does not end before it starts, lies inside, and has 0 or 1 for a mark.
+fn well_sought(q: Sought, len: usize) -> bool
+    ensures { λ r. ⌜ r ≡ wellSought len q ⌝ }
+{
+    if q.end < q.start {
+        return false;
+    }
+    if len < q.end {
+        return false;
+    }
+    q.mark <= 1
+}
+
 // One name looked up.
 fn look(object: &[u8], h: usize, records: &[usize], names: &[u8], q: Sought) -> Looked
     ensures { λ r. ⌜ r ≡ oneAnswer h (now (object .entry)) (now (records .entry)) (now (names .entry)) q ⌝ }
 {
-    let start = q.start;
-    let end = q.end;
-    let mark = q.mark;
-    if end < start {
-        return BAD;
+    if well_sought(q, names.len()) {
+        let start = q.start;
+        let end = q.end;
+        return bisect_entry(object, h, records, &names[start..end], q.mark == 1);
     }
-    if names.len() < end {
-        return BAD;
-    }
-    if 1 < mark {
-        return BAD;
-    }
-    bisect_entry(object, h, records, &names[start..end], mark == 1)
+    BAD
 }
 
 // Stores answer i, where there is room for it; no answer has room in part.
@@ -135,7 +141,7 @@ fn copy(answers: &mut [usize], own: &[usize], count: usize)
     }
 }
 
-// Every name looked up, and where none is refused every answer stored, for which there is room.
+// Every name looked up, and where none is refused every answer stored, for which there is room, and their number answered.
 fn look_all(
     object: &[u8],
     h: usize,
@@ -143,21 +149,27 @@ fn look_all(
     names: &[u8],
     sought: &[usize],
     answers: &mut [usize],
-) -> Verdict
+) -> Answer
     requires { ⌜ many (length (now sought)) ≤ many (length (now answers)) ⌝ }
-    ensures { λ r. ⌜ r ≡ firstBad (oneAnswer h (now (object .entry)) (now (records .entry)) (now (names .entry))) 0 (soughtOf (now (sought .entry))) ⌝ }
-    ensures { λ r. ⌜ now (answers .exit) ≡ stored r (allKept (oneAnswer h (now (object .entry)) (now (records .entry)) (now (names .entry))) (soughtOf (now (sought .entry)))) (now (answers .entry)) ⌝ }
+    ensures { λ r. ⌜ r ≡ unlessBad (firstBad (oneAnswer h (now (object .entry)) (now (records .entry)) (now (names .entry))) 0 (soughtOf (now (sought .entry)))) (many (length (now (sought .entry)))) ⌝ }
+    ensures { λ r. ⌜ now (answers .exit) ≡ stored (r .verdict) (allKept (oneAnswer h (now (object .entry)) (now (records .entry)) (now (names .entry))) (soughtOf (now (sought .entry)))) (now (answers .entry)) ⌝ }
 {
     let n = sought.len() / EACH;
     let mut own = [0usize; 192];
     let v = each(object, h, records, names, sought, 0, &mut own);
     if v.number != DONE {
-        return v;
+        return Answer {
+            verdict: v,
+            count: 0,
+        };
     }
     let numbers = n * EACH;
     copy(answers, &own, numbers);
     each(object, h, records, names, sought, FIRST, answers);
-    v
+    Answer {
+        verdict: FINE,
+        count: n,
+    }
 }
 
 // Refusals 1, 2 and 4, by the lengths of what is lent: the longest bytes, the records, the names and the answers.
@@ -179,22 +191,6 @@ fn begins(h: usize, bytes: usize, records: usize, n: usize, room: usize) -> Gate
     }
 }
 
-// The number of names, unless one is refused.
-fn passed(v: Verdict, n: usize) -> Answer
-    ensures { λ r. ⌜ r ≡ unlessBad v n ⌝ }
-{
-    if v.number == DONE {
-        return Answer {
-            verdict: FINE,
-            count: n,
-        };
-    }
-    Answer {
-        verdict: v,
-        count: 0,
-    }
-}
-
 // Looks up every name in one listing, and counts them.
 pub fn bisect_entries(
     object: &[u8],
@@ -207,17 +203,18 @@ pub fn bisect_entries(
     ensures { λ r. ⌜ r ≡ manyAnswer h (now (object .entry)) (now (records .entry)) (now (names .entry)) (now (sought .entry)) (length (now (answers .entry))) ⌝ }
     ensures { λ _. ⌜ now (answers .exit) ≡ answersAfter h (now (object .entry)) (now (records .entry)) (now (names .entry)) (now (sought .entry)) (now (answers .entry)) ⌝ }
 {
-    let n = sought.len() / EACH;
     let bytes = longer(object.len(), names.len());
-    match begins(h, bytes, records.len() / WIDTH, n, answers.len() / EACH) {
-        Gate::Shut(v) => {
-            return Answer {
-                verdict: v,
-                count: 0,
-            };
-        }
-        Gate::Open => {}
+    match begins(
+        h,
+        bytes,
+        records.len() / WIDTH,
+        sought.len() / EACH,
+        answers.len() / EACH,
+    ) {
+        Gate::Shut(v) => Answer {
+            verdict: v,
+            count: 0,
+        },
+        Gate::Open => look_all(object, h, records, names, sought, answers),
     }
-    let v = look_all(object, h, records, names, sought, answers);
-    passed(v, n)
 }

@@ -15,42 +15,28 @@ begins-requires c κs = search needs
 enum-known-v : tie.Need-enum-known-v
 enum-known-v c = search needs
 
-returns : tie.Need-returns
-returns c =
-    let begun = c .before .before .before in
-    let g = sym (begun .begins .ensures) ∙ c .before .v .given .1 in
-    refused-both _ _ _ (many-shut _ _ _ _ _ _ _ _ (begun .before .longer .ensures) refl _ g) (first-number _ _ _ _ _ _ g)
-
 enum-told : tie.Need-enum-told
 enum-told c = search needs
 
 look-all-requires : tie.Need-look-all-requires
 look-all-requires c κs = first-room _ _ _ _ _ (sym (c .before .before .before .begins .ensures) ∙ c .before .enum-told .given .1) .1
 
-passed-requires : tie.Need-passed-requires
-passed-requires c κs = search needs
+returns : tie.Need-returns
+returns c =
+    let begun = c .before .before .before in
+    let g = sym (begun .begins .ensures) ∙ c .before .v .given .1 in
+    refused-both _ _ _ (many-shut _ _ _ _ _ _ _ _ (begun .before .longer .ensures) refl _ g) (first-number _ _ _ _ _ _ g)
 
 same-length : tie.Need-same-length
 same-length c = search needs
 
 returns-2 : tie.Need-returns-2
 returns-2 c =
-    let ran = c .before .before .before in
-    let begun = ran .before .before .before .before in
-    let g = sym (begun .begins .ensures) ∙ ran .before .before .enum-told .given .1 in
-    let ends = ran .look-all .ensures in
-    many-ran _ _ _ _ _ _ _ _ (begun .before .longer .ensures) refl g _ (ends .0) _ _ _ (ends .1) _ (c .passed .ensures)
+    let begun = c .before .before .before .before .before .before in
+    let g = sym (begun .begins .ensures) ∙ c .before .before .before .before .enum-told .given .1 in
+    let ends = c .before .before .look-all .ensures in
+    many-ran _ _ _ _ _ _ _ _ (begun .before .longer .ensures) refl g _ (ends .0) _ _ _ (ends .1)
 
 pub bisect-entries-spec : {M : Type 1} → statement M
 bisect-entries-spec =
-    tie.close
-    (tie.spec
-    longer-requires
-    begins-requires
-    enum-known-v
-    returns
-    enum-told
-    look-all-requires
-    passed-requires
-    same-length
-    returns-2)
+    tie.close (tie.spec longer-requires begins-requires enum-known-v enum-told look-all-requires returns same-length returns-2)

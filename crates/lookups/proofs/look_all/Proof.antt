@@ -2,11 +2,10 @@
 use borrow.Author.Needs.{needs}
 use Rattle.lookups.proofs.look_all.Statement.{statement}
 use Rattle.lookups.proofs.look_all.Tie as tie
-use mathlib.Core.Path.{refl, sym}
+use mathlib.Core.Path.{refl}
 use native.Mathlib.Omega.{arith}
-use Rattle.ground.proofs.Laws.{stored-refused}
 use Rattle.lookups.specs.Many.{oneAnswer}
-use Rattle.lookups.proofs.Laws.{both-passes}
+use Rattle.lookups.proofs.Laws.{both-passes, ran-bad, ran-done}
 
 slice-aggregate-each : tie.Need-slice-aggregate-each
 slice-aggregate-each c = search needs
@@ -15,7 +14,7 @@ each-requires : tie.Need-each-requires
 each-requires c κs = search needs
 
 returns : tie.Need-returns
-returns c = (c .before .before .before .each .ensures .0, sym (stored-refused _ _ _ (c .if1 .taken)))
+returns c = ran-bad _ _ _ _ _ (c .before .before .before .each .ensures .0) (c .if1 .taken)
 
 mul-numbers : tie.Need-mul-numbers
 mul-numbers c = search needs
@@ -44,11 +43,10 @@ returns-2 c =
     let copied = copy .ensures in
     let last = each2 .ensures in
     let z = if1 .left in
-    let f = oneAnswer (args .h) (args .object .now) (args .records .now) (args .names .now) in (
-      first .0,
-      both-passes f (args .sought .now) _ (args .answers .now) _ _ _ 64 _ _ _ refl refl (omega (arith, start .pre)) z (first .0) (first .1) copied (last .0)
-          (last .1),
-    )
+    let f = oneAnswer (args .h) (args .object .now) (args .records .now) (args .names .now) in
+    ran-done _ _ _ _ (args .answers .now) _ (first .0) z
+    (both-passes f (args .sought .now) _ (args .answers .now) _ _ _ 64 _ _ _ refl refl (omega (arith, start .pre)) z (first .0) (first .1) copied (last .0)
+    (last .1))
 
 pub look-all-spec : {M : Type 1} → statement M
 look-all-spec =
