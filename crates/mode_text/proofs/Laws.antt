@@ -87,8 +87,12 @@ module _ (i : List ℕ) where
       pub read-other : octalFrom 0 (take k i) ≡ Other → readText i ≡ Bad
       read-other o = read-text ∙ ap (textOf _ _) o
 
-      pub read-number : (v : ℕ) → octalFrom 0 (take k i) ≡ Number v → readText i ≡ Bits (settle v (getD i 0 0)) (restAt k (length i))
+      read-number : (v : ℕ) → octalFrom 0 (take k i) ≡ Number v → readText i ≡ Bits (settle v (getD i 0 0)) (restAt k (length i))
       read-number v o = read-text ∙ ap (textOf _ _) o
+
+      pub read-bits : (v : ℕ) → octalFrom 0 (take k i) ≡ Number v → (m rest : ℕ) → m ≡ settle v (getD i 0 0) → rest ≡ restAt k (length i)
+          → Bits m rest ≡ readText i
+      read-bits v o m rest e f = ap (λ (x : ℕ). Bits x rest) e ∙ ap (Bits (settle v (getD i 0 0))) f ∙ sym (read-number v o)
 
 -- ---- where the rest begins
 

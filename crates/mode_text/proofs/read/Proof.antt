@@ -5,7 +5,7 @@ use Rattle.mode_text.proofs.read.Tie as tie
 use mathlib.Core.Path.{sym, _∙_}
 use native.Mathlib.Omega.{arith}
 use lib.ListN.{length-take}
-use Rattle.mode_text.proofs.Laws.{read-none, read-long, read-other, read-number, text-le}
+use Rattle.mode_text.proofs.Laws.{read-none, read-long, read-other, read-bits, text-le}
 
 returns : tie.Need-returns
 returns c = sym (read-none _ (c .if1 .taken))
@@ -43,11 +43,10 @@ enum-told c = search needs
 returns-3 : tie.Need-returns-3
 returns-3 c =
     let v = c .before .before .v in
-    let settled = c .settled in
     let q = c .before .before .before .before in
     let p = q .before .before .before .before in
-    let number = read-number _ (p .before .before .if1 .left) _ (p .before .text-len .ensures) (omega arith) _ (sym (q .octal-of .ensures) ∙ v .given .1) in
-    cc (number, settled .ensures, q .before .before .rest-at .ensures)
+    read-bits _ (p .before .before .if1 .left) _ (p .before .text-len .ensures) (omega arith) _ (sym (q .octal-of .ensures) ∙ v .given .1) _ _
+    (c .settled .ensures) (q .before .before .rest-at .ensures)
 
 returns-4 : tie.Need-returns-4
 returns-4 c =
