@@ -25,6 +25,10 @@ below-is Above e = absurd (false≢true e)
 
 -- ---- two numbers
 
+-- the numbers compared are those that were meant
+pub by-both : (x y u v : ℕ) (o : Order) → o ≡ byNumber x y → x ≡ u → y ≡ v → o ≡ byNumber u v
+by-both x y u v o e f g = e ∙ ap (λ (z : ℕ). byNumber z y) f ∙ ap (byNumber u) g
+
 pub by-lt : {x y : ℕ} → x < y → byNumber x y ≡ Below
 unfolding byNumber
 by-lt {x} {y} h = simp (lt-ltb x y h)
