@@ -95,26 +95,26 @@ module _ (k : Header) (s id : List ℕ) where
     unfolding openPlaced
     open-absent u = ap (openPlaced k s) (sym u) ∙ placed-is
 
-    module _ (f : Frame) (u : p ≡ At f) where
-      at-is : openPlaced k s (At f) ≡ openBy k s id p′
-      at-is = ap (openPlaced k s) (sym u) ∙ placed-is
+    pub open-found : (f : Frame) → p ≡ At f → (x : Opened) → x ≡ openPlaced k s (At f) → x ≡ openBy k s id p′
+    open-found f u x v = v ∙ ap (openPlaced k s) (sym u) ∙ placed-is
 
-      pub open-other : (f .kind ≡ 2 → ⊥) → Shut (verdict 28 0) ≡ openBy k s id p′
-      unfolding openPlaced
-      open-other z = sym (rw (ne-eqb _ _ z)) ∙ at-is
+module _ (k : Header) (s : List ℕ) (f : Frame) where
+  pub object-other : (f .kind ≡ 2 → ⊥) → Shut (verdict 28 0) ≡ openPlaced k s (At f)
+  unfolding openPlaced
+  object-other z = rw (ne-eqb _ _ z)
 
-      module _ (z : f .kind ≡ 2) (c : Counted) (t : c ≡ strictCount (k .rules) (k .h) (part (f .start) (f .end) s)) where
-        counted-is : openCounted (f .start) (f .end) c ≡ openBy k s id p′
-        unfolding openPlaced
-        counted-is = sym (rw (eq-eqb _ _ z, ← t)) ∙ at-is
+  module _ (z : f .kind ≡ 2) (c : Counted) (t : c ≡ strictCount (k .rules) (k .h) (part (f .start) (f .end) s)) where
+    counted-is : openCounted (f .start) (f .end) c ≡ openPlaced k s (At f)
+    unfolding openPlaced
+    counted-is = rw (eq-eqb _ _ z, t)
 
-        pub open-stopped : (v : Verdict) → c ≡ Stopped v → Shut v ≡ openBy k s id p′
-        unfolding openCounted
-        open-stopped v w = ap (openCounted (f .start) (f .end)) (sym w) ∙ counted-is
+    pub object-stopped : (v : Verdict) → c ≡ Stopped v → Shut v ≡ openPlaced k s (At f)
+    unfolding openCounted
+    object-stopped v w = ap (openCounted (f .start) (f .end)) (sym w) ∙ counted-is
 
-        pub open-total : (n : ℕ) → c ≡ Total n → Entries (record { start = f .start; end = f .end; at = 0; left = n }) ≡ openBy k s id p′
-        unfolding openCounted
-        open-total n w = ap (openCounted (f .start) (f .end)) (sym w) ∙ counted-is
+    pub object-total : (n : ℕ) → c ≡ Total n → Entries (record { start = f .start; end = f .end; at = 0; left = n }) ≡ openPlaced k s (At f)
+    unfolding openCounted
+    object-total n w = ap (openCounted (f .start) (f .end)) (sym w) ∙ counted-is
 
 -- with any index of the bundle the same tree is opened
 pub open-indexed : (k : Header) (s id index : List ℕ) → IsIndex s k index → openIn k s id index ≡ openAt k s id

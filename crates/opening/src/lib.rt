@@ -1,6 +1,10 @@
 // A tree of a bundle by its id, and two of them, read strictly (docs/FORMAT.md, "Differences").
 ghost use mathlib.Core.Path.{_≡_};
-ghost use Rattle.opening.specs.Opening.{openIn, openLevel, openBoth};
+ghost use Prim.Native.Nat.{_≤_};
+ghost use lib.ListN.{length};
+ghost use Rattle.frame.specs.declared.Placed.the-variants.{At};
+ghost use Rattle.opening.specs.Opening.{openPlaced, openIn, openLevel, openBoth};
+use frame::Frame;
 use frame::Header;
 use frame::Placed;
 use frame::TREE;
@@ -25,7 +29,31 @@ pub enum Pair {
     Both(Rest, Rest),
 }
 
-// The entries of the tree of an id, read strictly whole by the bundle's rule set: 28 where there is none. An empty id stands for nothing.
+// The entries of an object, read strictly whole by the bundle's rule set: 28 where it is no tree.
+fn open_object(bundle: &[u8], k: Header, f: Frame) -> Opened
+    requires { ⌜ (f .start ≤ f .end) × (f .end ≤ length (now bundle)) ⌝ }
+    ensures { λ r. ⌜ r ≡ openPlaced k (now (bundle .entry)) (At f) ⌝ }
+{
+    if f.kind != TREE {
+        return Opened::Shut(Verdict {
+            number: NO_TREE,
+            ..FINE
+        });
+    }
+    let start = f.start;
+    let end = f.end;
+    match strict_count(&bundle[start..end], k.h, k.rules) {
+        Counted::Stopped(v) => Opened::Shut(v),
+        Counted::Total(n) => Opened::Entries(Rest {
+            start,
+            end,
+            at: 0,
+            left: n,
+        }),
+    }
+}
+
+// The entries of the tree of an id: 28 where there is none. An empty id stands for nothing.
 pub fn open_tree(bundle: &[u8], k: Header, id: &[u8], index: &[u32]) -> Opened
     ensures { λ r. ⌜ r ≡ openIn k (now (bundle .entry)) (now (id .entry)) (now (index .entry)) ⌝ }
 {
@@ -42,25 +70,7 @@ pub fn open_tree(bundle: &[u8], k: Header, id: &[u8], index: &[u32]) -> Opened
             number: NO_TREE,
             ..FINE
         }),
-        Placed::At(f) => {
-            if f.kind != TREE {
-                return Opened::Shut(Verdict {
-                    number: NO_TREE,
-                    ..FINE
-                });
-            }
-            let start = f.start;
-            let end = f.end;
-            match strict_count(&bundle[start..end], k.h, k.rules) {
-                Counted::Stopped(v) => Opened::Shut(v),
-                Counted::Total(n) => Opened::Entries(Rest {
-                    start,
-                    end,
-                    at: 0,
-                    left: n,
-                }),
-            }
-        }
+        Placed::At(f) => open_object(bundle, k, f),
     }
 }
 
