@@ -1,14 +1,15 @@
 -- The ways through the leaves that take bytes which need no step of their own. Assumes nothing.
 use Prim.Native.Nat.{ℕ, _+_, _-_, _≤_, _<_, min}
+use native.Mathlib.Decide.{decLt}
 use native.Mathlib.Omega.{arith}
 use mathlib.Core.Path.{_≡_, refl, ap, sym, subst, _∙_}
-use mathlib.Core.Bool.{true, false, _&&_}
+use mathlib.Core.Bool.{Bool, true, false, _&&_}
 use mathlib.Core.List.{List}
 use lib.Dec.{eqb, leb}
-use lib.ListN.{length, drop, length-take, length-drop}
+use lib.ListN.{length, take, drop, length-take, length-drop}
 use lib.Seq.{sets}
 use borrow.Author.Tests.{eq-eqb, ne-eqb, le-leb, lt-leb}
-use Rattle.ground.specs.Basics.{part}
+use Rattle.ground.specs.Basics.{pick, part}
 use Rattle.ground.specs.Verdict.{mostBytes, mostRecords}
 use Rattle.arriving.specs.Feed.{placedAt}
 use Rattle.arriving.specs.declared.Line.{Line}
@@ -19,61 +20,74 @@ use Rattle.arriving.specs.declared.Marks.{Marks}
 use Rattle.arriving.specs.declared.Taken.{Taken}
 use Rattle.piece_name.specs.Names.{nameMore, nameSome}
 use Rattle.piece_name.proofs.Names.{line-size}
-use Rattle.piece_some.specs.Bytes.{upTo, headSome, headIn, namePart, idSome, someIn, heldIn, mostOf, someOf, someHeld}
+use Rattle.piece_some.specs.Bytes.{upTo, takenAt, headSome, headMost, namePart, idSome, someIn, heldIn, mostOf, bytesOf, someOf, someHeld}
+use Rattle.piece_some.specs.declared.Got.{Got}
 
--- a line has no more bytes more than there were
-pub line-within : (held : List ℕ) (last : Last) (l : Line) (s : List ℕ) (i most : ℕ) → i + most ≤ length s → (r : Line)
-    → r ≡ nameSome held last l (part i (i + most) s) → (l .size ≤ r .size) × (r .size - l .size ≤ most)
-line-within held last l s i most w r e =
-    let z = line-size held last l (part i (i + most) s) in
-    let y : r .size ≡ nameSome held last l (part i (i + most) s) .size = ap (λ (x : Line). x .size) e in (
-      omega (arith, z, y),
-      omega (arith, z, y, length-take (i + most - i) (drop i s), length-drop i s),
-    )
-
--- with the line that is answered
-pub part-is : (m : Marks) (l : Line) (i : ℕ) (r x : Line) → r ≡ x → (y : Marks) → y ≡ placedAt m (m .at + (r .size - l .size)) (m .head) (Name r)
-    → (after kept : List ℕ) → after ≡ kept → (record { marks = y; next = i + (r .size - l .size) } ≡ namePart m l i x) × (after ≡ kept)
-part-is m l i r x e y q after kept h = (ap (λ (z : Marks). record { marks = z; next = i + (r .size - l .size) }) q ∙ ap (namePart m l i) e, h)
-
--- of an entry's first bytes
-pub head-is : (m : Marks) (k : ℕ) (s : List ℕ) (i n : ℕ) (head : List ℕ) → head ≡ sets (m .head) k (part i (i + n) s) → (y : Marks)
-    → y ≡ placedAt m (m .at + n) head (Head (k + n)) → record { marks = y; next = i + n } ≡ headSome m k s i n
-head-is m k s i n head h y q =
-    ap (λ (x : Marks). record { marks = x; next = i + n }) (q ∙ ap (λ (x : List ℕ). placedAt m (m .at + n) x (Head (k + n))) h)
-
-module _ (m : Marks) (k : ℕ) (s : List ℕ) (i most : ℕ) where
-  pub head-full : (eqb k 0 && leb mostRecords (m .count)) ≡ true → upTo m i ≡ headIn m k s i most
+-- how many of an entry's first bytes
+module _ (k count most : ℕ) where
+  pub head-full : (eqb k 0 && leb mostRecords count) ≡ true → 0 ≡ headMost k count most
   head-full f = rw f
 
-  module _ (f : (eqb k 0 && leb mostRecords (m .count)) ≡ false) where
-    pub head-eighth : 7 ≤ k → upTo m i ≡ headIn m k s i most
-    head-eighth w = rw (f, le-leb 7 k w)
+  pub head-more : (eqb k 0 && leb mostRecords count) ≡ false → (n : ℕ) → n ≡ min (7 - k) most → n ≡ headMost k count most
+  head-more f n e = rw f e
 
-    pub head-taken : k < 7 → (n : ℕ) → n ≡ min (7 - k) most → (t : Taken) → t ≡ headSome m k s i n → t ≡ headIn m k s i most
-    head-taken w n q t z = rw (f, lt-leb 7 k w) (z ∙ ap (headSome m k s i) q)
+  pub head-within : (n : ℕ) → n ≡ headMost k count most → (n ≤ most) × (n ≤ 7 - k)
+  head-within n e = go (eqb k 0 && leb mostRecords count) e
+    where
+      go : (v : Bool) → n ≡ pick v 0 (min (7 - k) most) → (n ≤ most) × (n ≤ 7 - k)
+      go true z = (omega (arith, z), omega (arith, z))
+      go false z = (omega (arith, z), omega (arith, z))
 
--- of an id
-pub id-taken : (m : Marks) (l : Line) (left i most j n : ℕ) → j ≡ left - 1 → n ≡ min j most → (y : Marks)
-    → y ≡ placedAt m (m .at + n) (m .head) (Id l (left - n)) → record { marks = y; next = i + n } ≡ idSome m l left i (min (left - 1) most)
-id-taken m l left i most j n u q y z =
-    ap (λ (x : Marks). record { marks = x; next = i + n }) z ∙ ap (idSome m l left i) (q ∙ ap (λ (x : ℕ). min x most) u)
+pub taken-long : (n : ℕ) (bs : List ℕ) → n ≤ length bs → n ≡ length (take n bs)
+taken-long n bs w = omega (arith, length-take n bs)
+
+pub head-is : (head : List ℕ) (k : ℕ) (bs : List ℕ) (n most : ℕ) → n ≡ most → (after : List ℕ) → after ≡ sets head k (take n bs)
+    → record { count = n; head = after; phase = Head (k + n) } ≡ headSome head k bs most
+head-is head k bs n most e after h =
+    ap (λ (x : List ℕ). record { count = n; head = x; phase = Head (k + n) }) h ∙ ap (headSome head k bs) e
+
+-- a line has no more bytes more than there were
+pub line-within : (held : List ℕ) (last : Last) (l : Line) (bs : List ℕ) (r : Line) → r ≡ nameSome held last l bs
+    → (l .size ≤ r .size) × (r .size - l .size ≤ length bs)
+line-within held last l bs r e =
+    let z = line-size held last l bs in
+    let y : r .size ≡ nameSome held last l bs .size = ap (λ (x : Line). x .size) e in (omega (arith, z, y), omega (arith, z, y))
 
 -- what is taken, and what is held afterwards
-module _ (held : List ℕ) (m : Marks) (s : List ℕ) (i most : ℕ) where
-  abbrev Ins : Phase → Taken → List ℕ → Type 0
-  Ins p t after = (t ≡ someIn held m s i most p) × (after ≡ heldIn held s i most p)
+module _ (held : List ℕ) (m : Marks) (bs : List ℕ) where
+  abbrev Ins : Phase → Got → List ℕ → Type 0
+  Ins p g after = (g ≡ someIn held m bs p) × (after ≡ heldIn held bs p)
 
-  pub in-head : (k : ℕ) → m .phase ≡ Head k → (t : Taken) → t ≡ headIn m k s i most → Ins (m .phase) t held
-  in-head k e t z = subst (λ (p : Phase). Ins p t held) (sym e) (z, refl)
+  pub in-head : (k : ℕ) → m .phase ≡ Head k → (g : Got) → g ≡ headSome (m .head) k bs (headMost k (m .count) (length bs)) → Ins (m .phase) g held
+  in-head k e g z = subst (λ (p : Phase). Ins p g held) (sym e) (z, refl)
 
-  pub in-name : (l : Line) → m .phase ≡ Name l → (t : Taken) (after : List ℕ)
-      → (t ≡ namePart m l i (nameSome held (m .last) l (part i (i + most) s))) × (after ≡ sets held (l .size) (nameMore l (part i (i + most) s)))
-      → Ins (m .phase) t after
-  in-name l e t after z = rw e z
+  pub in-name : (l : Line) → m .phase ≡ Name l → (r : Line) (after : List ℕ)
+      → (r ≡ nameSome held (m .last) l bs) × (after ≡ sets held (l .size) (nameMore l bs))
+      → Ins (m .phase) (record { count = r .size - l .size; head = m .head; phase = Name r }) after
+  in-name l e r after z = rw e (ap (namePart (m .head) l) (z .0), z .1)
 
-  pub in-id : (l : Line) (left : ℕ) → m .phase ≡ Id l left → (t : Taken) → t ≡ idSome m l left i (min (left - 1) most) → Ins (m .phase) t held
-  in-id l left e t z = subst (λ (p : Phase). Ins p t held) (sym e) (z, refl)
+  pub in-id : (l : Line) (left : ℕ) → m .phase ≡ Id l left → (n : ℕ) → n ≡ min (left - 1) (length bs)
+      → Ins (m .phase) (record { count = n; head = m .head; phase = Id l (left - n) }) held
+  in-id l left e n z = rw e (ap (idSome (m .head) l left) z, refl)
+
+  -- no more than there are
+  count-within : (g : Got) → g ≡ someIn held m bs (m .phase) → g .count ≤ length bs
+  count-within g e = go (m .phase) (ap (λ (x : Got). x .count) e)
+    where
+      go : (p : Phase) → g .count ≡ someIn held m bs p .count → g .count ≤ length bs
+      go (Head k) z = head-within k (m .count) (length bs) (g .count) z .0
+      go (Name l) z = omega (arith, z, line-within held (m .last) l bs _ refl .1)
+      go (Id l left) z = omega (arith, z)
+
+pub count-most : (held : List ℕ) (m : Marks) (s : List ℕ) (i most : ℕ) → i + most ≤ length s → (g : Got)
+    → g ≡ someIn held m (part i (i + most) s) (m .phase) → g .count ≤ most
+count-most held m s i most w g e =
+    omega (arith, count-within held m (part i (i + most) s) g e, length-take (i + most - i) (drop i s), length-drop i s)
+
+-- with what is answered
+pub at-is : (m : Marks) (i : ℕ) (g x : Got) → g ≡ x → (y : Marks) → y ≡ placedAt m (m .at + g .count) (g .head) (g .phase)
+    → (after kept : List ℕ) → after ≡ kept → (record { marks = y; next = i + g .count } ≡ takenAt m i x) × (after ≡ kept)
+at-is m i g x e y q after kept h = (ap (λ (z : Marks). record { marks = z; next = i + g .count }) q ∙ ap (takenAt m i) e, h)
 
 module _ (held : List ℕ) (m : Marks) (s : List ℕ) (i : ℕ) where
   abbrev Some : Taken → List ℕ → Type 0
@@ -84,24 +98,34 @@ module _ (held : List ℕ) (m : Marks) (s : List ℕ) (i : ℕ) where
   some-rest n = (rw (ne-eqb (m .verdict .number) 0 n), rw (ne-eqb (m .verdict .number) 0 n))
 
   module _ (z : m .verdict .number ≡ 0) where
-    pub some-over : mostBytes ≤ m .at → Some (upTo m i) held
+    some-over : mostBytes ≤ m .at → Some (upTo m i) held
     unfolding someOf someHeld
     some-over w = (rw (eq-eqb (m .verdict .number) 0 z, le-leb mostBytes (m .at) w), rw (eq-eqb (m .verdict .number) 0 z, le-leb mostBytes (m .at) w))
 
-    module _ (a : m .at < mostBytes) where
-      pub some-end : length s ≤ i → Some (upTo m i) held
-      unfolding someOf someHeld
-      some-end w = (
-        rw (eq-eqb (m .verdict .number) 0 z, lt-leb mostBytes (m .at) a, le-leb (length s) i w),
-        rw (eq-eqb (m .verdict .number) 0 z, lt-leb mostBytes (m .at) a, le-leb (length s) i w),
-      )
+    some-end : m .at < mostBytes → length s ≤ i → Some (upTo m i) held
+    unfolding someOf someHeld
+    some-end a w = (
+      rw (eq-eqb (m .verdict .number) 0 z, lt-leb mostBytes (m .at) a, le-leb (length s) i w),
+      rw (eq-eqb (m .verdict .number) 0 z, lt-leb mostBytes (m .at) a, le-leb (length s) i w),
+    )
 
-      pub some-in : i < length s → (most : ℕ) → most ≡ mostOf m s i → (t : Taken) (after : List ℕ)
-          → (t ≡ someIn held m s i most (m .phase)) × (after ≡ heldIn held s i most (m .phase)) → Some t after
+    module _ (room most : ℕ) (r : room ≡ min (mostBytes - m .at) mostBytes) (q : most ≡ min (length s - i) room) where
+      pub some-none : most ≡ 0 → Some (upTo m i) held
+      some-none e =
+          elim (decLt (m .at) mostBytes) [
+            | yes a ↦ some-end a (omega arith)
+            | no a ↦ some-over (omega arith)
+          ]
+
+      pub some-some : (most ≡ 0 → ⊥) → (t : Taken) (after : List ℕ)
+          → (t ≡ takenAt m i (someIn held m (part i (i + most) s) (m .phase))) × (after ≡ heldIn held (part i (i + most) s) (m .phase)) → Some t after
       unfolding someOf someHeld
-      some-in w most q t after d = (
-        rw (eq-eqb (m .verdict .number) 0 z, lt-leb mostBytes (m .at) a, lt-leb (length s) i w)
-            (d .0 ∙ ap (λ (n : ℕ). someIn held m s i n (m .phase)) q),
-        rw (eq-eqb (m .verdict .number) 0 z, lt-leb mostBytes (m .at) a, lt-leb (length s) i w)
-            (d .1 ∙ ap (λ (n : ℕ). heldIn held s i n (m .phase)) q),
-      )
+      some-some e t after d =
+          let a : m .at < mostBytes = omega arith in
+          let w : i < length s = omega arith in
+          let n : most ≡ mostOf m s i = omega arith in (
+            rw (eq-eqb (m .verdict .number) 0 z, lt-leb mostBytes (m .at) a, lt-leb (length s) i w)
+                (d .0 ∙ ap (λ (k : ℕ). takenAt m i (someIn held m (part i (i + k) s) (m .phase))) n),
+            rw (eq-eqb (m .verdict .number) 0 z, lt-leb mostBytes (m .at) a, lt-leb (length s) i w)
+                (d .1 ∙ ap (λ (k : ℕ). heldIn held (part i (i + k) s) (m .phase)) n),
+          )

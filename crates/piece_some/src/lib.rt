@@ -1,14 +1,11 @@
 // Bytes of a piece that need no step of their own: an entry's first seven, those of its name, those of its id but the last
 // (docs/FORMAT.md, "A check in pieces").
 ghost use mathlib.Core.Path.{_≡_};
-ghost use Prim.Native.Nat.{_+_, _-_, _≤_, _<_, min};
+ghost use Prim.Native.Nat.{_+_, _-_, _≤_, min};
 ghost use lib.ListN.{length};
-ghost use lib.Seq.{sets};
 ghost use Rattle.ground.specs.Basics.{part};
 ghost use Rattle.ground.specs.Verdict.{mostBytes};
-ghost use Rattle.piece_name.specs.Names.{nameMore, nameSome};
-ghost use Rattle.piece_some.specs.Bytes.{headSome, headIn, namePart, idSome, someIn, heldIn, someOf, someHeld};
-use arriving::Line;
+ghost use Rattle.piece_some.specs.Bytes.{takenAt, headSome, headMost, someIn, heldIn, someOf, someHeld};
 use arriving::Marks;
 use arriving::Phase;
 use arriving::Taken;
@@ -18,6 +15,13 @@ use piece_marks::is_full;
 use piece_marks::placed_at;
 use piece_name::name_some;
 
+// What is taken of an entry: so many bytes, after which these are its first bytes and this is its phase.
+struct Got {
+    count: usize,
+    head: [u8; 8],
+    phase: Phase,
+}
+
 // The smaller of two numbers.
 fn shorter(a: usize, b: usize) -> usize
     ensures { λ r. ⌜ r ≡ min a b ⌝ }
@@ -25,82 +29,83 @@ fn shorter(a: usize, b: usize) -> usize
     if a < b { a } else { b }
 }
 
-// One less.
-fn one_less(n: usize) -> usize
-    ensures { λ r. ⌜ r ≡ n - 1 ⌝ }
+// What is left of a number without another, but no more than so many.
+fn least(a: usize, without: usize, most: usize) -> usize
+    ensures { λ r. ⌜ r ≡ min (a - without) most ⌝ }
 {
-    if n == 0 {
+    if a <= without {
         return 0;
     }
-    n - 1
+    shorter(a - without, most)
 }
 
-// So many of an entry's first bytes.
-fn head_some(m: Marks, k: usize, piece: &[u8], i: usize, n: usize) -> Taken
-    requires { ⌜ (i + n ≤ length (now piece)) × (m .at + n ≤ mostBytes) × (k + n ≤ 7) ⌝ }
-    ensures { λ r. ⌜ r ≡ headSome m k (now (piece .entry)) i n ⌝ }
+// How many of an entry's first bytes: not the eighth, and none where the entry is one too many.
+fn head_most(k: usize, count: usize, most: usize) -> usize
+    ensures { λ r. ⌜ r ≡ headMost k count most ⌝ }
 {
-    let mut head = m.head;
-    let next = i + n;
-    put(&mut head, k, &piece[i..next]);
-    let marks = placed_at(m, m.at + n, head, Phase::Head(k + n));
-    Taken { marks, next }
-}
-
-// Of an entry's first bytes so many at most: not the eighth, and none where the entry is one too many.
-fn head_in(m: Marks, k: usize, piece: &[u8], i: usize, most: usize) -> Taken
-    requires { ⌜ (i + most ≤ length (now piece)) × (m .at + most ≤ mostBytes) ⌝ }
-    ensures { λ r. ⌜ r ≡ headIn m k (now (piece .entry)) i most ⌝ }
-{
-    if is_full(k, m.count) {
-        return Taken { marks: m, next: i };
+    if is_full(k, count) {
+        return 0;
     }
-    if 7 <= k {
-        return Taken { marks: m, next: i };
+    least(7, k, most)
+}
+
+// Some of an entry's first bytes.
+fn head_some(mut head: [u8; 8], k: usize, count: usize, bytes: &[u8]) -> Got
+    ensures { λ r. ⌜ r ≡ headSome head k (now (bytes .entry)) (headMost k count (length (now (bytes .entry)))) ⌝ }
+{
+    let n = head_most(k, count, bytes.len());
+    put(&mut head, k, &bytes[..n]);
+    Got {
+        count: n,
+        head,
+        phase: Phase::Head(k + n),
     }
-    let n = shorter(7 - k, most);
-    head_some(m, k, piece, i, n)
 }
 
-// The bytes of a name among so many.
-fn name_part(held: &mut [u8; 4096], m: Marks, l: Line, piece: &[u8], i: usize, most: usize) -> Taken
-    requires { ⌜ (i + most ≤ length (now piece)) × (m .at + most ≤ mostBytes) ⌝ }
-    ensures taken { λ r. ⌜ r ≡ namePart m l i (nameSome (now (held .entry)) (m .last) l (part i (i + most) (now (piece .entry)))) ⌝ }
-    ensures held { λ r. ⌜ now (held .exit) ≡ sets (now (held .entry)) (l .size) (nameMore l (part i (i + most) (now (piece .entry)))) ⌝ }
-{
-    let last = m.last;
-    let end = i + most;
-    let line = name_some(held, last, l, &piece[i..end]);
-    let n = line.size - l.size;
-    let next = i + n;
-    let head = m.head;
-    let marks = placed_at(m, m.at + n, head, Phase::Name(line));
-    Taken { marks, next }
-}
-
-// Of an id so many bytes at most, and not the last.
-fn id_some(m: Marks, l: Line, left: usize, i: usize, most: usize) -> Taken
-    requires { ⌜ (m .at + most ≤ mostBytes) × (i + most < 9223372036854775808) ⌝ }
-    ensures { λ r. ⌜ r ≡ idSome m l left i (min (left - 1) most) ⌝ }
-{
-    let n = shorter(one_less(left), most);
-    let head = m.head;
-    let marks = placed_at(m, m.at + n, head, Phase::Id(l, left - n));
-    let next = i + n;
-    Taken { marks, next }
-}
-
-// Bytes of an entry, so many at most.
-fn some_in(held: &mut [u8; 4096], m: Marks, piece: &[u8], i: usize, most: usize) -> Taken
-    requires { ⌜ (i + most ≤ length (now piece)) × (m .at + most ≤ mostBytes) ⌝ }
-    ensures taken { λ r. ⌜ r ≡ someIn (now (held .entry)) m (now (piece .entry)) i most (m .phase) ⌝ }
-    ensures held { λ r. ⌜ now (held .exit) ≡ heldIn (now (held .entry)) (now (piece .entry)) i most (m .phase) ⌝ }
+// Some bytes of an entry.
+fn some_in(held: &mut [u8; 4096], m: Marks, bytes: &[u8]) -> Got
+    ensures taken { λ r. ⌜ r ≡ someIn (now (held .entry)) m (now (bytes .entry)) (m .phase) ⌝ }
+    ensures held { λ r. ⌜ now (held .exit) ≡ heldIn (now (held .entry)) (now (bytes .entry)) (m .phase) ⌝ }
 {
     let phase = m.phase;
+    let head = m.head;
     match phase {
-        Phase::Head(k) => head_in(m, k, piece, i, most),
-        Phase::Name(l) => name_part(held, m, l, piece, i, most),
-        Phase::Id(l, left) => id_some(m, l, left, i, most),
+        Phase::Head(k) => {
+            return head_some(head, k, m.count, bytes);
+        }
+        Phase::Name(l) => {
+            let line = name_some(held, m.last, l, bytes);
+            return Got {
+                count: line.size - l.size,
+                head,
+                phase: Phase::Name(line),
+            };
+        }
+        Phase::Id(l, left) => {
+            let n = least(left, 1, bytes.len());
+            return Got {
+                count: n,
+                head,
+                phase: Phase::Id(l, left - n),
+            };
+        }
+    }
+}
+
+// Bytes of an entry from a place on, so many at most.
+fn some_at(held: &mut [u8; 4096], m: Marks, piece: &[u8], i: usize, most: usize) -> Taken
+    requires { ⌜ (i + most ≤ length (now piece)) × (m .at + most ≤ mostBytes) ⌝ }
+    ensures taken { λ r. ⌜ r ≡ takenAt m i (someIn (now (held .entry)) m (part i (i + most) (now (piece .entry))) (m .phase)) ⌝ }
+    ensures held { λ r. ⌜ now (held .exit) ≡ heldIn (now (held .entry)) (part i (i + most) (now (piece .entry))) (m .phase) ⌝ }
+{
+    let end = i + most;
+    let g = some_in(held, m, &piece[i..end]);
+    let head = g.head;
+    let phase = g.phase;
+    let marks = placed_at(m, m.at + g.count, head, phase);
+    Taken {
+        marks,
+        next: i + g.count,
     }
 }
 
@@ -115,12 +120,9 @@ pub fn some(held: &mut [u8; 4096], m: Marks, piece: &[u8], i: usize) -> Taken
             next: piece.len(),
         };
     }
-    if MOST_BYTES <= m.at {
+    let most = least(piece.len(), i, least(MOST_BYTES, m.at, MOST_BYTES));
+    if most == 0 {
         return Taken { marks: m, next: i };
     }
-    if piece.len() <= i {
-        return Taken { marks: m, next: i };
-    }
-    let most = shorter(piece.len() - i, MOST_BYTES - m.at);
-    some_in(held, m, piece, i, most)
+    some_at(held, m, piece, i, most)
 }

@@ -2,15 +2,16 @@
 use Prim.Native.Nat.{ℕ, zero, suc, _+_, _-_, _≤_, _<_, min}
 use native.Mathlib.Nat.{add-zero}
 use native.Mathlib.Numerals.{add-one}
+use native.Mathlib.Decide.{decLt}
 use native.Mathlib.Omega.{arith}
 use mathlib.Core.Path.{_≡_, refl, ap, sym, _∙_}
 use mathlib.Core.Bool.{Bool, true, false, _&&_}
 use mathlib.Core.List.{List}
 use lib.Dec.{eqb, leb}
-use lib.ListN.{length, getD, set, take, drop}
-use lib.Seq.{sets, drop-cons}
+use lib.ListN.{length, getD, set, take, drop, length-take, length-drop}
+use lib.Seq.{sets, drop-cons, take-take}
 use borrow.Author.Tests.{eqb-true, eqb-false, leb-false}
-use Rattle.ground.specs.Basics.{pick}
+use Rattle.ground.specs.Basics.{pick, part}
 use Rattle.ground.specs.Verdict.{mostBytes, mostRecords}
 use Rattle.arriving.specs.Feed.{mostHeld, together, placedAt, byteStep, feedOf}
 use Rattle.arriving.specs.Bulk.{Took}
@@ -21,7 +22,7 @@ use Rattle.arriving.specs.declared.Check.{Check}
 use Rattle.arriving.specs.declared.Taken.{Taken}
 use Rattle.arriving.proofs.Laws.{feed-turn, feed-end}
 use Rattle.arriving.proofs.Bulk.{took-none, took-rest, took-ids, head-begin, head-turn, later-fine}
-use Rattle.piece_some.specs.Bytes.{upTo, headSome, someIn, heldIn, mostOf, someOf, someHeld}
+use Rattle.piece_some.specs.Bytes.{upTo, takenAt, headSome, someIn, heldIn, mostOf, bytesOf, someOf, someHeld}
 use Rattle.piece_takes.proofs.Stands.{names-took}
 
 -- ---- an entry's first bytes
@@ -45,49 +46,65 @@ module _ (m : Marks) (z : m .verdict .number ≡ 0) (s : List ℕ) (i end : ℕ)
       (head-turn m z all head s i j end k p (omega arith) r w f (omega arith) e) held ends
       ∙ fed-same held ends (stored n j k head (omega arith)) (omega arith) (omega arith)
 
-heads-took : (held ends : List ℕ) (m : Marks) (k : ℕ) (s : List ℕ) (i n : ℕ) → m .verdict .number ≡ 0 → m .phase ≡ Head k → i + n ≤ length s
-    → m .at + n ≤ mostBytes → k + n ≤ 7 → (eqb k 0 && leb mostRecords (m .count)) ≡ false → Took held ends m s i held ends (headSome m k s i n)
-heads-took held ends m k s i n z p w a l f =
-    let x : i + n - i ≡ n = omega arith in
-    record {
-      same =
-          heads-more m z s i (i + n) w (omega arith) (λ (held ends : List ℕ). feedOf (together held ends m) (drop i s)) n i k (m .head) (omega arith)
-          (omega arith) l f (λ held ends. head-begin held ends m k s i p) held ends
-          ∙ ap (λ (j : ℕ). feedOf (together held ends (placedAt m (m .at + j) (sets (m .head) k (take n (drop i s))) (Head (k + n)))) (drop (i + n) s)) x
-          ∙ ap (λ (j : ℕ). feedOf (together held ends (placedAt m (m .at + n) (sets (m .head) k (take j (drop i s))) (Head (k + n)))) (drop (i + n) s)) (sym x);
-      from = omega arith;
-      within = w;
-    }
+module _ (held ends : List ℕ) (m : Marks) (k : ℕ) (s : List ℕ) (i most n : ℕ) (p : m .phase ≡ Head k) (w : i + most ≤ length s) where
+  heads-none : n ≡ 0 → Took held ends m s i held ends (takenAt m i (headSome (m .head) k (part i (i + most) s) n))
+  heads-none e =
+      let at : ℕ → ℕ → Phase → Taken = λ a j q. record { marks = placedAt m a (m .head) q; next = j } in
+      let y : takenAt m i (headSome (m .head) k (part i (i + most) s) 0) ≡ upTo m i
+      = ap (λ (a : ℕ). at a (i + 0) (Head (k + 0))) (add-zero (m .at))
+      ∙ ap (λ (j : ℕ). at (m .at) j (Head (k + 0))) (add-zero i)
+      ∙ ap (λ (j : ℕ). at (m .at) i (Head j)) (add-zero k)
+      ∙ ap (at (m .at) i) (sym p) in
+      rw (e, y) (took-none held ends m s i (omega arith))
+
+  heads-took : m .verdict .number ≡ 0 → m .at + most ≤ mostBytes → n ≤ most → k + n ≤ 7 → (eqb k 0 && leb mostRecords (m .count)) ≡ false
+      → Took held ends m s i held ends (takenAt m i (headSome (m .head) k (part i (i + most) s) n))
+  heads-took z a h l f =
+      let x : i + n - i ≡ n = omega arith in
+      record {
+        same =
+            heads-more m z s i (i + n) (omega arith) (omega arith) (λ (held ends : List ℕ). feedOf (together held ends m) (drop i s)) n i k (m .head)
+            (omega arith) (omega arith) l f (λ held ends. head-begin held ends m k s i p) held ends
+            ∙ ap (λ (j : ℕ). feedOf (together held ends (placedAt m (m .at + j) (sets (m .head) k (take n (drop i s))) (Head (k + n)))) (drop (i + n) s)) x
+            ∙ ap (λ (bs : List ℕ). feedOf (together held ends (placedAt m (m .at + n) (sets (m .head) k bs) (Head (k + n)))) (drop (i + n) s))
+            (sym (take-take n (i + most - i) (drop i s) (omega arith)));
+        from = omega arith;
+        within = omega arith;
+      }
 
 -- ---- in any phase
 
 module _ (held ends : List ℕ) (m : Marks) (s : List ℕ) (i : ℕ) (room : length held ≡ mostHeld) where
   module _ (z : m .verdict .number ≡ 0) (a : m .at < mostBytes) (w : i < length s) where
-    in-took : (p : Phase) → m .phase ≡ p → Took held ends m s i (heldIn held s i (mostOf m s i) p) ends (someIn held m s i (mostOf m s i) p)
+    long : length (bytesOf m s i) ≡ mostOf m s i
+    long = length-take (i + mostOf m s i - i) (drop i s) ∙ omega (arith, length-drop i s)
+
+    in-took : (p : Phase) → m .phase ≡ p → Took held ends m s i (heldIn held (bytesOf m s i) p) ends (takenAt m i (someIn held m (bytesOf m s i) p))
     in-took (Head k) e = full (eqb k 0 && leb mostRecords (m .count)) refl
       where
-        late : (eqb k 0 && leb mostRecords (m .count)) ≡ false → (v : Bool) → leb 7 k ≡ v
-            → Took held ends m s i held ends (pick v (upTo m i) (headSome m k s i (min (7 - k) (mostOf m s i))))
-        late f true y = took-none held ends m s i (omega arith)
-        late f false y =
-            heads-took held ends m k s i (min (7 - k) (mostOf m s i)) z e (omega arith) (omega arith) (omega (arith, leb-false 7 k y)) f
-
         full : (v : Bool) → (eqb k 0 && leb mostRecords (m .count)) ≡ v
-            → Took held ends m s i held ends (pick v (upTo m i) (pick (leb 7 k) (upTo m i) (headSome m k s i (min (7 - k) (mostOf m s i)))))
-        full true y = took-none held ends m s i (omega arith)
-        full false y = late y (leb 7 k) refl
+            → Took held ends m s i held ends (takenAt m i (headSome (m .head) k (bytesOf m s i) (pick v 0 (min (7 - k) (length (bytesOf m s i))))))
+        full true y = heads-none held ends m k s i (mostOf m s i) 0 e (omega arith) refl
+        full false y =
+            elim (decLt k 7) [
+              | yes h ↦ heads-took held ends m k s i (mostOf m s i) (min (7 - k) (length (bytesOf m s i))) e (omega arith) z (omega arith)
+                  (omega (arith, long)) (omega arith) y
+              | no h ↦ heads-none held ends m k s i (mostOf m s i) (min (7 - k) (length (bytesOf m s i))) e (omega arith) (omega arith)
+            ]
     in-took (Name l) e = names-took held ends m l s i (mostOf m s i) z e (omega arith) (omega arith) room
     in-took (Id l left) e =
-        took-ids m z ends held l left s (min (left - 1) (mostOf m s i)) i e (omega arith) (omega arith) (omega arith) (omega arith) _ refl
+        took-ids m z ends held l left s (min (left - 1) (length (bytesOf m s i))) i e (omega arith) (omega (arith, long)) (omega (arith, long)) (omega arith) _
+        refl
 
   abbrev inside· : Taken
-  inside· = pick (leb (length s) i) (upTo m i) (someIn held m s i (mostOf m s i) (m .phase))
+  inside· = pick (leb (length s) i) (upTo m i) (takenAt m i (someIn held m (bytesOf m s i) (m .phase)))
 
   abbrev kept· : List ℕ
-  kept· = pick (leb (length s) i) held (heldIn held s i (mostOf m s i) (m .phase))
+  kept· = pick (leb (length s) i) held (heldIn held (bytesOf m s i) (m .phase))
 
   third : i ≤ length s → m .verdict .number ≡ 0 → m .at < mostBytes → (v : Bool) → leb (length s) i ≡ v
-      → Took held ends m s i (pick v held (heldIn held s i (mostOf m s i) (m .phase))) ends (pick v (upTo m i) (someIn held m s i (mostOf m s i) (m .phase)))
+      → Took held ends m s i (pick v held (heldIn held (bytesOf m s i) (m .phase))) ends
+      (pick v (upTo m i) (takenAt m i (someIn held m (bytesOf m s i) (m .phase))))
   third w z a true y = took-none held ends m s i w
   third w z a false y = in-took z a (leb-false (length s) i y) (m .phase) refl
 

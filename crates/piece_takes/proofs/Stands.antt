@@ -30,7 +30,7 @@ use Rattle.arriving.proofs.Bulk.{name-begin, name-again}
 use Rattle.piece_name.specs.Names.{differsOf, levelOf, standOf, nameMore, nameSome}
 use Rattle.piece_name.specs.declared.Stood.{Stood}
 use Rattle.piece_name.proofs.Names.{stands}
-use Rattle.piece_some.specs.Bytes.{namePart}
+use Rattle.piece_some.specs.Bytes.{takenAt, namePart}
 
 -- how a name stands and how many bytes it shares after some bytes more, one after the other
 unfoldable pub standAfter : List ℕ → Last → Stand → ℕ → ℕ → List ℕ → Stood
@@ -237,7 +237,7 @@ module _ (held ends : List ℕ) (m : Marks) (l : Line) (s : List ℕ) (i most : 
   unfolding nameSome
   size-is = ap (λ (k : ℕ). l .size + k) more-long
 
-  pub names-took : Took held ends m s i (sets held (l .size) more·) ends (namePart m l i line·)
+  pub names-took : Took held ends m s i (sets held (l .size) more·) ends (takenAt m i (namePart (m .head) l line·))
   unfolding nameSome
   names-took =
       let d : ℕ = line· .size - l .size in

@@ -41,7 +41,7 @@ pub fn feed(held: &mut [u8; 4096], ends: &mut [u32; 4097], marks: Marks, piece: 
     ensures { λ r. ⌜ together (now (held .exit)) (now (ends .exit)) r ≡ feedOf (together (now (held .entry)) (now (ends .entry)) marks) (now (piece .entry)) ⌝ }
 {
     let mut t = Taken { marks, next: 0 };
-    while t.next < piece.len() {
+    loop {
         t = whole(held, ends, t.marks, piece, t.next);
         t = some(held, t.marks, piece, t.next);
         let at = t.next;
@@ -51,5 +51,4 @@ pub fn feed(held: &mut [u8; 4096], ends: &mut [u32; 4097], marks: Marks, piece: 
         t.marks = step(held, ends, t.marks, piece[at]);
         t.next = at + 1;
     }
-    t.marks
 }

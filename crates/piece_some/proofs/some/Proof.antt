@@ -4,59 +4,43 @@ use Rattle.piece_some.proofs.some.Statement.{statement}
 use Rattle.piece_some.proofs.some.Tie as tie
 use Rattle.piece_some.proofs.some.Reads as reads
 use Rattle.piece_some.proofs.some.Lts as lts
-use Rattle.piece_some.proofs.shorter.Reads as shorter-reads
-use Rattle.piece_some.proofs.some_in.Reads as some-in-reads
-use Rattle.piece_some.proofs.Bytes.{some-rest, some-over, some-end, some-in}
+use Rattle.piece_some.proofs.least.Reads as least-reads
+use Rattle.piece_some.proofs.some_at.Reads as some-at-reads
+use Rattle.piece_some.proofs.Bytes.{some-rest, some-none, some-some}
 
 returns : tie.Need-returns
 returns c =
     let args = c .before .before .before .args in
     some-rest (args .held .now) (args .m) (args .piece .now) (args .i) (c .if1 .taken)
 
+least-requires : tie.Need-least-requires
+least-requires c κs = search needs
+
+least-requires-2 : tie.Need-least-requires-2
+least-requires-2 c κs = search needs
+
 returns-2 : tie.Need-returns-2
 returns-2 c =
-    let args = c .before .before .before .before .before .args in
-    let if1 = c .before .before .if1 in
-    some-over (args .held .now) (args .m) (args .piece .now) (args .i) (if1 .left) (c .if2 .taken)
+    let args = c .before .before .before .before .before .before .args in
+    let if1 = c .before .before .before .if1 in
+    let least = c .before .before .least in
+    let least2 = c .before .least2 in
+    some-none (args .held .now) (args .m) (args .piece .now) (args .i) (if1 .left) _ _ (least .ensures) (least2 .ensures) (c .if2 .taken)
+
+some-at-requires : tie.Need-some-at-requires
+some-at-requires c κs = search needs
 
 returns-3 : tie.Need-returns-3
 returns-3 c =
-    let args = c .before .before .before .before .before .before .args in
-    let if1 = c .before .before .before .if1 in
-    let if2 = c .before .if2 in
-    some-end (args .held .now) (args .m) (args .piece .now) (args .i) (if1 .left) (if2 .left) (c .if3 .taken)
-
-sub-shorter : tie.Need-sub-shorter
-sub-shorter c = search needs
-
-sub-shorter-2 : tie.Need-sub-shorter-2
-sub-shorter-2 c = search needs
-
-shorter-requires : tie.Need-shorter-requires
-shorter-requires c κs = search needs
-
-some-in-requires : tie.Need-some-in-requires
-some-in-requires c κs = search needs
-
-returns-4 : tie.Need-returns-4
-returns-4 c =
-    let args = c .before .before .before .before .before .before .before .before .before .before .args in
-    let if1 = c .before .before .before .before .before .before .before .if1 in
-    let if2 = c .before .before .before .before .before .if2 in
-    let if3 = c .before .before .before .before .if3 in
-    let shorter = c .before .before .shorter in
-    some-in (args .held .now) (args .m) (args .piece .now) (args .i) (if1 .left) (if2 .left) (if3 .left) (shorter .result) (shorter .ensures) _ _
-    (c .some-in .ensures)
+    let args = c .before .before .before .before .before .before .before .before .args in
+    let if1 = c .before .before .before .before .before .if1 in
+    let least = c .before .before .before .before .least in
+    let least2 = c .before .before .before .least2 in
+    let if2 = c .before .before .if2 in
+    some-some (args .held .now) (args .m) (args .piece .now) (args .i) (if1 .left) _ _ (least .ensures) (least2 .ensures) (if2 .left) _ _
+    (c .some-at .ensures)
 
 pub some-spec : {M : Type 1} → statement M
 some-spec =
     tie.close
-    (tie.spec
-    returns
-    returns-2
-    returns-3
-    sub-shorter
-    sub-shorter-2
-    shorter-requires
-    some-in-requires
-    returns-4)
+    (tie.spec returns least-requires least-requires-2 returns-2 some-at-requires returns-3)
