@@ -1,62 +1,141 @@
-// The fields of a case, as the list has them (oracle/README.md, "The list format"). All that a case is given lies in two lists: the bytes `s`, with
-// a window of the file first, and the numbers `g`. What stands where is said by the constants.
+// The fields of a case, as the list has them (oracle/README.md, "The list format"). What a case is given and what is wanted lies in two lists: the
+// bytes `s`, with a window of the file first, and the numbers `g`. What stands where is said by the constants.
 use ground::byte_at;
 use std::num::wrapping_add_usize;
 use std::num::wrapping_sub_usize;
 ghost use Prim.Native.Nat.{_<_, _≤_};
 
-// Every case is shorter than a window. Behind it in `s` stand the bytes a, and the bytes that were derived last.
+// Every case is shorter than a window. Behind it in `s` stand the bytes a, b and c, and those that are to be left.
 pub const WINDOW: usize = 40960;
 
 const BYTES_A: usize = WINDOW;
 
-const DERIVED: usize = BYTES_A + BYTES;
+const BYTES_B: usize = BYTES_A + BYTES;
+
+const BYTES_C: usize = BYTES_B + BYTES;
+
+const BYTES_LEFT: usize = BYTES_C + BYTES;
 
 // The most bytes, and the most numbers, of a field and of what is lent.
 pub const BYTES: usize = 16384;
 
 pub const NUMBERS: usize = 1025;
 
-pub const ALL_BYTES: usize = DERIVED + BYTES;
+pub const ALL_BYTES: usize = BYTES_LEFT + BYTES;
 
-// In `g`: the numbers of a case, its three rooms first (bytes lent, numbers of the first list lent, of the second); behind them what a call is given.
-pub const ROOMS: usize = 3;
+// In `g`: how long those bytes are, and the lists, each with its length before it: the numbers that a case is given, the
+// answer that is wanted, and the lists x and y, which what is to be left takes the place of.
+const LONG_A: usize = 0;
 
-// How far the case is read, and where it starts in the file.
-pub const AT: usize = 16;
+const LONG_B: usize = 1;
 
-pub const FROM: usize = 17;
+const LONG_C: usize = 2;
 
-// How long the bytes a are; how long the bytes b and c are, and behind that where they start.
-const LONG: usize = 18;
+const LONG_LEFT: usize = 3;
 
-const BYTES_B: usize = 20;
+pub const GIVEN: usize = 32;
 
-const BYTES_C: usize = 22;
+pub const WANTED: usize = 64;
 
-// How long the two lists are, and how long what is to be left is: the bytes, and the two lists.
-const FIRST: usize = 24;
+pub const X: usize = 96;
 
-const SECOND: usize = 25;
+pub const Y: usize = X + 1280;
 
-pub const LEFT: usize = 26;
+pub const ALL_NUMBERS: usize = Y + 1280;
 
-// The answer that is wanted, which has so many numbers, 0 behind those that it has.
-pub const WANTED: usize = 32;
+// The numbers of a case: its three rooms (bytes lent, numbers of the first list lent, of the second), then those of the call. The first of these is
+// the length of ids, the second often a rule set or a mark.
+pub const H: usize = 3;
 
+pub const SECOND: usize = 4;
+
+pub const THIRD: usize = 5;
+
+// No answer has more numbers.
 pub const ANSWERS: usize = 16;
 
-// Two places for each call, and for all: how many cases there are, and how many of them agree.
-pub const COUNTS: usize = 64;
+// A field: the bit that says that a case has it, 0 where each has it; whether it is a list; whether it may begin and end as the bytes a or the list in
+// its place do; where it stands in `s` or in `g`, and for bytes where their length stands.
+struct Field {
+    bit: u8,
+    list: bool,
+    derived: bool,
+    place: usize,
+    long: usize,
+}
 
-// The two lists, and a list that is being derived.
-const LIST_X: usize = 256;
+const ALWAYS: u8 = 0;
 
-const LIST_Y: usize = LIST_X + 1280;
+const HAS_GIVEN: u8 = 1;
 
-const LIST: usize = LIST_Y + 1280;
+const HAS_A: u8 = 2;
 
-pub const ALL_NUMBERS: usize = LIST + 1280;
+const HAS_B: u8 = 4;
+
+const HAS_C: u8 = 8;
+
+const HAS_X: u8 = 16;
+
+const HAS_Y: u8 = 32;
+
+const HAS_LEFT: u8 = 64;
+
+const HAS_LISTS: u8 = 128;
+
+// The fields by their places in a case: the bytes b and c, and those that are to be left. So many say what a case is given, the others what is wanted.
+pub const B: usize = 2;
+
+pub const C: usize = 3;
+
+pub const TAKEN: usize = 6;
+
+pub const LEFT: usize = 7;
+
+pub const FIELDS: usize = 10;
+
+fn list_field(bit: u8, derived: bool, place: usize) -> Field {
+    Field {
+        bit,
+        list: true,
+        derived,
+        place,
+        long: 0,
+    }
+}
+
+fn bytes_field(bit: u8, derived: bool, place: usize, long: usize) -> Field {
+    Field {
+        bit,
+        list: false,
+        derived,
+        place,
+        long,
+    }
+}
+
+// The fields in the order of the list.
+fn field_of(i: usize) -> Field {
+    match i {
+        0 => list_field(HAS_GIVEN, false, GIVEN),
+        1 => bytes_field(HAS_A, true, BYTES_A, LONG_A),
+        B => bytes_field(HAS_B, false, BYTES_B, LONG_B),
+        C => bytes_field(HAS_C, false, BYTES_C, LONG_C),
+        4 => list_field(HAS_X, true, X),
+        5 => list_field(HAS_Y, true, Y),
+        6 => list_field(ALWAYS, false, WANTED),
+        LEFT => bytes_field(HAS_LEFT, true, BYTES_LEFT, LONG_LEFT),
+        8 => list_field(HAS_LISTS, true, X),
+        _ => list_field(HAS_LISTS, true, Y),
+    }
+}
+
+// Whether a case has a field.
+fn there(s: &[u8], bit: u8) -> bool {
+    if bit == ALWAYS {
+        return true;
+    }
+    byte_at(s, 1) / bit % 2 == 1
+}
 
 // A number, and the place after it.
 struct Number {
@@ -88,6 +167,14 @@ fn number_at(s: &[u8], at: usize) -> Number {
     Number { value, next }
 }
 
+// A number that only a derived field has, else 0.
+fn shared_at(s: &[u8], at: usize, derived: bool) -> Number {
+    if derived {
+        return number_at(s, at);
+    }
+    Number { value: 0, next: at }
+}
+
 // The smaller of two numbers.
 fn least(a: usize, b: usize) -> usize
     ensures { λ r. ⌜ r ≤ b ⌝ }
@@ -112,285 +199,180 @@ fn set_byte(s: &mut [u8], i: usize, x: u8) {
     }
 }
 
-// So much more at a place.
-pub fn raise(g: &mut [usize], i: usize, n: usize) {
-    let x = wrapping_add_usize(given(g, i), n);
-    set_number(g, i, x);
-}
-
 // The bytes from a place on, n or as many as there are.
-pub fn piece(s: &[u8], from: usize, n: usize) -> &[u8] {
-    if s.len() <= from {
-        return &s[..0];
-    }
-    if s.len() - from < n {
-        return &s[from..];
-    }
-    let to = from + n;
-    &s[from..to]
+fn piece(s: &[u8], from: usize, n: usize) -> &[u8] {
+    let start = least(from, s.len());
+    let end = start + least(n, s.len() - start);
+    &s[start..end]
 }
 
 // The same of numbers.
 pub fn numbers(g: &[usize], from: usize, n: usize) -> &[usize] {
-    if g.len() <= from {
-        return &g[..0];
-    }
-    if g.len() - from < n {
-        return &g[from..];
-    }
-    let to = from + n;
-    &g[from..to]
+    let start = least(from, g.len());
+    let end = start + least(n, g.len() - start);
+    &g[start..end]
 }
 
-// Whether a case has a field.
-fn has(s: &[u8], bit: u8) -> bool
-    requires { ⌜ 0 < bit ⌝ }
-{
-    byte_at(s, 1) / bit % 2 == 1
+// The i-th of n to move when they are moved up or down, so that none is lost where the places overlap.
+fn turn(up: bool, i: usize, n: usize) -> usize {
+    if up {
+        return wrapping_sub_usize(wrapping_sub_usize(n, i), 1);
+    }
+    i
 }
 
-// n bytes from one place to another, the first first.
-fn copy(s: &mut [u8], from: usize, to: usize, n: usize) {
+// n bytes from one place to another.
+fn slide(s: &mut [u8], from: usize, to: usize, n: usize) {
     let count = least(n, s.len());
     let mut i: usize = 0;
     while i < count {
-        let x = byte_at(s, wrapping_add_usize(from, i));
-        set_byte(s, wrapping_add_usize(to, i), x);
+        let k = turn(from < to, i, count);
+        let x = byte_at(s, wrapping_add_usize(from, k));
+        set_byte(s, wrapping_add_usize(to, k), x);
         i += 1;
     }
 }
 
 // The same of numbers.
-fn copy_numbers(g: &mut [usize], from: usize, to: usize, n: usize) {
+fn slide_numbers(g: &mut [usize], from: usize, to: usize, n: usize) {
     let count = least(n, g.len());
     let mut i: usize = 0;
     while i < count {
-        let x = given(g, wrapping_add_usize(from, i));
-        set_number(g, wrapping_add_usize(to, i), x);
+        let k = turn(from < to, i, count);
+        let x = given(g, wrapping_add_usize(from, k));
+        set_number(g, wrapping_add_usize(to, k), x);
         i += 1;
     }
 }
 
 // n numbers of the list, stored from a place on; the place after them.
-fn numbers_at(s: &[u8], at: usize, n: usize, out: &mut [usize], from: usize) -> usize {
+fn numbers_at(s: &[u8], at: usize, n: usize, g: &mut [usize], to: usize) -> usize {
     let count = least(n, s.len());
     let mut next = at;
     let mut i: usize = 0;
     while i < count {
         let x = number_at(s, next);
-        set_number(out, wrapping_add_usize(from, i), x.value);
+        set_number(g, wrapping_add_usize(to, i), x.value);
         next = x.next;
         i += 1;
     }
     next
 }
 
-// Numbers by themselves, to a place that has 0 behind them: past the end of `g` all is 0.
-fn take_numbers(s: &[u8], g: &mut [usize], to: usize) {
-    let n = number_at(s, given(g, AT));
-    copy_numbers(g, ALL_NUMBERS, to, ANSWERS);
-    let next = numbers_at(s, n.next, n.value, g, to);
-    set_number(g, AT, next);
-}
-
-fn take_given(s: &[u8], g: &mut [usize]) {
-    if has(s, 1) {
-        take_numbers(s, g, 0);
-    }
-}
-
-// Bytes by themselves: where they start and how many there are, none where the field is not there.
-struct Field {
+// What a field is made of: how many are new, where they stand in the case, and where they go; how many of the others stand behind them, where these
+// stand, and where they go; and how many there are in all.
+struct Made {
+    new: usize,
     at: usize,
+    to: usize,
+    behind: usize,
+    last: usize,
+    then: usize,
     long: usize,
 }
 
-fn field_at(s: &[u8], at: usize, there: bool) -> Field {
-    if there {
-        let n = number_at(s, at);
-        return Field {
-            at: n.next,
-            long: n.value,
-        };
-    }
-    Field { at, long: 0 }
-}
-
-fn take_bytes(g: &mut [usize], f: Field, place: usize) {
-    set_number(g, place, f.long);
-    set_number(g, wrapping_add_usize(place, 1), f.at);
-    set_number(g, AT, wrapping_add_usize(f.at, f.long));
-}
-
-// What is derived: how many are new, how many of the others stand before and behind them, and where the new ones start.
-struct Derived {
-    new: usize,
-    before: usize,
-    behind: usize,
-    at: usize,
-}
-
-fn derived_at(s: &[u8], at: usize) -> Derived {
+// Of a field that goes to a place, where as many of the others stand.
+fn made_of(s: &[u8], at: usize, derived: bool, place: usize, others: usize) -> Made {
     let n = number_at(s, at);
-    let p = number_at(s, n.next);
-    let q = number_at(s, p.next);
-    Derived {
+    let p = shared_at(s, n.next, derived);
+    let q = shared_at(s, p.next, derived);
+    let to = wrapping_add_usize(place, p.value);
+    let then = wrapping_add_usize(to, n.value);
+    let last = wrapping_sub_usize(wrapping_add_usize(place, others), q.value);
+    let end = wrapping_add_usize(then, q.value);
+    Made {
         new: n.value,
-        before: p.value,
-        behind: q.value,
         at: q.next,
+        to,
+        behind: q.value,
+        last,
+        then,
+        long: wrapping_sub_usize(end, place),
     }
-}
-
-// Where the last n of some start, which start at a place.
-fn last(from: usize, long: usize, n: usize) -> usize {
-    wrapping_sub_usize(wrapping_add_usize(from, long), n)
-}
-
-// How many there are up to the last new one, and in all.
-fn middle(d: Derived) -> usize {
-    wrapping_add_usize(d.before, d.new)
-}
-
-fn long_of(d: Derived) -> usize {
-    wrapping_add_usize(middle(d), d.behind)
 }
 
 // Bytes that begin and end as the bytes a do, of which there are so many.
-fn spread(s: &mut [u8], long: usize, d: Derived) {
-    copy(s, BYTES_A, DERIVED, d.before);
-    copy(s, d.at, wrapping_add_usize(DERIVED, d.before), d.new);
-    let to = wrapping_add_usize(DERIVED, middle(d));
-    copy(s, last(BYTES_A, long, d.behind), to, d.behind);
+fn spread(s: &mut [u8], place: usize, long: usize, m: Made) {
+    slide(s, BYTES_A, place, long);
+    slide(s, m.last, m.then, m.behind);
+    slide(s, m.at, m.to, m.new);
 }
 
-fn derive(s: &mut [u8], g: &mut [usize], place: usize) {
-    let d = derived_at(s, given(g, AT));
-    spread(s, given(g, LONG), d);
-    set_number(g, AT, wrapping_add_usize(d.at, d.new));
-    set_number(g, place, long_of(d));
+// Bytes to their place; the place after them in the case.
+fn take_bytes(s: &mut [u8], g: &mut [usize], f: Field, at: usize) -> usize {
+    let long = given(g, LONG_A);
+    let m = made_of(s, at, f.derived, f.place, long);
+    spread(s, f.place, long, m);
+    set_number(g, f.long, m.long);
+    wrapping_add_usize(m.at, m.new)
 }
 
-fn take_a(s: &mut [u8], g: &mut [usize]) {
-    if has(s, 2) {
-        derive(s, g, LONG);
-        copy(s, DERIVED, BYTES_A, given(g, LONG));
+// A list to its place, the same.
+fn take_list(s: &[u8], g: &mut [usize], f: Field, at: usize) -> usize {
+    let m = made_of(
+        s,
+        at,
+        f.derived,
+        wrapping_add_usize(f.place, 1),
+        given(g, f.place),
+    );
+    slide_numbers(g, m.last, m.then, m.behind);
+    set_number(g, f.place, m.long);
+    numbers_at(s, m.at, m.new, g, m.to)
+}
+
+// A field that is not there is as in the case before, or is not looked at.
+fn take_field(s: &mut [u8], g: &mut [usize], f: Field, at: usize) -> usize {
+    if there(s, f.bit) {
+        if f.list {
+            return take_list(s, g, f, at);
+        }
+        return take_bytes(s, g, f, at);
     }
+    at
 }
 
-// A list that begins and ends as the one in its place does, of which there are so many numbers, and takes its place; the place after it in the case.
-fn spread_list(s: &[u8], g: &mut [usize], list: usize, long: usize, d: Derived) -> usize {
-    copy_numbers(g, list, LIST, d.before);
-    let next = numbers_at(s, d.at, d.new, g, wrapping_add_usize(LIST, d.before));
-    let to = wrapping_add_usize(LIST, middle(d));
-    copy_numbers(g, last(list, long, d.behind), to, d.behind);
-    copy_numbers(g, LIST, list, long_of(d));
+// The fields from one to another; the place after them in the case.
+pub fn take(s: &mut [u8], g: &mut [usize], from: usize, to: usize, at: usize) -> usize {
+    let mut next = at;
+    let mut i = from;
+    while i < to {
+        next = take_field(s, g, field_of(i), next);
+        i += 1;
+    }
     next
 }
 
-fn derive_list(s: &[u8], g: &mut [usize], list: usize, place: usize) {
-    let d = derived_at(s, given(g, AT));
-    let next = spread_list(s, g, list, given(g, place), d);
-    set_number(g, AT, next);
-    set_number(g, place, long_of(d));
-}
-
-fn take_list(s: &[u8], g: &mut [usize], there: bool, list: usize, place: usize) {
-    if there {
-        derive_list(s, g, list, place);
-    }
-}
-
-// The fields of a case behind its bytes a.
-fn take_more(s: &[u8], g: &mut [usize]) {
-    take_bytes(g, field_at(s, given(g, AT), has(s, 4)), BYTES_B);
-    take_bytes(g, field_at(s, given(g, AT), has(s, 8)), BYTES_C);
-    take_list(s, g, has(s, 16), LIST_X, FIRST);
-    take_list(s, g, has(s, 32), LIST_Y, SECOND);
-}
-
-// What a case is given; the numbers, the bytes a and the lists are as in the case before where they are not there.
-pub fn take_case(s: &mut [u8], g: &mut [usize]) {
-    set_number(g, AT, 2);
-    take_given(s, g);
-    take_a(s, g);
-    take_more(s, g);
-}
-
-// The bytes that are to be left.
-fn take_left(s: &mut [u8], g: &mut [usize]) {
-    set_number(g, LEFT, 0);
-    if has(s, 64) {
-        derive(s, g, LEFT);
-    }
-}
-
-// The two lists that are to be left, which are those of the next case.
-fn take_lists(s: &[u8], g: &mut [usize]) {
-    let there = has(s, 128);
-    take_list(s, g, there, LIST_X, FIRST);
-    take_list(s, g, there, LIST_Y, SECOND);
-    copy_numbers(g, if_there(there), LEFT + 1, 2);
-}
-
-// Where their lengths stand: without them past the end, where all is 0.
-fn if_there(there: bool) -> usize {
-    if there {
-        return FIRST;
-    }
-    ALL_NUMBERS
-}
-
-// What is to be answered and left.
-pub fn take_wanted(s: &mut [u8], g: &mut [usize]) {
-    take_numbers(s, g, WANTED);
-    take_left(s, g);
-    take_lists(s, g);
-}
-
-// What a call is given: the bytes a, b and c, the lists x and y, and the numbers.
+// What a call is given: the bytes a, and those of another field, none where the case has it not; and a list.
 pub fn a<'a, 'b>(s: &'a [u8], g: &'b [usize]) -> &'a [u8] {
-    piece(s, BYTES_A, given(g, LONG))
+    piece(s, BYTES_A, given(g, LONG_A))
 }
 
-pub fn b<'a, 'b>(s: &'a [u8], g: &'b [usize]) -> &'a [u8] {
-    piece(s, given(g, BYTES_B + 1), given(g, BYTES_B))
+pub fn bytes<'a, 'b>(s: &'a [u8], g: &'b [usize], i: usize) -> &'a [u8] {
+    let f = field_of(i);
+    if there(s, f.bit) {
+        return piece(s, f.place, given(g, f.long));
+    }
+    &s[..0]
 }
 
-pub fn c<'a, 'b>(s: &'a [u8], g: &'b [usize]) -> &'a [u8] {
-    piece(s, given(g, BYTES_C + 1), given(g, BYTES_C))
+pub fn list(g: &[usize], place: usize) -> &[usize] {
+    numbers(g, wrapping_add_usize(place, 1), given(g, place))
 }
 
-pub fn x(g: &[usize]) -> &[usize] {
-    numbers(g, LIST_X, given(g, FIRST))
-}
-
-pub fn y(g: &[usize]) -> &[usize] {
-    numbers(g, LIST_Y, given(g, SECOND))
-}
-
-// The first number is the length of ids, the second often a rule set or a mark.
-pub fn h(g: &[usize]) -> usize {
-    given(g, ROOMS)
-}
-
-pub fn second(g: &[usize]) -> usize {
-    given(g, ROOMS + 1)
+// A number of the case; 0 where it is left out.
+pub fn number_of(g: &[usize], i: usize) -> usize {
+    given(list(g, GIVEN), i)
 }
 
 pub fn rules(g: &[usize]) -> u16 {
-    (second(g) % 65536) as u16
+    (number_of(g, SECOND) % 65536) as u16
 }
 
-// What is to be left: the bytes, and the two lists.
-pub fn left<'a, 'b>(s: &'a [u8], g: &'b [usize]) -> &'a [u8] {
-    piece(s, DERIVED, given(g, LEFT))
-}
-
-pub fn left_x(g: &[usize]) -> &[usize] {
-    numbers(g, LIST_X, given(g, LEFT + 1))
-}
-
-pub fn left_y(g: &[usize]) -> &[usize] {
-    numbers(g, LIST_Y, given(g, LEFT + 2))
+// The first list that is to be left, or the second, which has taken its place.
+pub fn left_list<'a, 'b>(s: &'a [u8], g: &'b [usize], place: usize) -> &'b [usize] {
+    if there(s, HAS_LISTS) {
+        return list(g, place);
+    }
+    &g[..0]
 }

@@ -1,58 +1,43 @@
 // Replays the list of cases that is its standard input, a file: what the Rust, Git's own objects and the paper answered (oracle/README.md),
 // held against what the library answers. It names the cases that differ; the list's last ones are wrong on purpose, one for each number and
 // list that is compared. A line for each call says how many cases there are and how many agree.
+mod calls;
 mod cases;
 mod commits;
 mod lent;
 mod pieces;
 mod requests;
 mod trees;
+mod wide;
 
+use calls::called;
 use cases::ALL_BYTES;
 use cases::ALL_NUMBERS;
-use cases::ANSWERS;
-use cases::AT;
-use cases::BYTES;
-use cases::COUNTS;
-use cases::FROM;
-use cases::NUMBERS;
+use cases::FIELDS;
+use cases::TAKEN;
 use cases::WINDOW;
-use cases::given;
-use cases::raise;
-use cases::set_number;
-use cases::take_case;
-use cases::take_wanted;
-use commits::commit_call;
-use commits::read_commit;
-use commits::rewrite;
+use cases::take;
 use ground::byte_at;
-use lent::BYTE;
-use lent::NUMBER;
-use lent::bytes_right;
-use lent::lists_right;
-use lent::told_right;
+use lent::right;
 use libc::SEEK_SET;
 use libc::STDERR_FILENO;
 use libc::STDIN_FILENO;
 use libc::STDOUT_FILENO;
-use requests::compare_trees;
-use requests::mend_tree;
-use requests::request_call;
-use trees::list_call;
-use trees::out_call;
-use trees::plain_call;
+use std::num::wrapping_add_usize;
+use std::num::wrapping_sub_usize;
 
 // No list has more cases.
 const MOST_CASES: usize = 1048576;
 
-// The last call that there is; the counts of all cases stand in the place of the call after the most.
+// The last call that there is.
 const CALLS: usize = 31;
 
-const MOST_CALLS: usize = 63;
+// How many cases each call has, and in the place of call 63 how many there are in all; behind them how many agree.
+const ALL: usize = 63;
 
 const AGREE: usize = 64;
 
-const ALL: usize = COUNTS + MOST_CALLS;
+const COUNTS: usize = 128;
 
 // How many differences are said one by one: more than the cases that are wrong on purpose.
 const SAID: usize = 256;
@@ -68,24 +53,26 @@ fn say_with(word: &[u8], n: usize) {
 }
 
 // How many cases differ.
-fn differing(g: &[usize]) -> usize {
-    std::num::wrapping_sub_usize(given(g, ALL), given(g, ALL + AGREE))
+fn differing(counts: [usize; COUNTS]) -> usize {
+    wrapping_sub_usize(counts[ALL], counts[ALL + AGREE])
 }
 
-// One case more, of a call and of all.
-fn count(g: &mut [usize], at: usize) {
-    raise(g, at, 1);
-    raise(g, ALL, 1);
+// One case more, of a call, or of all.
+fn one_more(counts: [usize; COUNTS], call: usize, good: bool) -> [usize; COUNTS] {
+    let mut c = counts;
+    let at = call % AGREE;
+    c[at] = wrapping_add_usize(c[at], 1);
+    c[at + AGREE] = wrapping_add_usize(c[at + AGREE], good as usize);
+    c
 }
 
-fn agrees(g: &mut [usize], at: usize) {
-    raise(g, std::num::wrapping_add_usize(at, AGREE), 1);
-    raise(g, ALL + AGREE, 1);
+fn counted(counts: [usize; COUNTS], call: usize, good: bool) -> [usize; COUNTS] {
+    one_more(one_more(counts, call % ALL, good), ALL, good)
 }
 
-// A case that differs: its index, from 0 on, and its call.
-fn say_difference(index: usize, call: usize, g: &[usize]) {
-    if SAID < differing(g) {
+// A case that differs is named: its index, from 0 on, and its call.
+fn say_verdict(good: bool, index: usize, call: usize, differ: usize) {
+    if good | (SAID < differ) {
         return;
     }
     say_with(b"differs: case ", index);
@@ -93,172 +80,82 @@ fn say_difference(index: usize, call: usize, g: &[usize]) {
     say(b"\n");
 }
 
-// A case that is replayed: counted, and named where it differs.
-fn counted(good: bool, index: usize, call: usize, g: &mut [usize]) {
-    let at = call % MOST_CALLS + COUNTS;
-    count(g, at);
-    if good {
-        agrees(g, at);
-        return;
-    }
-    say_difference(index, call, g);
+// A case: its call, whether it agrees, and how many bytes it has.
+struct Replayed {
+    call: usize,
+    good: bool,
+    length: usize,
 }
 
-// The calls that are lent one list, and those that are lent two; more than there is cannot be lent.
-fn in_list(s: &[u8], g: &[usize], out: &mut [u8], p: &mut [usize]) -> [usize; ANSWERS] {
-    let n = given(g, 1);
-    if p.len() < n {
-        return [0; ANSWERS];
+// The call, on what the case is given, and whether it answers and leaves what is wanted; so many bytes of the list were read. Where there is no such
+// call, nothing is taken.
+fn one_case(s: &mut [u8], g: &mut [usize], n: usize) -> Replayed {
+    let call = byte_at(s, 0) as usize;
+    if CALLS <= wrapping_sub_usize(call, 1) {
+        return Replayed {
+            call,
+            good: false,
+            length: 0,
+        };
     }
-    let call = byte_at(s, 0);
-    if call == 27 {
-        return mend_tree(s, g, out, &mut p[0..n]);
-    }
-    if call == 30 {
-        return compare_trees(s, g, out, &mut p[0..n]);
-    }
-    list_call(call, s, g, &mut p[0..n])
+    let at = take(s, g, 0, TAKEN, 2);
+    let left = called(s, g);
+    let length = take(s, g, TAKEN, FIELDS, at);
+    let good = right(s, g, left) & (length <= n);
+    Replayed { call, good, length }
 }
 
-fn in_lists(s: &[u8], g: &[usize], p: &mut [usize], q: &mut [usize]) -> [usize; ANSWERS] {
-    let n = given(g, 1);
-    let m = given(g, 2);
-    if p.len() < n {
-        return [0; ANSWERS];
-    }
-    if q.len() < m {
-        return [0; ANSWERS];
-    }
-    read_commit(s, g, &mut p[0..n], &mut q[0..m])
-}
-
-// The calls that are lent bytes, or nothing.
-fn in_bytes(s: &[u8], g: &[usize], out: &mut [u8]) -> [usize; ANSWERS] {
-    let call = byte_at(s, 0);
-    match call {
-        1 | 3 | 4 | 8 | 9 | 10 | 12 => plain_call(call, s, g),
-        2 | 13 | 14 | 15 | 16 => out_call(call, s, g, out),
-        18 | 19 | 20 => commit_call(call, s, g, out),
-        _ => request_call(call, s, g, out),
-    }
-}
-
-// A call, on lent bytes of their length.
-fn answer(
-    s: &[u8],
-    g: &[usize],
-    out: &mut [u8],
-    p: &mut [usize],
-    q: &mut [usize],
-) -> [usize; ANSWERS] {
-    match byte_at(s, 0) {
-        5 | 6 | 7 | 11 | 27 | 30 => in_list(s, g, out, p),
-        17 => in_lists(s, g, p, q),
-        21 => rewrite(s, g, out, p, q),
-        _ => in_bytes(s, g, out),
-    }
-}
-
-fn in_rooms(
-    s: &[u8],
-    g: &[usize],
-    out: &mut [u8],
-    p: &mut [usize],
-    q: &mut [usize],
-) -> [usize; ANSWERS] {
-    let n = given(g, 0);
-    if out.len() < n {
-        return [0; ANSWERS];
-    }
-    answer(s, g, &mut out[0..n], p, q)
-}
-
-// Whether what is left is as it is to be.
-fn left_right(s: &[u8], g: &[usize], out: &[u8], p: &[usize], q: &[usize]) -> bool {
-    if bytes_right(s, g, out) {
-        return lists_right(g, p, q);
-    }
-    false
-}
-
-// A call, and whether it answers and leaves what is wanted.
-fn held(s: &mut [u8], g: &mut [usize]) -> bool {
-    let mut out = [BYTE; BYTES];
-    let mut p = [NUMBER; NUMBERS];
-    let mut q = [NUMBER; NUMBERS];
-    let told = in_rooms(s, g, &mut out, &mut p, &mut q);
-    take_wanted(s, g);
-    if told_right(told, g) {
-        return left_right(s, g, &out, &p, &q);
-    }
-    false
-}
-
-// Whether a case agrees; where there is no such call, nothing is read.
-fn one_case(s: &mut [u8], g: &mut [usize]) -> bool {
-    if CALLS <= std::num::wrapping_sub_usize(byte_at(s, 0) as usize, 1) {
-        set_number(g, AT, 0);
-        return false;
-    }
-    take_case(s, g);
-    held(s, g)
-}
-
-// The window of the list that starts where the case does: how many bytes it has.
-fn window(s: &mut [u8], g: &[usize]) -> usize {
-    libc::lseek(
-        STDIN_FILENO,
-        (given(g, FROM) % 1099511627776) as i64,
-        SEEK_SET,
-    );
+// The window of the list that starts at a place of the file: how many bytes it has.
+fn window(s: &mut [u8], from: usize) -> usize {
+    libc::lseek(STDIN_FILENO, (from % 1099511627776) as i64, SEEK_SET);
     if s.len() < WINDOW {
         return 0;
     }
     io::read_full(STDIN_FILENO, &mut s[0..WINDOW])
 }
 
-// The next case of the list: how many bytes it has; 0 where the list ends, or has a call that there is not.
-fn replay_case(index: usize, s: &mut [u8], g: &mut [usize]) -> usize {
-    let n = window(s, g);
-    if n == 0 {
-        return 0;
-    }
-    let good = one_case(s, g);
-    let length = given(g, AT);
-    counted(good && length <= n, index, byte_at(s, 0) as usize, g);
-    raise(g, FROM, length);
-    length
-}
-
-fn replay(s: &mut [u8], g: &mut [usize]) {
+// Each case is counted, and named where it differs. The list ends with the file, or with a call that there is not.
+fn replay(s: &mut [u8], g: &mut [usize]) -> [usize; COUNTS] {
+    let mut counts = [0usize; COUNTS];
     let mut index: usize = 0;
+    let mut from: usize = 0;
     while index < MOST_CASES {
-        if replay_case(index, s, g) == 0 {
-            return;
+        let n = window(s, from);
+        if n == 0 {
+            return counts;
         }
+        let r = one_case(s, g, n);
+        let more = counted(counts, r.call, r.good);
+        counts = more;
+        say_verdict(r.good, index, r.call, differing(more));
+        if r.length == 0 {
+            return counts;
+        }
+        from = wrapping_add_usize(from, r.length);
         index += 1;
     }
+    counts
 }
 
-fn line(g: &[usize], call: usize) {
-    let at = call % MOST_CALLS + COUNTS;
+fn line(counts: [usize; COUNTS], call: usize) {
+    let at = call % ALL;
     say_with(b"call ", call);
-    say_with(b": ", given(g, at));
-    say_with(b" agree ", given(g, at + AGREE));
+    say_with(b": ", counts[at]);
+    say_with(b" agree ", counts[at + AGREE]);
     say(b"\n");
 }
 
-fn lines(g: &[usize]) {
+fn lines(counts: [usize; COUNTS]) {
     let mut call: usize = 1;
     while call <= CALLS {
-        line(g, call);
+        line(counts, call);
         call += 1;
     }
 }
 
-fn sum(g: &[usize]) {
-    say_with(b"cases ", given(g, ALL));
-    say_with(b", differ ", differing(g));
+fn sum(counts: [usize; COUNTS]) {
+    say_with(b"cases ", counts[ALL]);
+    say_with(b", differ ", differing(counts));
     say(b"\n");
 }
 
@@ -268,9 +165,9 @@ fn work(s: &mut [u8], g: &mut [usize]) {
         io::write_all(STDERR_FILENO, b"replay: standard input is no file\n");
         return;
     }
-    replay(s, g);
-    lines(g);
-    sum(g);
+    let counts = replay(s, g);
+    lines(counts);
+    sum(counts);
 }
 
 fn main() {

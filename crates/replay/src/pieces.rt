@@ -1,12 +1,10 @@
 // The check in pieces, as trees.rt has the other calls on trees.
-ghost use Prim.Native.Nat.{_<_, _≤_};
-use crate::cases::ANSWERS;
-use crate::cases::ROOMS;
+use crate::cases::H;
+use crate::cases::THIRD;
 use crate::cases::a;
-use crate::cases::given;
-use crate::cases::h;
+use crate::cases::number_of;
 use crate::cases::rules;
-use crate::trees::four;
+ghost use Prim.Native.Nat.{_<_, _≤_};
 
 // Where the piece ends that begins at a place: so many bytes on, or with the object; 0 is as many as there are.
 fn cut(at: usize, size: usize, end: usize) -> usize
@@ -39,21 +37,21 @@ fn feed(
 }
 
 // 31: an object, in pieces of so many bytes.
-pub fn check_in_pieces(s: &[u8], g: &[usize]) -> [usize; ANSWERS] {
+pub fn check_in_pieces(s: &[u8], g: &[usize]) -> [usize; 4] {
     let mut held = [0u8; 4096];
     let mut ends = [0u32; 4097];
     let mut marks = [0usize; 18];
     let mut first = [0u8; 8];
     let mut t = [0usize; 4];
-    border_check::check_start(h(g), rules(g), &mut marks, &mut first);
+    border_check::check_start(number_of(g, H), rules(g), &mut marks, &mut first);
     feed(
         a(s, g),
-        given(g, ROOMS + 2),
+        number_of(g, THIRD),
         &mut held,
         &mut ends,
         &mut marks,
         &mut first,
     );
     border_check::check_end(&marks, &first, &mut t);
-    four(t)
+    t
 }

@@ -6,10 +6,10 @@ use Rattle.replay.proofs.main.Statement.{statement}
 use Rattle.replay.proofs.main.Tie as tie
 
 slice-aggregate-work : tie.Need-slice-aggregate-work
-slice-aggregate-work c = sym (length-replicate {A = ℕ} 73728 0)
+slice-aggregate-work c = sym (length-replicate {A = ℕ} 106496 0)
 
 slice-aggregate-work-2 : tie.Need-slice-aggregate-work-2
-slice-aggregate-work-2 c = sym (length-replicate {A = ℕ} 4096 0)
+slice-aggregate-work-2 c = sym (length-replicate {A = ℕ} 2656 0)
 
 work-requires : tie.Need-work-requires
 work-requires c κs = tt

@@ -1,16 +1,16 @@
--- `replay::numbers_at` is safe and ends. Assumes nothing.
+-- `replay::cases::numbers_at` is safe and ends. Assumes nothing.
 use Rattle.replay.proofs.cases.numbers_at.Statement.{statement}
 use Rattle.replay.proofs.cases.numbers_at.Tie as tie
 use borrow.Author.Needs.{needs}
-use mathlib.Core.Path.{_≡_}
 use Prim.Native.Nat.{_-_}
+use mathlib.Core.Path.{_≡_}
 use lib.ListN.{length}
 
 abbrev Inv-loop : tie.InvT-loop
-Inv-loop s at n out₀ from count next₀ i₀ out next i = length out ≡ length out₀
+Inv-loop s at n g₀ to count next₀ i₀ g next i = length g ≡ length g₀
 
 abbrev μ-loop : tie.MeasureT-loop
-μ-loop s at n out₀ from count next₀ i₀ out next i = count - i
+μ-loop s at n g₀ to count next₀ i₀ g next i = count - i
 
 least-requires : tie.Need-least-requires Inv-loop μ-loop
 least-requires c κs = search needs

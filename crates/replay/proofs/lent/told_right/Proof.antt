@@ -1,14 +1,14 @@
--- `replay::told_right` is safe and ends. Assumes nothing.
+-- `replay::lent::told_right` is safe and ends. Assumes nothing.
 use Rattle.replay.proofs.lent.told_right.Statement.{statement}
 use Rattle.replay.proofs.lent.told_right.Tie as tie
 use borrow.Author.Needs.{needs}
 use Prim.Native.Nat.{_-_}
 
 abbrev Inv-loop : tie.InvT-loop
-Inv-loop g told i₀ i = Unit {0}
+Inv-loop want told i₀ i = Unit {0}
 
 abbrev μ-loop : tie.MeasureT-loop
-μ-loop g told i₀ i = 16 - i
+μ-loop want told i₀ i = 16 - i
 
 loop-holds : tie.Need-loop-holds Inv-loop μ-loop
 loop-holds c = search needs
@@ -18,9 +18,6 @@ mul-if1 c = search needs
 
 array-read-if1 : tie.Need-array-read-if1 Inv-loop μ-loop
 array-read-if1 c = search needs
-
-add-given : tie.Need-add-given Inv-loop μ-loop
-add-given c = search needs
 
 given-requires : tie.Need-given-requires Inv-loop μ-loop
 given-requires c κs = search needs
@@ -49,7 +46,6 @@ told-right-spec =
     loop-holds
     mul-if1
     array-read-if1
-    add-given
     given-requires
     returns
     add-i

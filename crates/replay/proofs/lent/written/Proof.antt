@@ -1,24 +1,23 @@
--- `replay::written` is safe and ends. Assumes nothing.
+-- `replay::lent::written` is safe and ends. Assumes nothing.
 use Rattle.replay.proofs.lent.written.Statement.{statement}
 use Rattle.replay.proofs.lent.written.Tie as tie
 use borrow.Author.Needs.{needs}
 use Prim.Native.Nat.{_-_}
-use lib.ListN.{length}
 
 abbrev Inv-loop : tie.InvT-loop
-Inv-loop lent want i₀ i = Unit {0}
+Inv-loop want n out i₀ i = Unit {0}
 
 abbrev μ-loop : tie.MeasureT-loop
-μ-loop lent want i₀ i = length lent - i
+μ-loop want n out i₀ i = n - i
 
 returns : tie.Need-returns Inv-loop μ-loop
 returns c = search needs
 
 loop-holds : tie.Need-loop-holds Inv-loop μ-loop
-loop-holds c = tt
+loop-holds c = search needs
 
-shared-slice-read-if2 : tie.Need-shared-slice-read-if2 Inv-loop μ-loop
-shared-slice-read-if2 c = search needs
+array-read-if2 : tie.Need-array-read-if2 Inv-loop μ-loop
+array-read-if2 c = search needs
 
 byte-right-requires : tie.Need-byte-right-requires Inv-loop μ-loop
 byte-right-requires c κs = search needs
@@ -33,7 +32,7 @@ loop-less : tie.Need-loop-less Inv-loop μ-loop
 loop-less c = search needs
 
 loop-again : tie.Need-loop-again Inv-loop μ-loop
-loop-again c = tt
+loop-again c = search needs
 
 returns-3 : tie.Need-returns-3 Inv-loop μ-loop
 returns-3 c = search needs
@@ -46,7 +45,7 @@ written-spec =
     μ-loop
     returns
     loop-holds
-    shared-slice-read-if2
+    array-read-if2
     byte-right-requires
     returns-2
     add-i

@@ -1,9 +1,9 @@
--- `replay::steps` is safe and ends. Assumes nothing.
+-- `replay::trees::steps` is safe and ends. Assumes nothing.
 use Rattle.replay.proofs.trees.steps.Statement.{statement}
 use Rattle.replay.proofs.trees.steps.Tie as tie
 use borrow.Author.Needs.{needs}
-use mathlib.Core.Path.{_≡_, refl}
 use Prim.Native.Nat.{_-_}
+use mathlib.Core.Path.{_≡_}
 use lib.ListN.{length}
 
 abbrev Inv-loop : tie.InvT-loop
@@ -13,13 +13,16 @@ abbrev μ-loop : tie.MeasureT-loop
 μ-loop object h from p₀ at₀ to₀ found₀ p at to found = 16384 - found
 
 loop-holds : tie.Need-loop-holds Inv-loop μ-loop
-loop-holds c = refl
+loop-holds c = search needs
 
 step-requires : tie.Need-step-requires Inv-loop μ-loop
 step-requires c κs = search needs
 
 array-read-if1 : tie.Need-array-read-if1 Inv-loop μ-loop
 array-read-if1 c = search needs
+
+walked-requires : tie.Need-walked-requires Inv-loop μ-loop
+walked-requires c κs = search needs
 
 same-length : tie.Need-same-length Inv-loop μ-loop
 same-length c = search needs
@@ -60,6 +63,7 @@ steps-spec =
     loop-holds
     step-requires
     array-read-if1
+    walked-requires
     same-length
     returns
     set-record-requires

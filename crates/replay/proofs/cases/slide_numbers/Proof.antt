@@ -1,6 +1,6 @@
--- `replay::copy_numbers` is safe and ends. Assumes nothing.
-use Rattle.replay.proofs.cases.copy_numbers.Statement.{statement}
-use Rattle.replay.proofs.cases.copy_numbers.Tie as tie
+-- `replay::cases::slide_numbers` is safe and ends. Assumes nothing.
+use Rattle.replay.proofs.cases.slide_numbers.Statement.{statement}
+use Rattle.replay.proofs.cases.slide_numbers.Tie as tie
 use borrow.Author.Needs.{needs}
 use Prim.Native.Nat.{_-_}
 use mathlib.Core.Path.{_≡_}
@@ -17,6 +17,9 @@ least-requires c κs = search needs
 
 loop-holds : tie.Need-loop-holds Inv-loop μ-loop
 loop-holds c = search needs
+
+turn-requires : tie.Need-turn-requires Inv-loop μ-loop
+turn-requires c κs = search needs
 
 wrapping-add-usize-requires : tie.Need-wrapping-add-usize-requires Inv-loop μ-loop
 wrapping-add-usize-requires c κs = search needs
@@ -45,14 +48,15 @@ same-length c = search needs
 returns : tie.Need-returns Inv-loop μ-loop
 returns c = search needs
 
-pub copy-numbers-spec : {M : Type 1} → statement M
-copy-numbers-spec =
+pub slide-numbers-spec : {M : Type 1} → statement M
+slide-numbers-spec =
     tie.close
     (tie.spec
     Inv-loop
     μ-loop
     least-requires
     loop-holds
+    turn-requires
     wrapping-add-usize-requires
     given-requires
     wrapping-add-usize-requires-2
