@@ -2,6 +2,7 @@
 use mathlib.Core.Path.{_≡_, refl, sym, ap, subst, _∙_}
 use mathlib.Core.Bool.{Bool, true, false}
 use mathlib.Core.List.{List}
+use mathlib.Core.Logic.{⊎-elim}
 use Prim.Native.Nat.{ℕ, zero, suc, _+_, _-_, _*_, _/_, _^_, _≤_, _<_, max}
 use native.Mathlib.Decide.{decLt}
 use native.Mathlib.Omega.{arith}
@@ -11,6 +12,7 @@ use borrow.Author.Tests.{eq-eqb, ne-eqb, lt-ltb, le-ltb}
 use Rattle.ground.specs.Verdict.{verdict, gateOf}
 use Rattle.ground.specs.declared.Verdict.{Verdict}
 use Rattle.ground.specs.declared.Gate.the-variants.{Open, Shut}
+use Rattle.ground.proofs.Laws.{gate-shut}
 use Rattle.order.specs.Order.{nameOrder}
 use Rattle.order.specs.declared.Order.{Order}
 use Rattle.order.specs.declared.Order.the-variants.{Below, Same, Above}
@@ -187,3 +189,12 @@ module _ (h : ℕ) (object : List ℕ) (records : List EntryRecord) (name : List
         → anyIn h object records name ≡ record { verdict = second .verdict; index = second .index; compared = first .compared + second .compared }
     unfolding anyIn
     any-second n = rw (← f, ← s) (simp (eq-eqb (first .verdict .number) 15 gone, ne-eqb (second .verdict .number) 10 n))
+
+pub any-shut : (h : ℕ) (object : List ℕ) (records : List EntryRecord) (name : List ℕ) (v : Verdict)
+    → gateOf h (max (length object) (length name)) (length records) ≡ Shut v → anyIn h object records name ≡ declined v
+any-shut h object records name v e =
+    any-first h object records name (sym (lookup-shut h object records name false v e))
+    (⊎-elim
+    (λ (q : v ≡ verdict 1 0). λ z. omega (arith, ap (λ (x : Verdict). x .number) q, z))
+    (λ (q : v ≡ verdict 2 0). λ z. omega (arith, ap (λ (x : Verdict). x .number) q, z))
+    (gate-shut h (max (length object) (length name)) (length records) v e))

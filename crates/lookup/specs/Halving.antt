@@ -7,6 +7,8 @@ use Rattle.ground.specs.Verdict.{verdict, fine}
 use Rattle.ground.specs.declared.Verdict.{Verdict}
 use Rattle.order.specs.declared.Order.{Order}
 use Rattle.order.specs.declared.Order.the-variants.{Below, Same, Above}
+use Rattle.lookup.specs.declared.Ended.{Ended}
+use Rattle.lookup.specs.declared.Ended.the-variants.{Found, Bad, Absent}
 use Rattle.lookup.specs.declared.Looked.{Looked}
 
 -- what comparing a record gives: it is not well formed, or it stands so to the name sought
@@ -23,6 +25,12 @@ absent c = record { verdict = verdict 15 0; index = 0; compared = c }
 
 abbrev pub declined : Verdict → Looked
 declined v = record { verdict = v; index = 0; compared = 0 }
+
+-- what is answered to a search that ended so
+abbrev pub toldOf : Ended → Looked
+toldOf (Found i c) = found i c
+toldOf (Bad i) = declined (verdict 10 i)
+toldOf (Absent c) = absent c
 
 -- the record to compare between low and high
 unfoldable pub mid : ℕ → ℕ → ℕ

@@ -10,7 +10,7 @@ ghost use mathlib.Core.Path.{_≡_};
 ghost use Prim.Native.Nat.{_<_};
 ghost use lib.ListN.{length};
 ghost use Rattle.entry.specs.Record.{many, recordsOf};
-ghost use Rattle.lookup.specs.Halving.{mostComparisons};
+ghost use Rattle.lookup.specs.Halving.{mostComparisons, toldOf};
 ghost use Rattle.lookup.specs.Lookup.{nth, lookupIn, anyIn, Allowed};
 
 // The answer of a lookup: the index of what was found, and how many records were compared.
@@ -18,6 +18,13 @@ pub struct Looked {
     pub verdict: Verdict,
     pub index: usize,
     pub compared: usize,
+}
+
+// How a search ended: at the record that was found, at one that is not well formed, or without one; and how many were compared.
+enum Ended {
+    Found(usize, usize),
+    Bad(usize),
+    Absent(usize),
 }
 
 // The most records that a lookup among n compares: as many as n has binary digits.
@@ -48,9 +55,9 @@ fn record_at(records: &[usize], i: usize) -> EntryRecord
 }
 
 // The lookup over flat records, within the bounds.
-fn searched(object: &[u8], h: usize, records: &[usize], name: &[u8], folder: bool) -> Looked
+fn searched(object: &[u8], h: usize, records: &[usize], name: &[u8], folder: bool) -> Ended
     requires { ⌜ Allowed h (now object) (recordsOf (now records)) (now name) ⌝ }
-    ensures { λ r. ⌜ r ≡ lookupIn h (now (object .entry)) (recordsOf (now (records .entry))) (now (name .entry)) folder ⌝ }
+    ensures { λ r. ⌜ toldOf r ≡ lookupIn h (now (object .entry)) (recordsOf (now (records .entry))) (now (name .entry)) folder ⌝ }
 {
     let mut low: usize = 0;
     let mut high = records.len() / entry_record::WIDTH;
@@ -69,11 +76,7 @@ fn searched(object: &[u8], h: usize, records: &[usize], name: &[u8], folder: boo
                     continue;
                 }
                 Order::Same => {
-                    return Looked {
-                        verdict: FINE,
-                        index: middle,
-                        compared,
-                    };
+                    return Ended::Found(middle, compared);
                 }
                 Order::Above => {
                     high = middle;
@@ -81,23 +84,38 @@ fn searched(object: &[u8], h: usize, records: &[usize], name: &[u8], folder: boo
                 }
             }
         }
-        return Looked {
+        return Ended::Bad(middle);
+    }
+    Ended::Absent(compared)
+}
+
+// What is answered to a search that ended.
+fn told(ended: Ended) -> Looked
+    ensures { λ r. ⌜ r ≡ toldOf ended ⌝ }
+{
+    match ended {
+        Ended::Found(index, compared) => Looked {
+            verdict: FINE,
+            index,
+            compared,
+        },
+        Ended::Bad(place) => Looked {
             verdict: Verdict {
                 number: BAD_RECORD,
-                place: middle,
+                place,
                 ..FINE
             },
             index: 0,
             compared: 0,
-        };
-    }
-    Looked {
-        verdict: Verdict {
-            number: NOT_THERE,
-            ..FINE
         },
-        index: 0,
-        compared,
+        Ended::Absent(compared) => Looked {
+            verdict: Verdict {
+                number: NOT_THERE,
+                ..FINE
+            },
+            index: 0,
+            compared,
+        },
     }
 }
 
@@ -107,7 +125,7 @@ pub fn bisect_entry(object: &[u8], h: usize, records: &[usize], name: &[u8], fol
 {
     let n = records.len() / entry_record::WIDTH;
     match ground::bounds(h, ground::longer(object.len(), name.len()), n) {
-        Gate::Open => searched(object, h, records, name, folder),
+        Gate::Open => told(searched(object, h, records, name, folder)),
         Gate::Shut(v) => Looked {
             verdict: v,
             index: 0,
@@ -116,15 +134,16 @@ pub fn bisect_entry(object: &[u8], h: usize, records: &[usize], name: &[u8], fol
     }
 }
 
-// The lookup of a name whatever its sort: as anything else than a folder, and where that is not there, as a folder.
-pub fn bisect_any(object: &[u8], h: usize, records: &[usize], name: &[u8]) -> Looked
+// The lookup of a name whatever its sort, within the bounds: as anything else than a folder, and where that is not there, as a folder.
+fn searched_any(object: &[u8], h: usize, records: &[usize], name: &[u8]) -> Looked
+    requires { ⌜ Allowed h (now object) (recordsOf (now records)) (now name) ⌝ }
     ensures { λ r. ⌜ r ≡ anyIn h (now (object .entry)) (recordsOf (now (records .entry))) (now (name .entry)) ⌝ }
 {
-    let first = bisect_entry(object, h, records, name, false);
+    let first = told(searched(object, h, records, name, false));
     if first.verdict.number != NOT_THERE {
         return first;
     }
-    let second = bisect_entry(object, h, records, name, true);
+    let second = told(searched(object, h, records, name, true));
     if second.verdict.number == BAD_RECORD {
         return second;
     }
@@ -135,5 +154,20 @@ pub fn bisect_any(object: &[u8], h: usize, records: &[usize], name: &[u8]) -> Lo
         verdict,
         index,
         compared,
+    }
+}
+
+// The same over any lists.
+pub fn bisect_any(object: &[u8], h: usize, records: &[usize], name: &[u8]) -> Looked
+    ensures { λ r. ⌜ r ≡ anyIn h (now (object .entry)) (recordsOf (now (records .entry))) (now (name .entry)) ⌝ }
+{
+    let n = records.len() / entry_record::WIDTH;
+    match ground::bounds(h, ground::longer(object.len(), name.len()), n) {
+        Gate::Open => searched_any(object, h, records, name),
+        Gate::Shut(v) => Looked {
+            verdict: v,
+            index: 0,
+            compared: 0,
+        },
     }
 }

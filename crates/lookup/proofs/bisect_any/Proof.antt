@@ -2,44 +2,45 @@
 use borrow.Author.Needs.{needs}
 use Rattle.lookup.proofs.bisect_any.Statement.{statement}
 use Rattle.lookup.proofs.bisect_any.Tie as tie
-use mathlib.Core.Path.{sym}
-use native.Mathlib.Omega.{arith}
-use Rattle.lookup.proofs.Laws.{any-first, any-broken, any-second}
-use Rattle.lookup.proofs.Theorems.{looked-small}
+use mathlib.Core.Path.{sym, _∙_}
+use Rattle.entry.proofs.Laws.{records-many}
+use Rattle.lookup.proofs.Laws.{any-shut}
 
-bisect-entry-requires : tie.Need-bisect-entry-requires
-bisect-entry-requires c κs = search needs
+longer-requires : tie.Need-longer-requires
+longer-requires c κs = search needs
+
+bounds-requires : tie.Need-bounds-requires
+bounds-requires c κs = search needs
+
+enum-told : tie.Need-enum-told
+enum-told c = search needs
+
+searched-any-requires : tie.Need-searched-any-requires
+searched-any-requires c κs =
+    let number = records-many (c .before .before .before .before .before .before .before .args .records .now) in
+    let wide = c .before .before .before .longer .ensures in
+    rw (number, sym wide) (sym (c .before .before .bounds .ensures) ∙ c .enum-told .given .1)
+
+enum-known-v : tie.Need-enum-known-v
+enum-known-v c = search needs
 
 returns : tie.Need-returns
-returns c = sym (any-first _ _ _ _ (c .before .before .bisect-entry .ensures) (c .if1 .taken))
-
-bisect-entry-requires-2 : tie.Need-bisect-entry-requires-2
-bisect-entry-requires-2 c κs = search needs
+returns c = c .searched-any .ensures
 
 returns-2 : tie.Need-returns-2
 returns-2 c =
-    let first = c .before .before .before .before .before .bisect-entry .ensures in
-    sym (any-broken _ _ _ _ first (c .before .before .before .if1 .left) (c .before .before .bisect-entry2 .ensures) (c .if2 .taken))
-
-add-compared : tie.Need-add-compared
-add-compared c =
-    let first = c .before .before .before .before .before .before .before .before .bisect-entry .ensures in
-    let second = c .before .before .before .before .before .bisect-entry2 .ensures in
-    omega (arith, looked-small _ _ _ _ _ first, looked-small _ _ _ _ _ second)
-
-returns-3 : tie.Need-returns-3
-returns-3 c =
-    let first = c .before .before .before .before .before .before .before .before .bisect-entry .ensures in
-    let second = c .before .before .before .before .before .bisect-entry2 .ensures in
-    sym (any-second _ _ _ _ first (c .before .before .before .before .before .before .if1 .left) second (c .before .before .before .if2 .left))
+    let number = records-many (c .before .before .before .before .before .before .before .before .args .records .now) in
+    let wide = c .before .before .before .before .longer .ensures in
+    sym (any-shut _ _ _ _ _ (rw (number, sym wide) (sym (c .before .before .before .bounds .ensures) ∙ c .before .v .given .1)))
 
 pub bisect-any-spec : {M : Type 1} → statement M
 bisect-any-spec =
     tie.close
     (tie.spec
-    bisect-entry-requires
+    longer-requires
+    bounds-requires
+    enum-told
+    searched-any-requires
+    enum-known-v
     returns
-    bisect-entry-requires-2
-    returns-2
-    add-compared
-    returns-3)
+    returns-2)

@@ -24,8 +24,11 @@ searched-requires c κs =
 enum-known-v : tie.Need-enum-known-v
 enum-known-v c = search needs
 
+told-requires : tie.Need-told-requires
+told-requires c κs = search needs
+
 returns : tie.Need-returns
-returns c = c .searched .ensures
+returns c = c .told .ensures ∙ c .before .searched .ensures
 
 returns-2 : tie.Need-returns-2
 returns-2 c =
@@ -41,6 +44,7 @@ bisect-entry-spec =
     bounds-requires
     enum-told
     searched-requires
+    told-requires
     enum-known-v
     returns
     returns-2)
