@@ -17,6 +17,10 @@ use Rattle.ground.proofs.Laws.{equal, place-from}
 use Rattle.mode_code.specs.Code.{codeAt}
 use Rattle.reading.specs.Lengths.{nameAt, placeOf, Known, Lengths, remembered}
 
+-- how long a list of n zeros is, n a variable, so that no proof computes a long one
+pub zeros-many : (n : ℕ) → n ≡ length (replicate {A = ℕ} n 0)
+zeros-many n = sym (length-replicate n 0)
+
 -- a list of zeros keeps none
 zeros : (k n : ℕ) → getD (replicate {A = ℕ} k 0) n 0 ≡ 0
 zeros k n =

@@ -1,6 +1,6 @@
 // A whole tree object into lent records (docs/FORMAT.md, "Reading"). Follows tree/ref_iter.rs.
 ghost use mathlib.Core.Path.{_≡_};
-ghost use Prim.Native.Nat.{_≤_};
+ghost use Prim.Native.Nat.{_≤_, _<_};
 ghost use lib.ListN.{length, getD, take, drop};
 ghost use lib.Seq.{sets};
 ghost use Rattle.ground.specs.Scan.{placeFrom};
@@ -192,14 +192,40 @@ pub fn finish(s: &[u8], h: usize, got: Counted, records: &mut [usize]) -> Answer
     finish_by(s, h, got, &none, records)
 }
 
-// Both passes, within the bounds. A name is sought once in the first 2,040 entries, and twice in those behind them.
+// Both passes, within the bounds, by a list for the names' lengths.
+fn read_by(s: &[u8], h: usize, lengths: &mut [u8], records: &mut [usize]) -> Answer
+    requires { ⌜ Lengths h (now s) (now lengths) ⌝ }
+    ensures answer { λ r. ⌜ r ≡ inRoom (many (length (now (records .entry)))) (tally 0 (listing h (now (s .entry)))) ⌝ }
+    ensures records { λ r. ⌜ now (records .exit) ≡ finished h (now (s .entry)) (tally 0 (listing h (now (s .entry)))) (now (records .entry)) ⌝ }
+{
+    let got = count_plain(s, h, lengths);
+    finish_by(s, h, got, lengths, records)
+}
+
+// An object of more than 8 MiB: a name is sought once in the first 131,072 entries, and twice in those behind them. The call of itself is never
+// reached. It is there because the compiler lays no function that calls itself into its callers: only such an object takes this one's stack.
+fn read_long(s: &[u8], h: usize, records: &mut [usize]) -> Answer
+    requires { ⌜ 8388608 < length (now s) ⌝ }
+    ensures answer { λ r. ⌜ r ≡ inRoom (many (length (now (records .entry)))) (tally 0 (listing h (now (s .entry)))) ⌝ }
+    ensures records { λ r. ⌜ now (records .exit) ≡ finished h (now (s .entry)) (tally 0 (listing h (now (s .entry)))) (now (records .entry)) ⌝ }
+{
+    if s.len() <= 8388608 {
+        return read_long(s, h, records);
+    }
+    let mut lengths = [0u8; 131072];
+    read_by(s, h, &mut lengths, records)
+}
+
+// Both passes, with no more memory than an object of this length is worth: in one of at most 8 MiB a name is sought once in the first 2,040 entries.
 fn read_plain(s: &[u8], h: usize, records: &mut [usize]) -> Answer
     ensures answer { λ r. ⌜ r ≡ inRoom (many (length (now (records .entry)))) (tally 0 (listing h (now (s .entry)))) ⌝ }
     ensures records { λ r. ⌜ now (records .exit) ≡ finished h (now (s .entry)) (tally 0 (listing h (now (s .entry)))) (now (records .entry)) ⌝ }
 {
+    if 8388608 < s.len() {
+        return read_long(s, h, records);
+    }
     let mut lengths = [0u8; 2040];
-    let got = count_plain(s, h, &mut lengths);
-    finish_by(s, h, got, &lengths, records)
+    read_by(s, h, &mut lengths, records)
 }
 
 // The object's entries as records, five numbers each; a refusal changes none of the numbers lent.

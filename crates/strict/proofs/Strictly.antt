@@ -55,10 +55,7 @@ pub record Reading (k h : ℕ) (s : List ℕ) (at n m : ℕ) (last : Last) (mark
   pub within : at ≤ length s
   pub room : Roomy (length s) (length marks)
 
--- a list of n zeros, n a variable, so that no proof computes a long one: its length, and that it is marks enough
-pub marks-of : (n : ℕ) → n ≡ length (replicate {A = ℕ} n 0)
-marks-of n = sym (length-replicate n 0)
-
+-- a list of n zeros is marks enough
 pub marks-enough : (n bytes : ℕ) → Roomy bytes n → Roomy bytes (length (replicate {A = ℕ} n 0))
 marks-enough n bytes r = rw (length-replicate {A = ℕ} n 0) r
 

@@ -3,7 +3,8 @@ use Prim.Native.Nat.{ℕ, _<_}
 use native.Mathlib.Omega.{arith}
 use borrow.Fn.Kinds.{In}
 use borrow.Fn.PlainCycle.{Measures, is, falls, and}
-use Rattle.strict.proofs.Strictly.{marks-of, marks-enough}
+use Rattle.reading.proofs.Lengths.{zeros-many}
+use Rattle.strict.proofs.Strictly.{marks-enough}
 use Rattle.strict.proofs.count_large.Reads as count-large
 use Rattle.strict.proofs.count_large.Kinds as count-large-kinds
 use Rattle.strict.proofs.+count_large.Lts-count_large as count-large-lts
@@ -30,7 +31,7 @@ returns : (t : ℕ) → count-large-lts.Need-returns (claims t) (count-large-at 
 returns t c = absurd (omega arith)
 
 slice-aggregate-count-marked : (t : ℕ) → count-large-lts.Need-slice-aggregate-count-marked (claims t) (count-large-at t) count-large.Post
-slice-aggregate-count-marked t c = marks-of 46341
+slice-aggregate-count-marked t c = zeros-many 46341
 
 count-marked-requires : (t : ℕ) → count-large-lts.Need-count-marked-requires (claims t) (count-large-at t) count-large.Post
 count-marked-requires t c κs =

@@ -3,7 +3,8 @@ use Prim.Native.Nat.{ℕ, _<_}
 use native.Mathlib.Omega.{arith}
 use borrow.Fn.Kinds.{In}
 use borrow.Fn.PlainCycle.{Measures, is, falls, and}
-use Rattle.strict.proofs.Strictly.{marks-of, marks-enough}
+use Rattle.reading.proofs.Lengths.{zeros-many}
+use Rattle.strict.proofs.Strictly.{marks-enough}
 use Rattle.strict.proofs.count_medium.Reads as count-medium
 use Rattle.strict.proofs.count_medium.Kinds as count-medium-kinds
 use Rattle.strict.proofs.+count_medium.Lts-count_medium as count-medium-lts
@@ -30,7 +31,7 @@ returns : (t : ℕ) → count-medium-lts.Need-returns (claims t) (count-medium-a
 returns t c = absurd (omega arith)
 
 slice-aggregate-count-marked : (t : ℕ) → count-medium-lts.Need-slice-aggregate-count-marked (claims t) (count-medium-at t) count-medium.Post
-slice-aggregate-count-marked t c = marks-of 4096
+slice-aggregate-count-marked t c = zeros-many 4096
 
 count-marked-requires : (t : ℕ) → count-medium-lts.Need-count-marked-requires (claims t) (count-medium-at t) count-medium.Post
 count-marked-requires t c κs =
