@@ -1,8 +1,9 @@
 // Git's comparison of two names by words and blocks, for the lookup (docs/FORMAT.md, "Order"): what `order::name_order` answers, in fewer steps and more code.
+use ground::shorter;
 use order::Order;
 use order::by_next;
 ghost use mathlib.Core.Path.{_≡_};
-ghost use Prim.Native.Nat.{_+_, _≤_, _<_, min};
+ghost use Prim.Native.Nat.{_+_, _≤_, _<_};
 ghost use lib.ListN.{length, take, drop};
 ghost use Rattle.scan.specs.Word.{WordOf};
 ghost use Rattle.order.specs.Order.{nameOrder};
@@ -265,13 +266,6 @@ fn by_first(a: &[u8], b: &[u8], n: usize) -> Order
         return from_16(a, b, n);
     }
     under_16(a, b, n)
-}
-
-// The shorter of two lengths.
-fn shorter(a: usize, b: usize) -> usize
-    ensures { λ r. ⌜ r ≡ min a b ⌝ }
-{
-    if a < b { a } else { b }
 }
 
 // Names of any length and with any bytes; each says whether it is a tree's.

@@ -3,6 +3,7 @@ ghost use mathlib.Core.Path.{_≡_};
 ghost use Prim.Native.Nat.{_≤_, min};
 ghost use lib.ListN.{length};
 ghost use Rattle.doubles.specs.Stack.{keptOf, openAt, marksAt, isDouble, openOf, placeOf, marksOf};
+use ground::shorter;
 use order::Order;
 use order::by_next;
 use scan::common_start;
@@ -64,13 +65,6 @@ fn is_double(marks: &[u32], k: usize, len: usize, folder: bool) -> bool
         return mark == len;
     }
     false
-}
-
-// The shorter of two lengths.
-fn shorter(a: usize, b: usize) -> usize
-    ensures { λ r. ⌜ r ≡ min a b ⌝ }
-{
-    if a < b { a } else { b }
 }
 
 // An entry of size bytes that stands after one of len bytes, of which it shares p. The marks keep the names that are open.

@@ -1,6 +1,6 @@
 // What every layer stands on: the verdict and the two bounds (docs/FORMAT.md, "Numbers" and "Bounds").
 ghost use mathlib.Core.Path.{_≡_};
-ghost use Prim.Native.Nat.{max};
+ghost use Prim.Native.Nat.{max, min};
 ghost use lib.ListN.{getD};
 ghost use Rattle.ground.specs.Verdict.{sizeGate, gateOf};
 
@@ -138,6 +138,13 @@ pub fn longer(a: usize, b: usize) -> usize
     ensures { λ r. ⌜ r ≡ max a b ⌝ }
 {
     if a < b { b } else { a }
+}
+
+// The smaller of two lengths.
+pub fn shorter(a: usize, b: usize) -> usize
+    ensures { λ r. ⌜ r ≡ min a b ⌝ }
+{
+    if a < b { a } else { b }
 }
 
 // The byte at a place, or 0 past the end.

@@ -1,18 +1,12 @@
 // Whether two neighbours in an index of a bundle name the same id: where it is sorted, then an id stands twice.
 ghost use mathlib.Core.Path.{_≡_};
-ghost use Prim.Native.Nat.{_/_, min};
+ghost use Prim.Native.Nat.{_/_};
 ghost use lib.ListN.{take, drop};
 ghost use Rattle.ground.specs.Scan.{sameBytes};
 ghost use Rattle.sorting.specs.Repeats.{touches};
 ghost use Rattle.neighbours.specs.Sorted.{sameShort};
+use ground::shorter;
 use scan::same_bytes;
-
-// The shorter of two lengths.
-fn shorter(a: usize, b: usize) -> usize
-    ensures { λ r. ⌜ r ≡ min a b ⌝ }
-{
-    if a < b { a } else { b }
-}
 
 // Whether two elements name the same id.
 fn same_ids(s: &[u8], h: usize, x: u32, y: u32) -> bool

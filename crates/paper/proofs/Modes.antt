@@ -46,7 +46,8 @@ of-ground = record {
   bounds = keeps-reads _ (λ i. tt) _ _ _ (λ i o m. m) (λ i. each-gate (Of _ ofGate) (done refl refl) (zero refl refl) (zero refl refl) _ _ _);
   scans =
       ((λ i. tt), (λ i o p. same)) and ((λ i. tt), (λ i o p. same)) and ((λ i. tt), (λ i o p. same)) and ((λ i. tt), (λ i o p. same)) and
-      ((λ i. tt), (λ i o p. same)) and ((λ i. tt), (λ i o p. same)) and ((λ i. tt), (λ i o p. same)) and ((λ i. tt), (λ i o p. same)) and none;
+      ((λ i. tt), (λ i o p. same)) and ((λ i. tt), (λ i o p. same)) and ((λ i. tt), (λ i o p. same)) and ((λ i. tt), (λ i o p. same)) and
+      ((λ i. tt), (λ i o p. same)) and none;
   put = keeps-stores _ (λ i. tt) _ _ _ _ (λ i o m. (refl, m));
   put-ended = keeps-stores _ (λ i. tt) _ _ _ _ (λ i o m. (refl, m));
 }

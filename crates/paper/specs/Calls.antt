@@ -103,6 +103,7 @@ bounds = reads (call ground.bounds.Kinds.ps ground.bounds.Kinds.r ground.bounds.
 abbrev pub scans : List Call
 scans =
     call ground.longer.Kinds.ps ground.longer.Kinds.r ground.longer.Reads.Asked ground.longer.Reads.Post
+    ∷ call ground.shorter.Kinds.ps ground.shorter.Kinds.r ground.shorter.Reads.Asked ground.shorter.Reads.Post
     ∷ call ground.byte_at.Kinds.ps ground.byte_at.Kinds.r ground.byte_at.Reads.Asked ground.byte_at.Reads.Post
     ∷ call scan.find_byte.Kinds.ps scan.find_byte.Kinds.r scan.find_byte.Reads.Asked scan.find_byte.Reads.Post
     ∷ call scan.find_nul.Kinds.ps scan.find_nul.Kinds.r scan.find_nul.Reads.Asked scan.find_nul.Reads.Post

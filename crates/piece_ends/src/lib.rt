@@ -1,6 +1,5 @@
 // How a strict check of a tree object in pieces begins and how it ends (docs/FORMAT.md, "A check in pieces").
 ghost use mathlib.Core.Path.{_≡_};
-ghost use Prim.Native.Nat.{min};
 ghost use lib.ListN.{take};
 ghost use Rattle.mode.specs.Read.{readMode};
 ghost use Rattle.arriving.specs.Feed.{startOf, headPart, finishOf};
@@ -14,6 +13,7 @@ use ground::Gate;
 use ground::NO_MODE;
 use ground::NO_NUL;
 use ground::Verdict;
+use ground::shorter;
 use mode::EntryMode;
 use mode::ModeRead;
 use piece_marks::fresh;
@@ -28,13 +28,6 @@ pub fn start(h: usize, rules: u16) -> Marks
         Gate::Open => fresh(h, rules, FINE),
         Gate::Shut(v) => fresh(h, rules, v),
     }
-}
-
-// The smaller of two numbers.
-fn shorter(a: usize, b: usize) -> usize
-    ensures { λ r. ⌜ r ≡ min a b ⌝ }
-{
-    if a < b { a } else { b }
 }
 
 // The part that is missing where so many first bytes of an entry have come.

@@ -1,6 +1,5 @@
 // A name that arrives byte by byte over the one before it, and what the rules say of a finished entry (docs/FORMAT.md, "A check in pieces").
 ghost use mathlib.Core.Path.{_≡_};
-ghost use Prim.Native.Nat.{min};
 ghost use Rattle.arriving.specs.Feed.{meet, sharing, isOver, judged};
 use arriving::Last;
 use arriving::Line;
@@ -8,6 +7,7 @@ use arriving::Stand;
 use ground::DONE;
 use ground::MODE_TEXT;
 use ground::ORDER;
+use ground::shorter;
 use rules::name_number;
 
 // How a name that was level stands after the byte b, where the held name has x, or has ended.
@@ -52,13 +52,6 @@ pub fn sharing(stand: Stand, size: usize, shared: usize) -> usize
         Stand::Over => shared,
         Stand::NotOver => shared,
     }
-}
-
-// The smaller of two numbers.
-fn shorter(a: usize, b: usize) -> usize
-    ensures { λ r. ⌜ r ≡ min a b ⌝ }
-{
-    if a < b { a } else { b }
 }
 
 // Whether a finished name that is level stands above the one before.

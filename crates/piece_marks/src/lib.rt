@@ -1,6 +1,5 @@
 // Marks of the check in pieces that are made anew: a refusal, so many bytes more, and what a byte past the bound settles.
 ghost use mathlib.Core.Path.{_≡_};
-ghost use Prim.Native.Nat.{min};
 ghost use mathlib.Core.Bool.{_&&_};
 ghost use lib.Dec.{eqb, leb};
 ghost use lib.ListN.{take};
@@ -16,6 +15,7 @@ use ground::FINE;
 use ground::MOST_RECORDS;
 use ground::NO_MODE;
 use ground::Verdict;
+use ground::shorter;
 use mode::EntryMode;
 use mode::ModeRead;
 
@@ -68,13 +68,6 @@ pub fn is_full(k: usize, count: usize) -> bool
         return MOST_RECORDS <= count;
     }
     false
-}
-
-// The smaller of two numbers.
-fn shorter(a: usize, b: usize) -> usize
-    ensures { λ r. ⌜ r ≡ min a b ⌝ }
-{
-    if a < b { a } else { b }
 }
 
 // The mode that so many of the first bytes tell.

@@ -8,17 +8,11 @@ use arriving::Last;
 use arriving::Line;
 use arriving::MOST_HELD;
 use arriving::Stand;
+use ground::shorter;
 use output::put;
 use piece_judge::meet;
 use scan::common_start;
 use scan::find_nul;
-
-// The smaller of two numbers.
-fn shorter(a: usize, b: usize) -> usize
-    ensures { λ r. ⌜ r ≡ min a b ⌝ }
-{
-    if a < b { a } else { b }
-}
 
 // How a name stands after some bytes, and how many it shares with the held one.
 pub struct Stood {

@@ -1,23 +1,16 @@
 // A name over the one before it, which is held (docs/FORMAT.md, "A check in pieces").
 ghost use mathlib.Core.Path.{_≡_};
-ghost use Prim.Native.Nat.{min};
 ghost use lib.ListN.{take};
 ghost use Rattle.doubles.specs.Stack.{placeOf, marksOf};
 ghost use Rattle.piece_place.specs.Place.{heldAfter};
 use arriving::Last;
 use doubles::Placed;
 use doubles::open_entry;
+use ground::shorter;
 use order::Order;
 use order::by_next;
 use output::put;
 use scan::common_start;
-
-// The smaller of two numbers.
-fn shorter(a: usize, b: usize) -> usize
-    ensures { λ r. ⌜ r ≡ min a b ⌝ }
-{
-    if a < b { a } else { b }
-}
 
 // A name after the one before, which it takes the place of unless it stands below.
 pub fn place(

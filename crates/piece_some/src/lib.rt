@@ -10,6 +10,7 @@ use arriving::Marks;
 use arriving::Phase;
 use arriving::Taken;
 use ground::MOST_BYTES;
+use ground::shorter;
 use output::put;
 use piece_marks::is_full;
 use piece_marks::placed_at;
@@ -20,13 +21,6 @@ struct Got {
     count: usize,
     head: [u8; 8],
     phase: Phase,
-}
-
-// The smaller of two numbers.
-fn shorter(a: usize, b: usize) -> usize
-    ensures { λ r. ⌜ r ≡ min a b ⌝ }
-{
-    if a < b { a } else { b }
 }
 
 // What is left of a number without another, but no more than so many.

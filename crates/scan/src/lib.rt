@@ -4,6 +4,7 @@ ghost use Prim.Native.Nat.{_+_, _≤_, _<_, min};
 ghost use lib.ListN.{length, take, drop};
 ghost use Rattle.ground.specs.Scan.{countTo, placeFrom, commonStart, sameBytes};
 ghost use Rattle.scan.specs.Word.{WordOf, marksOf, Marked, FirstAt};
+use ground::shorter;
 
 // 128, and 1, in the place of each of eight bytes.
 const HIGHS: u64 = 0x8080808080808080;
@@ -221,13 +222,6 @@ pub fn find_nul(s: &[u8], from: usize) -> usize
         return first_of_16(s, from, 0);
     }
     find_far(s, from + 16)
-}
-
-// The shorter of two lengths.
-fn shorter(a: usize, b: usize) -> usize
-    ensures { λ r. ⌜ r ≡ min a b ⌝ }
-{
-    if a < b { a } else { b }
 }
 
 // How far two runs of bytes agree that agree up to a place, byte by byte up to n.

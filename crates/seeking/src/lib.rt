@@ -2,23 +2,17 @@
 // What the index proposes is looked at, and where it is not the object of the id, the bundle is walked: no index is believed.
 ghost use mathlib.Core.Bool.{false};
 ghost use mathlib.Core.Path.{_≡_};
-ghost use Prim.Native.Nat.{_/_, min};
+ghost use Prim.Native.Nat.{_/_};
 ghost use Rattle.order.specs.Order.{nameOrder};
 ghost use Rattle.seeking.specs.Index.{idAt, placeIn, seekIn};
 use finding::find_object;
 use frame::Framed;
 use frame::Placed;
 use frame::frame_at;
+use ground::shorter;
 use order::Order;
 use order::name_order;
 use scan::same_bytes;
-
-// The shorter of two lengths.
-fn shorter(a: usize, b: usize) -> usize
-    ensures { λ r. ⌜ r ≡ min a b ⌝ }
-{
-    if a < b { a } else { b }
-}
 
 // The place that an element stands for.
 fn place_of(x: u32) -> usize

@@ -1,6 +1,6 @@
 // Records of a text by the names past their tabs, and of a list of them in order the first that repeats an earlier one (docs/FORMAT.md, "Text").
 ghost use mathlib.Core.Path.{_≡_};
-ghost use Prim.Native.Nat.{_/_, _≤_, min};
+ghost use Prim.Native.Nat.{_/_, _≤_};
 ghost use lib.ListN.{length, drop};
 ghost use Rattle.keys.specs.Key.{pastMark, nameAt};
 ghost use Rattle.text_repeats.specs.Least.{sameRecord, leastOf, leastNext, told};
@@ -8,6 +8,7 @@ use ground::FINE;
 use ground::ORDER;
 use ground::SAME_NAME;
 use ground::Verdict;
+use ground::shorter;
 use scan::find_byte;
 use scan::find_nul;
 use scan::same_bytes;
@@ -49,19 +50,12 @@ pub fn same_record(text: &[u8], x: u32, y: u32) -> bool
     same_bytes(name_at(text, x), name_at(text, y))
 }
 
-// The smaller of two numbers.
-fn smaller(a: usize, b: usize) -> usize
-    ensures { λ r. ⌜ r ≡ min a b ⌝ }
-{
-    if a < b { a } else { b }
-}
-
 // The smaller of a number and the second of two elements, where they have one name and sort; else the number.
 fn repeat_here(text: &[u8], x: u32, y: u32, least: usize) -> usize
     ensures { λ r. ⌜ r ≡ leastOf (sameRecord (now (text .entry))) x y least ⌝ }
 {
     if same_record(text, x, y) {
-        return smaller(least, y as usize);
+        return shorter(least, y as usize);
     }
     least
 }

@@ -4,7 +4,7 @@ use Rattle.compare.proofs.name_order.Tie as tie
 use Rattle.compare.proofs.name_order.Reads as reads
 use Rattle.compare.proofs.name_order.Lts as lts
 use Rattle.compare.proofs.by_first.Reads as by-first-reads
-use Rattle.compare.proofs.shorter.Reads as shorter-reads
+use Rattle.ground.proofs.shorter.Reads as shorter-reads
 use Rattle.order.proofs.by_next.Reads as by-next-reads
 use mathlib.Core.Path.{sym, _∙_}
 use Rattle.compare.proofs.Laws.{order-below, order-above, told-same, by-end}

@@ -6,7 +6,7 @@ use Rattle.doubles.proofs.open_entry.Reads as reads
 use Rattle.doubles.proofs.open_entry.Lts as lts
 use Rattle.doubles.proofs.is_double.Reads as is-double-reads
 use Rattle.doubles.proofs.open_next.Reads as open-next-reads
-use Rattle.doubles.proofs.shorter.Reads as shorter-reads
+use Rattle.ground.proofs.shorter.Reads as shorter-reads
 use native.Mathlib.Omega.{arith}
 use mathlib.Core.Path.{sym, _∙_}
 use Rattle.doubles.proofs.Stacking.{open-within, opened-double, opened-fine}

@@ -5,7 +5,7 @@ use Rattle.piece_ends.proofs.head_part.Tie as tie
 use Rattle.piece_ends.proofs.head_part.Reads as reads
 use Rattle.piece_ends.proofs.head_part.Lts as lts
 use Rattle.mode.proofs.EntryMode.extract_at.Reads as extract-at-reads
-use Rattle.piece_ends.proofs.shorter.Reads as shorter-reads
+use Rattle.ground.proofs.shorter.Reads as shorter-reads
 use Rattle.scan.proofs.find_nul.Reads as find-nul-reads
 use mathlib.Core.Path.{ap, sym, _∙_}
 use native.Mathlib.Omega.{arith}

@@ -5,7 +5,7 @@ use Rattle.piece_judge.proofs.judge.Tie as tie
 use Rattle.piece_judge.proofs.judge.Reads as reads
 use Rattle.piece_judge.proofs.judge.Lts as lts
 use Rattle.piece_judge.proofs.is_over.Reads as is-over-reads
-use Rattle.piece_judge.proofs.shorter.Reads as shorter-reads
+use Rattle.ground.proofs.shorter.Reads as shorter-reads
 use Rattle.names.proofs.name_number.Reads as name-number-reads
 use mathlib.Core.Path.{sym}
 use native.Mathlib.Omega.{arith}

@@ -5,7 +5,7 @@ use Rattle.piece_marks.proofs.read_head.Tie as tie
 use Rattle.piece_marks.proofs.read_head.Reads as reads
 use Rattle.piece_marks.proofs.read_head.Lts as lts
 use Rattle.mode.proofs.EntryMode.extract_at.Reads as extract-at-reads
-use Rattle.piece_marks.proofs.shorter.Reads as shorter-reads
+use Rattle.ground.proofs.shorter.Reads as shorter-reads
 use native.Mathlib.Omega.{arith}
 use mathlib.Core.Path.{sym}
 use lib.Seq.{length-take-le}

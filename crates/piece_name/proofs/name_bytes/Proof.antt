@@ -4,7 +4,7 @@ use Rattle.piece_name.proofs.name_bytes.Statement.{statement}
 use Rattle.piece_name.proofs.name_bytes.Tie as tie
 use Rattle.piece_name.proofs.name_bytes.Reads as reads
 use Rattle.piece_name.proofs.name_bytes.Lts as lts
-use Rattle.piece_name.proofs.shorter.Reads as shorter-reads
+use Rattle.ground.proofs.shorter.Reads as shorter-reads
 use Rattle.scan.proofs.find_nul.Reads as find-nul-reads
 use native.Mathlib.Omega.{arith}
 use mathlib.Core.Path.{sym}

@@ -5,7 +5,7 @@ use Rattle.piece_name.proofs.stand_level.Tie as tie
 use Rattle.piece_name.proofs.stand_level.Reads as reads
 use Rattle.piece_name.proofs.stand_level.Lts as lts
 use Rattle.piece_name.proofs.differs.Reads as differs-reads
-use Rattle.piece_name.proofs.shorter.Reads as shorter-reads
+use Rattle.ground.proofs.shorter.Reads as shorter-reads
 use Rattle.scan.proofs.common_start.Reads as common-start-reads
 use native.Mathlib.Omega.{arith}
 use Rattle.piece_name.proofs.Names.{level-past, level-none, level-some, shares-within}

@@ -7,7 +7,7 @@ use Rattle.piece_place.proofs.place.Lts as lts
 use Rattle.doubles.proofs.open_entry.Reads as open-entry-reads
 use Rattle.order.proofs.by_next.Reads as by-next-reads
 use Rattle.output.proofs.put.Reads as put-reads
-use Rattle.piece_place.proofs.shorter.Reads as shorter-reads
+use Rattle.ground.proofs.shorter.Reads as shorter-reads
 use Rattle.scan.proofs.common_start.Reads as common-start-reads
 use native.Mathlib.Omega.{arith}
 use lib.ListN.{length-take}

@@ -9,16 +9,16 @@ use Rattle.text_repeats.proofs.Laws.{least-here, least-not}
 same-record-requires : tie.Need-same-record-requires
 same-record-requires c κs = search needs
 
-smaller-requires : tie.Need-smaller-requires
-smaller-requires c κs = search needs
+shorter-requires : tie.Need-shorter-requires
+shorter-requires c κs = search needs
 
 returns : tie.Need-returns
 returns c =
     let args = c .before .before .before .before .args in
     let same-record = c .before .before .same-record in
     let if1 = c .before .if1 in
-    let smaller = c .smaller in
-    least-here (sameRecord (args .text .now)) (args .x) (args .y) (args .least) (sym (same-record .ensures) ∙ if1 .taken) (smaller .ensures)
+    let shorter = c .shorter in
+    least-here (sameRecord (args .text .now)) (args .x) (args .y) (args .least) (sym (same-record .ensures) ∙ if1 .taken) (shorter .ensures)
 
 returns-2 : tie.Need-returns-2
 returns-2 c =
@@ -28,4 +28,4 @@ returns-2 c =
     least-not (sameRecord (args .text .now)) (args .x) (args .y) (args .least) (sym (same-record .ensures) ∙ if1 .left)
 
 pub repeat-here-spec : {M : Type 1} → statement M
-repeat-here-spec = tie.close (tie.spec same-record-requires smaller-requires returns returns-2)
+repeat-here-spec = tie.close (tie.spec same-record-requires shorter-requires returns returns-2)
