@@ -22,8 +22,9 @@
  *   - A strict read keeps marks on the stack, numbers of 4 bytes: 64 where the object has at most 2,079 bytes, 512 where it has at most
  *     131,072, 4,096 where it has at most 8,388,608, else 46,341. The last two are in functions of their own, so that an object of at most
  *     131,072 bytes takes less than 3 KB of stack, one of at most 8 MiB less than 20 KB, and only a longer one some 190 KB.
- *     A plain read keeps the lengths of the first 2,040 names there, a byte each, and takes less than 3 KB. sarpukten_bisect_entries keeps
- *     192 numbers of its own. Like every other call it takes less than 2 KB.
+ *     A plain read keeps the lengths of the first 2,040 names there, a byte each, and takes less than 3 KB; of an object of more than 8 MiB
+ *     it keeps those of the first 131,072, in a function of its own, and takes some 134 KB. sarpukten_bisect_entries keeps 192 numbers of
+ *     its own. Like every other call it takes less than 2 KB.
  *   - sarpukten_check_bundle and sarpukten_follow_path take less than 6 KB of stack, and 4 MiB more where a bundle has more than 1,024 objects
  *     and their ids do not ascend: the places of the ids are then sorted in an array of 1,048,576 numbers of 4 bytes, in a function of its
  *     own, so that no other bundle takes it. Each component of a path takes some 300 bytes more, 64 of them less than 20 KB.

@@ -21,7 +21,8 @@ pub enum How {
 }
 
 /// Runs `call` once under the counter, or many times against the clock, and says `key` with what it cost.
-/// A dump's name carries the key; times are printed as nanoseconds, the best of the rounds.
+/// A dump's name carries the key; times are printed as nanoseconds a call, the best of the rounds. A round of short calls has so many
+/// of them that it takes some two microseconds, since the clock's step may be ten nanoseconds; what they give is dropped behind it.
 pub fn measure<T>(how: How, key: &str, mut call: impl FnMut() -> T) {
     match how {
         How::Instructions => {
@@ -33,16 +34,23 @@ pub fn measure<T>(how: How, key: &str, mut call: impl FnMut() -> T) {
             drop(kept);
         }
         How::Time => {
-            let (mut best, mut rounds) = (f64::MAX, 0);
+            let (mut calls, mut best, mut rounds) = (1, f64::MAX, 0);
             let begin = Instant::now();
-            while rounds < 3 || begin.elapsed().as_millis() < 60 {
+            while rounds < 6 || begin.elapsed().as_millis() < 60 {
+                let mut kept = Vec::with_capacity(calls);
                 let start = Instant::now();
-                let kept = black_box(call());
-                best = best.min(start.elapsed().as_nanos() as f64);
-                drop(kept);
+                for _ in 0..calls {
+                    kept.push(black_box(call()));
+                }
+                let took = start.elapsed().as_nanos() as f64 / calls as f64;
+                if rounds < 3 {
+                    calls = (2000.0 / took).clamp(1.0, 64.0) as usize;
+                } else {
+                    best = best.min(took);
+                }
                 rounds += 1;
             }
-            println!("{key} {best}");
+            println!("{key} {best:.1}");
         }
     }
 }
