@@ -5,7 +5,7 @@ use mathlib.Core.Path.{_≡_, refl, ap, sym, _∙_}
 use mathlib.Core.Bool.{Bool, true, false}
 use mathlib.Core.List.{List, [], _∷_}
 use lib.Dec.{eqb, leb}
-use lib.ListN.{length, getD, drop, set, length-drop}
+use lib.ListN.{length, getD, take, drop, set, length-drop}
 use lib.Seq.{drop-drop}
 use borrow.Author.Tests.{eq-eqb, ne-eqb, lt-ltb, le-ltb, le-leb, lt-leb, leb-true}
 use Rattle.ground.specs.Basics.{pick}
@@ -54,6 +54,19 @@ records-at (m ∷ s ∷ e ∷ d ∷ t ∷ rest) (suc i) p =
     let z3 : suc i * width + 3 ≡ suc (suc (suc (suc (suc (i * width + 3))))) = omega arith in
     let z4 : suc i * width + 4 ≡ suc (suc (suc (suc (suc (i * width + 4))))) = omega arith in
     rw (z1, z2, z3, z4, z) (records-at rest i (omega arith))
+
+-- and the one record of those five
+pub records-part : (l : List ℕ) (i : ℕ) → i < many (length l) → getD (recordsOf (take width (drop (i * width) l))) 0 noRecord ≡ getD (recordsOf l) i noRecord
+unfolding recordsOf
+records-part [] i p = absurd (omega arith)
+records-part (m ∷ []) i p = absurd (omega arith)
+records-part (m ∷ s ∷ []) i p = absurd (omega arith)
+records-part (m ∷ s ∷ e ∷ []) i p = absurd (omega arith)
+records-part (m ∷ s ∷ e ∷ d ∷ []) i p = absurd (omega arith)
+records-part (m ∷ s ∷ e ∷ d ∷ t ∷ rest) zero p = refl
+records-part (m ∷ s ∷ e ∷ d ∷ t ∷ rest) (suc i) p =
+    let z : suc i * width ≡ suc (suc (suc (suc (suc (i * width))))) = omega arith in
+    rw z (records-part rest i (omega arith))
 
 pub well-parts : (h len : ℕ) (e : EntryRecord) → wellFormed h len e ≡ true
     → (e .mode ≤ 65535) × (e .«name_start» ≤ e .«name_end») × (e .«name_end» ≤ len) × (e .«id_start» + h ≤ len) × (e .«text_start» ≤ e .«name_start»)

@@ -34,24 +34,14 @@ pub fn most_comparisons(n: usize) -> usize
     64 - usize::leading_zeros(n) as usize
 }
 
-// Record i of the flat numbers, which is there: as `entry_record::entry_at`, without its test, which would divide at each comparison.
+// Record i of the flat numbers, which is there, from its own numbers alone: so the compiler knows what `entry_at` tests, and leaves it out.
 fn record_at(records: &[usize], i: usize) -> EntryRecord
     requires { ⌜ i < many (length (now records)) ⌝ }
     ensures { λ r. ⌜ r ≡ nth (recordsOf (now (records .entry))) i ⌝ }
 {
     let at = i * entry_record::WIDTH;
-    let mode = records[at];
-    let name_start = records[at + 1];
-    let name_end = records[at + 2];
-    let id_start = records[at + 3];
-    let text_start = records[at + 4];
-    EntryRecord {
-        mode,
-        name_start,
-        name_end,
-        id_start,
-        text_start,
-    }
+    let end = at + entry_record::WIDTH;
+    entry_record::entry_at(&records[at..end], 0)
 }
 
 // The lookup over flat records, within the bounds.

@@ -2,76 +2,48 @@
 use borrow.Author.Needs.{needs}
 use Rattle.lookup.proofs.record_at.Statement.{statement}
 use Rattle.lookup.proofs.record_at.Tie as tie
-use mathlib.Core.Path.{sym}
-use Rattle.entry.proofs.Laws.{records-at}
+use Prim.Native.Nat.{_+_, _-_, _*_}
+use mathlib.Core.Path.{_≡_, _∙_}
+use native.Mathlib.Omega.{arith}
+use Rattle.entry.specs.Record.{width}
+use Rattle.entry.proofs.Laws.{records-part}
 
 mul-at : tie.Need-mul-at
 mul-at c = search needs
 
-mul-mode : tie.Need-mul-mode
-mul-mode c = search needs
+add-end : tie.Need-add-end
+add-end c = search needs
 
-shared-slice-read-mode : tie.Need-shared-slice-read-mode
-shared-slice-read-mode c = search needs
+mul-entry-at : tie.Need-mul-entry-at
+mul-entry-at c = search needs
 
-add-name-start : tie.Need-add-name-start
-add-name-start c = search needs
+sub-entry-at : tie.Need-sub-entry-at
+sub-entry-at c = search needs
 
-mul-name-start : tie.Need-mul-name-start
-mul-name-start c = search needs
+part-entry-at-start : tie.Need-part-entry-at-start
+part-entry-at-start c = search needs
 
-shared-slice-read-name-start : tie.Need-shared-slice-read-name-start
-shared-slice-read-name-start c = search needs
+part-entry-at-end : tie.Need-part-entry-at-end
+part-entry-at-end c = search needs
 
-add-name-end : tie.Need-add-name-end
-add-name-end c = search needs
-
-mul-name-end : tie.Need-mul-name-end
-mul-name-end c = search needs
-
-shared-slice-read-name-end : tie.Need-shared-slice-read-name-end
-shared-slice-read-name-end c = search needs
-
-add-id-start : tie.Need-add-id-start
-add-id-start c = search needs
-
-mul-id-start : tie.Need-mul-id-start
-mul-id-start c = search needs
-
-shared-slice-read-id-start : tie.Need-shared-slice-read-id-start
-shared-slice-read-id-start c = search needs
-
-add-text-start : tie.Need-add-text-start
-add-text-start c = search needs
-
-mul-text-start : tie.Need-mul-text-start
-mul-text-start c = search needs
-
-shared-slice-read-text-start : tie.Need-shared-slice-read-text-start
-shared-slice-read-text-start c = search needs
+entry-at-requires : tie.Need-entry-at-requires
+entry-at-requires c κs = search needs
 
 returns : tie.Need-returns
 returns c =
-    let args = c .before .before .before .before .before .args in
-    sym (records-at (args .records .now) (args .i) (c .before .before .before .before .before .pre))
+    let start = c .before .before .before in
+    let five : start .args .i * width + width - start .args .i * width ≡ width = omega arith in
+    c .entry-at .ensures ∙ rw five (records-part (start .args .records .now) (start .args .i) (start .pre))
 
 pub record-at-spec : {M : Type 1} → statement M
 record-at-spec =
     tie.close
     (tie.spec
     mul-at
-    mul-mode
-    shared-slice-read-mode
-    add-name-start
-    mul-name-start
-    shared-slice-read-name-start
-    add-name-end
-    mul-name-end
-    shared-slice-read-name-end
-    add-id-start
-    mul-id-start
-    shared-slice-read-id-start
-    add-text-start
-    mul-text-start
-    shared-slice-read-text-start
+    add-end
+    mul-entry-at
+    sub-entry-at
+    part-entry-at-start
+    part-entry-at-end
+    entry-at-requires
     returns)
