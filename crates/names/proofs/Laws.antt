@@ -7,10 +7,10 @@ use mathlib.Core.List.{List, [], _∷_, map}
 use lib.Dec.{eqb}
 use lib.ListN.{length, getD, length-map}
 use borrow.Author.Tests.{le-leb, lt-leb, ne-eqb}
-use Rattle.ground.specs.Basics.{ascii}
+use Rattle.ground.specs.Basics.{ascii, pick}
 use Rattle.ground.specs.Scan.{sameBytes, freeOf}
 use Rattle.ground.proofs.Laws.{is-false, and-left, and-right, same-length}
-use Rattle.names.specs.Names.{isPlain, lower, isDotGit, bareNumber}
+use Rattle.names.specs.Names.{orElse, isReserved, isPlain, lower, isDotGit, reservedNumber, bareNumber}
 
 module _ (n : List ℕ) where
   -- what a plain name is
@@ -19,48 +19,46 @@ module _ (n : List ℕ) where
       × (not (sameBytes n (ascii ".git")) ≡ true)
   unfolding isPlain
   plain-parts e =
-      let b = and-right (not (sameBytes n [])) _ e in
-      let c = and-right (freeOf 47 n) _ b in
-      let d = and-right (not (sameBytes n (ascii "."))) _ c in (
-        and-left (not (sameBytes n [])) _ e,
-        and-left (freeOf 47 n) _ b,
-        and-left (not (sameBytes n (ascii "."))) _ c,
-        and-left (not (sameBytes n (ascii ".."))) _ d,
-        and-right (not (sameBytes n (ascii ".."))) _ d,
+      let a = and-left (not (isReserved n)) _ e in
+      let b = none-right (sameBytes n []) _ a in
+      let c = none-right (sameBytes n (ascii ".")) _ b in (
+        none-left (sameBytes n []) _ a,
+        and-right (not (isReserved n)) _ e,
+        none-left (sameBytes n (ascii ".")) _ b,
+        none-left (sameBytes n (ascii "..")) _ c,
+        none-right (sameBytes n (ascii "..")) _ c,
       )
-
-  some-bytes : not (eqb (length n) 0) ≡ not (sameBytes n [])
-  some-bytes = go n
     where
-      go : (l : List ℕ) → not (eqb (length l) 0) ≡ not (sameBytes l [])
+      none-left : (a b : Bool) → not (a || b) ≡ true → not a ≡ true
+      none-left true b e = e
+      none-left false b e = refl
+
+      none-right : (a b : Bool) → not (a || b) ≡ true → not b ≡ true
+      none-right true b e = absurd (false≢true e)
+      none-right false b e = e
+
+  no-bytes : eqb (length n) 0 ≡ sameBytes n []
+  no-bytes = go n
+    where
+      go : (l : List ℕ) → eqb (length l) 0 ≡ sameBytes l []
       go [] = refl
-      go (x ∷ xs) = rw (ne-eqb (length (x ∷ xs)) 0 (λ z. omega arith))
+      go (x ∷ xs) = ne-eqb (length (x ∷ xs)) 0 (λ z. omega arith)
 
-  neither : (a b c : Bool) → (not (a || b) && c) ≡ (not a && (not b && c))
-  neither true b c = refl
-  neither false b c = refl
+  -- a reserved name by its tests
+  pub reserved-is : (eqb (length n) 0 || ((sameBytes n (ascii ".") || sameBytes n (ascii "..")) || sameBytes n (ascii ".git"))) ≡ isReserved n
+  reserved-is = rw (no-bytes, one-of (sameBytes n (ascii ".")) (sameBytes n (ascii "..")) (sameBytes n (ascii ".git")))
+    where
+      one-of : (a b c : Bool) → ((a || b) || c) ≡ (a || (b || c))
+      one-of true b c = refl
+      one-of false b c = refl
 
-  -- a plain name by its tests
-  pub plain-is :
-      (not (eqb (length n) 0) && (freeOf 47 n && (not (sameBytes n (ascii ".") || sameBytes n (ascii "..")) && not (sameBytes n (ascii ".git")))))
-      ≡ isPlain n
-  unfolding isPlain
-  plain-is = rw (some-bytes, neither (sameBytes n (ascii ".")) (sameBytes n (ascii "..")) (not (sameBytes n (ascii ".git"))))
-
-  -- of more than four bytes it is none of the three
+  -- of more than four bytes it is none
   other : (m : List ℕ) → length m ≤ 4 → 4 < length n → sameBytes n m ≡ false
   other m k h = same-length n m (λ e. omega arith)
 
-  pub plain-long : 4 < length n → freeOf 47 n ≡ isPlain n
-  unfolding isPlain
-  plain-long h =
-      rw
-      (other [] (omega arith) h, other (ascii ".") (omega arith) h, other (ascii "..") (omega arith) h, other (ascii ".git") (omega arith) h)
-      (ends (freeOf 47 n))
-    where
-      ends : (v : Bool) → v ≡ (v && true)
-      ends true = refl
-      ends false = refl
+  pub reserved-long : 4 < length n → isReserved n ≡ false
+  reserved-long h =
+      rw (other [] (omega arith) h, other (ascii ".") (omega arith) h, other (ascii "..") (omega arith) h, other (ascii ".git") (omega arith) h)
 
   pub name-empty : length n ≡ 0 → isPlain n ≡ false
   name-empty e = is-false (isPlain n) (λ p. by n e (plain-parts p .0))
@@ -70,17 +68,37 @@ module _ (n : List ℕ) where
       by (x ∷ xs) q r = omega arith
 
   -- the number of a name by those tests
+  pub number-reserved : isReserved n ≡ true → reservedNumber n ≡ 6
+  unfolding reservedNumber
+  number-reserved p = rw p
+
+  pub number-git : isReserved n ≡ false → isDotGit n ≡ true → reservedNumber n ≡ 18
+  unfolding reservedNumber
+  number-git p g = rw (p, g)
+
+  pub number-fine : isReserved n ≡ false → isDotGit n ≡ false → reservedNumber n ≡ 0
+  unfolding reservedNumber
+  number-fine p g = rw (p, g)
+
   pub number-bad : isPlain n ≡ false → bareNumber n ≡ 6
   unfolding bareNumber
   number-bad p = rw p
 
-  pub number-git : isPlain n ≡ true → isDotGit n ≡ true → bareNumber n ≡ 18
-  unfolding bareNumber
-  number-git p g = rw (p, g)
+  pub number-slash : freeOf 47 n ≡ false → bareNumber n ≡ 6
+  unfolding isPlain
+  number-slash f = number-bad (rw f (go (not (isReserved n))))
+    where
+      go : (v : Bool) → (v && false) ≡ false
+      go true = refl
+      go false = refl
 
-  pub number-fine : isPlain n ≡ true → isDotGit n ≡ false → bareNumber n ≡ 0
-  unfolding bareNumber
-  number-fine p g = rw (p, g)
+  pub number-slashless : freeOf 47 n ≡ true → bareNumber n ≡ reservedNumber n
+  unfolding bareNumber isPlain reservedNumber
+  number-slashless f = rw f (go (isReserved n))
+    where
+      go : (v : Bool) → orElse (pick (not v && true) 0 6) (pick (isDotGit n) 18 0) ≡ orElse (pick v 6 0) (pick (isDotGit n) 18 0)
+      go true = refl
+      go false = refl
 
 -- a byte that is no letter in upper case, and one that is
 pub lower-below : (b : ℕ) → b < 65 → lower b ≡ b

@@ -3,7 +3,7 @@ ghost use mathlib.Core.Path.{_≡_};
 ghost use mathlib.Core.Bool.{_||_};
 ghost use Rattle.ground.specs.Basics.{ascii};
 ghost use Rattle.ground.specs.Scan.{sameBytes};
-ghost use Rattle.names.specs.Names.{isPlain, lower, isDotGit, bareNumber};
+ghost use Rattle.names.specs.Names.{isReserved, lower, isDotGit, reservedNumber, bareNumber};
 use free_of::is_free;
 use ground::DONE;
 use ground::DOT_GIT;
@@ -17,16 +17,15 @@ fn is_dots(name: &[u8]) -> bool
     same_bytes(name, b".") | same_bytes(name, b"..")
 }
 
-// Whether a name is not empty, has no slash, and is none of `.`, `..` and `.git`.
-fn is_plain(name: &[u8]) -> bool
-    ensures { λ r. ⌜ r ≡ isPlain (now (name .entry)) ⌝ }
+// Whether a name is empty, or one of `.`, `..` and `.git`.
+fn is_reserved(name: &[u8]) -> bool
+    ensures { λ r. ⌜ r ≡ isReserved (now (name .entry)) ⌝ }
 {
-    let free = is_free(name, b'/');
     if 4 < name.len() {
-        return free;
+        return false;
     }
     let git = same_bytes(name, b".git");
-    (name.len() != 0) & (free & (!is_dots(name) & !git))
+    (name.len() == 0) | (is_dots(name) | git)
 }
 
 // An ASCII letter in lower case, and any other byte as it is.
@@ -54,15 +53,25 @@ fn is_dot_git(name: &[u8]) -> bool
             & ((in_lower(name[2]) == b'i') & (in_lower(name[3]) == b't')))
 }
 
-// What is said of a name, whether or not it has a NUL: 6, 18 or 0.
+// What is said of a name that has no slash, whether or not it has a NUL: 6, 18 or 0.
+pub fn reserved_number(name: &[u8]) -> usize
+    ensures { λ r. ⌜ r ≡ reservedNumber (now (name .entry)) ⌝ }
+{
+    if is_reserved(name) {
+        return NAME;
+    }
+    if is_dot_git(name) {
+        return DOT_GIT;
+    }
+    DONE
+}
+
+// What is said of any name, whether or not it has a NUL: 6, 18 or 0.
 pub fn name_number(name: &[u8]) -> usize
     ensures { λ r. ⌜ r ≡ bareNumber (now (name .entry)) ⌝ }
 {
-    if is_plain(name) {
-        if is_dot_git(name) {
-            return DOT_GIT;
-        }
-        return DONE;
+    if is_free(name, b'/') {
+        return reserved_number(name);
     }
     NAME
 }

@@ -47,7 +47,7 @@ of-ground = record {
   scans =
       ((λ i. tt), (λ i o p. same)) and ((λ i. tt), (λ i o p. same)) and ((λ i. tt), (λ i o p. same)) and ((λ i. tt), (λ i o p. same)) and
       ((λ i. tt), (λ i o p. same)) and ((λ i. tt), (λ i o p. same)) and ((λ i. tt), (λ i o p. same)) and ((λ i. tt), (λ i o p. same)) and
-      ((λ i. tt), (λ i o p. same)) and none;
+      ((λ i. tt), (λ i o p. same)) and ((λ i. tt), (λ i o p. same)) and none;
   put = keeps-stores _ (λ i. tt) _ _ _ _ (λ i o m. (refl, m));
   put-ended = keeps-stores _ (λ i. tt) _ _ _ _ (λ i o m. (refl, m));
 }

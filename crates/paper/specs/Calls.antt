@@ -107,6 +107,7 @@ scans =
     ∷ call ground.byte_at.Kinds.ps ground.byte_at.Kinds.r ground.byte_at.Reads.Asked ground.byte_at.Reads.Post
     ∷ call scan.find_byte.Kinds.ps scan.find_byte.Kinds.r scan.find_byte.Reads.Asked scan.find_byte.Reads.Post
     ∷ call scan.find_nul.Kinds.ps scan.find_nul.Kinds.r scan.find_nul.Reads.Asked scan.find_nul.Reads.Post
+    ∷ call scan.find_nul_or_slash.Kinds.ps scan.find_nul_or_slash.Kinds.r scan.find_nul_or_slash.Reads.Asked scan.find_nul_or_slash.Reads.Post
     ∷ call scan.count_to.Kinds.ps scan.count_to.Kinds.r scan.count_to.Reads.Asked scan.count_to.Reads.Post
     ∷ call scan.common_start.Kinds.ps scan.common_start.Kinds.r scan.common_start.Reads.Asked scan.common_start.Reads.Post
     ∷ call scan.same_bytes.Kinds.ps scan.same_bytes.Kinds.r scan.same_bytes.Reads.Asked scan.same_bytes.Reads.Post

@@ -24,7 +24,7 @@ use Rattle.mode_table.specs.declared.ModeFound.the-variants as found
 use Rattle.rules.specs.Rules.{isText, groupRow, modesOf, permitted, nameNumber, bareNumber}
 use Rattle.rules.specs.Gate.{ruleGate}
 use Rattle.rules.specs.Code.{isGroup}
-pub use Rattle.names.proofs.Laws.{name-empty, number-bad}
+pub use Rattle.names.proofs.Laws.{name-empty, number-bad, number-slash, number-slashless}
 
 -- ---- a mode text
 

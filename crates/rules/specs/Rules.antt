@@ -15,7 +15,7 @@ use Rattle.mode_table.specs.declared.Written.{Written}
 use Rattle.order.specs.Order.{isBelow, nameOrder}
 use Rattle.entry.specs.Entry.{Entry}
 use Rattle.doubles.specs.Doubles.{namedBefore}
-unfoldable pub use Rattle.names.specs.Names.{isPlain, isDotGit, bareNumber}
+unfoldable pub use Rattle.names.specs.Names.{isPlain, isDotGit, reservedNumber, bareNumber}
 pub use Rattle.names.specs.Names.{orElse, lower}
 
 -- What is permitted: the rows of the mode table, and what is said of a name, and of an entry after the ones before it, the nearest first.

@@ -12,6 +12,7 @@ use ground::bounds;
 use mode_table::ModeFound;
 use mode_table::written_mode;
 pub use names::name_number;
+pub use names::reserved_number;
 use scan::same_bytes;
 
 // Refusals 1, 19 and 2: whether a call with a rule set may begin.

@@ -1,7 +1,7 @@
 -- Laws of the scans: eight bytes of a list passed over, or stopped at, by the word that is made of them. Assumes nothing.
 use Prim.Native.Nat.{ℕ, zero, suc, _+_, _<_, _≤_, min}
 use mathlib.Core.Path.{_≡_, refl, sym, ap, _∙_}
-use mathlib.Core.Bool.{Bool, true, false}
+use mathlib.Core.Bool.{Bool, true, false, not, _||_, false≢true}
 use mathlib.Core.List.{List, [], _∷_}
 use mathlib.Core.Logic.{⊎-elim}
 use native.Mathlib.Omega.{arith}
@@ -9,6 +9,7 @@ use lib.Bits.{bitXor, xor-self}
 use lib.Dec.{eqb}
 use lib.ListN.{length, getD, take, drop, length-drop}
 use lib.Seq.{drop-drop, getD-drop}
+use borrow.Author.Tests.{eqb-true, eqb-false}
 use Rattle.ground.specs.Basics.{pick}
 use Rattle.ground.specs.Scan.{countTo, placeFrom, commonStart}
 use Rattle.ground.proofs.Laws.{equal, count-take, count-at, place-from, place-next, common-same, common-differ, common-left, common-right}
@@ -82,6 +83,27 @@ module _ (x : ℕ) (s : List ℕ) (i m : ℕ) (h : i + 8 ≤ length s) (p : Word
   -- where one of the eight is x there is a mark
   pub place-among : (r : ℕ) → FirstAt m r → placeFrom x s i < i + 8 → placeFrom x s i ≡ i + r
   place-among r g l = place-in r g (λ e. absurd (omega (arith, place-past (i + 8) e refl, place-from x s (i + 8))))
+
+-- ---- a block that has neither of two bytes, or one
+
+module _ (a b : ℕ) where
+  -- the first number is 0 where one of the two is not: the second is not
+  pub only-second : (not (eqb a 0) || not (eqb b 0)) ≡ true → not (eqb a 0) ≡ false → (a ≡ 0) × (b ≡ 0 → ⊥)
+  only-second t f = go (eqb a 0) refl (eqb b 0) refl t f
+    where
+      go : (x : Bool) → eqb a 0 ≡ x → (y : Bool) → eqb b 0 ≡ y → (not x || not y) ≡ true → not x ≡ false → (a ≡ 0) × (b ≡ 0 → ⊥)
+      go true p true q t f = absurd (false≢true t)
+      go true p false q t f = (eqb-true a 0 p, eqb-false b 0 q)
+      go false p y q t f = absurd (false≢true (sym f))
+
+  -- neither is anything else
+  pub neither-some : (not (eqb a 0) || not (eqb b 0)) ≡ false → (a ≡ 0) × (b ≡ 0)
+  neither-some t = go (eqb a 0) refl (eqb b 0) refl t
+    where
+      go : (x : Bool) → eqb a 0 ≡ x → (y : Bool) → eqb b 0 ≡ y → (not x || not y) ≡ false → (a ≡ 0) × (b ≡ 0)
+      go true p true q t = (eqb-true a 0 p, eqb-true b 0 q)
+      go true p false q t = absurd (false≢true (sym t))
+      go false p y q t = absurd (false≢true (sym t))
 
 -- ---- how far two lists agree
 

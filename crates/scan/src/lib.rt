@@ -224,6 +224,28 @@ pub fn find_nul(s: &[u8], from: usize) -> usize
     find_far(s, from + 16)
 }
 
+// Where the first of NUL and slash stands at or after a place, as find_byte says it of one byte. Both are looked for in sixteen bytes at a time;
+// where they have a slash, which may be one behind the NUL, each is looked for by itself.
+pub fn find_nul_or_slash(s: &[u8], from: usize) -> usize
+    ensures { λ r. ⌜ r ≡ min (placeFrom 0 (now (s .entry)) from) (placeFrom 47 (now (s .entry)) from) ⌝ }
+{
+    if s.len() < from {
+        return from;
+    }
+    let mut i = from;
+    while 16 <= s.len() - i {
+        let slash = among(s, i, 16, b'/') != 0;
+        if slash | (among(s, i, 16, 0) != 0) {
+            if slash {
+                break;
+            }
+            return first_of_16(s, i, 0);
+        }
+        i += 16;
+    }
+    shorter(find_near(s, i, 0), find_near(s, i, b'/'))
+}
+
 // How far two runs of bytes agree that agree up to a place, byte by byte up to n.
 fn common_last(a: &[u8], b: &[u8], n: usize, from: usize) -> usize
     requires { ⌜ (n ≡ min (length (now a)) (length (now b))) × (from ≤ n) ⌝ }

@@ -1,14 +1,14 @@
 -- Laws of the strict reader's leaves: an entry by itself, and its place among the entries read before. Assumes nothing.
-use Prim.Native.Nat.{ℕ, zero, suc, _+_, _-_, _%_, _<_, _≤_}
+use Prim.Native.Nat.{ℕ, zero, suc, _-_, _≤_}
 use native.Mathlib.Omega.{arith}
 use mathlib.Core.Path.{_≡_, refl, sym, ap, subst, _∙_}
-use mathlib.Core.Bool.{Bool, true, false, _||_}
+use mathlib.Core.Bool.{Bool, true, false}
 use mathlib.Core.List.{List, [], _∷_, map}
 use lib.Dec.{eqb}
 use lib.ListN.{length}
 use borrow.Author.Tests.{eqb-true, ne-eqb}
-use Rattle.ground.specs.Basics.{pick, part}
-use Rattle.ground.specs.Scan.{sameBytes, freeOf}
+use Rattle.ground.specs.Basics.{pick}
+use Rattle.ground.specs.Scan.{freeOf}
 use Rattle.ground.specs.Verdict.{verdict}
 use Rattle.ground.specs.declared.Verdict.{Verdict}
 use Rattle.order.specs.declared.Order.{Order}

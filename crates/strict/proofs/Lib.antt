@@ -1,3 +1,4 @@
 pub mod Laws
 pub mod Judging
 pub mod Strictly
+pub mod Scanned

@@ -1,5 +1,5 @@
 -- The strict reader's first pass, turn by turn: what holds at the head of a turn, and what each way out of a turn gives. Assumes nothing.
-use Prim.Native.Nat.{ℕ, _+_, _-_, _%_, _<_, _≤_}
+use Prim.Native.Nat.{ℕ, _+_, _-_, _<_, _≤_}
 use native.Mathlib.Omega.{arith}
 use mathlib.Core.Path.{_≡_, refl, ap, sym, _∙_}
 use mathlib.Core.Bool.{Bool, true, false}
@@ -13,9 +13,6 @@ use Rattle.ground.specs.Scan.{countTo, freeOf}
 use Rattle.ground.specs.Verdict.{verdict, mostRecords}
 use Rattle.ground.specs.declared.Verdict.{Verdict}
 use Rattle.ground.proofs.Laws.{free-count}
-use Rattle.mode_code.specs.Code.{codeAt}
-use Rattle.mode_code.proofs.Laws.{code-of-mode}
-use Rattle.mode.specs.Read.{readModeAt, moved}
 use Rattle.mode.proofs.Laws.{read-next}
 use Rattle.entry.specs.Record.{nameOf}
 use Rattle.entry.specs.Entry.{Entry, entryOf}
@@ -105,11 +102,6 @@ module _ (h : ℕ) (s : List ℕ) (at : ℕ) (e : EntryRecord) (next : Cursor) (
   name-long =
       let i = decode-inside h s at e next d in
       omega (arith, length-take (e .«name_end» - e .«name_start») (drop (e .«name_start») s))
-
-  -- and begins where the code of its mode says
-  pub decoded-code : e .«name_start» ≡ at + codeAt s at % 16
-  unfolding readModeAt
-  decoded-code = omega (arith, start-is, code-of-mode s at _ _ (ap (moved at) (parts .reads)))
 
 module _ (k h : ℕ) (s : List ℕ) (at n m : ℕ) (last : Last) (marks : List ℕ) (r : Reading k h s at n m last marks) where
   abbrev from : Listing → Listing

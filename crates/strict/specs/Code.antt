@@ -1,9 +1,10 @@
 -- What the private leaves of the strict reader answer, by positions in the object. Assumes nothing.
-use Prim.Native.Nat.{ℕ, _+_, _*_, _<_, _≤_}
+use Prim.Native.Nat.{ℕ, _+_, _-_, _*_, _<_, _≤_}
+use mathlib.Core.Path.{_≡_}
 use mathlib.Core.List.{List, [], _∷_}
 use lib.Dec.{eqb}
-use lib.ListN.{drop}
-use Rattle.ground.specs.Basics.{pick}
+use lib.ListN.{length, getD, drop}
+use Rattle.ground.specs.Basics.{pick, part}
 use Rattle.ground.specs.Verdict.{verdict, mostBytes}
 use Rattle.entry.specs.Record.{nameOf, folderOf}
 use Rattle.entry.specs.Decode.{decode}
@@ -13,7 +14,7 @@ use Rattle.entry.specs.declared.Decoded.the-variants.{Whole, Broken}
 use Rattle.doubles.specs.Stack.{placeOf, marksOf}
 use Rattle.doubles.specs.declared.Placed.{Placed}
 use Rattle.doubles.specs.declared.Placed.the-variants.{Fine}
-use Rattle.rules.specs.Rules.{orElse, isText, modesOf, nameNumber}
+use Rattle.rules.specs.Rules.{orElse, isText, modesOf, nameNumber, reservedNumber}
 use Rattle.strict.specs.Strict.{textOf}
 use Rattle.strict.specs.declared.Last.{Last}
 use Rattle.strict.specs.declared.Last.the-variants.{Nothing, After}
@@ -28,6 +29,10 @@ Within len at e = (at < e .«name_start») × (e .«name_start» ≤ e .«name_e
 abbrev pub LastWithin : ℕ → Last → Type 0
 LastWithin len Nothing = Unit {0}
 LastWithin len (After p) = (p .«name_start» ≤ p .«name_end») × (p .«name_end» ≤ len)
+
+-- NUL and an id stand behind the name between two places, and it is not reserved
+abbrev pub NameKept : ℕ → List ℕ → ℕ → ℕ → Type 0
+NameKept h s start end = (h < length s - end) × (getD s end 0 ≡ 0) × (reservedNumber (part start end s) ≡ 0)
 
 -- the entry before, of those that were read, the nearest first
 abbrev pub lastOf : List EntryRecord → Last

@@ -1,18 +1,16 @@
 // A whole tree object that keeps the strict rules, into lent records (docs/FORMAT.md, "Strict reading").
 ghost use mathlib.Core.Path.{_≡_};
 ghost use mathlib.Core.Bool.{true};
-ghost use Prim.Native.Nat.{_+_, _%_, _≤_};
-ghost use lib.ListN.{length, drop};
+ghost use Prim.Native.Nat.{_≤_};
+ghost use lib.ListN.{length};
 ghost use Rattle.ground.specs.Scan.{freeOf};
 ghost use Rattle.ground.specs.Verdict.{verdict, mostBytes};
 ghost use Rattle.entry.specs.Record.{nameOf};
-ghost use Rattle.entry.specs.Decode.{decode};
-ghost use Rattle.mode_code.specs.Code.{codeAt, quickAt};
-ghost use Rattle.rules.specs.Rules.{isText, modesOf, gitRules};
+ghost use Rattle.rules.specs.Rules.{gitRules};
 ghost use Rattle.reading.specs.Listing.{tally};
 ghost use Rattle.reading.specs.declared.Counted.the-variants.{Stopped};
-ghost use Rattle.strict.specs.Strict.{textOf, strictly, strictCount, strictAnswer, strictRecords};
-ghost use Rattle.strict.specs.Code.{Within, LastWithin, entryNo, seenAt, afterAt, marksAfter, Roomy};
+ghost use Rattle.strict.specs.Strict.{strictly, strictCount, strictAnswer, strictRecords};
+ghost use Rattle.strict.specs.Code.{Within, LastWithin, NameKept, entryNo, seenAt, afterAt, marksAfter, Roomy};
 use doubles::Placed;
 use doubles::place_entry;
 use entry::Cursor;
@@ -36,8 +34,9 @@ use reading::Counted;
 use reading::finish;
 use rules::mode_permitted;
 use rules::name_number;
+use rules::reserved_number;
 use rules::rule_bounds;
-use scan::find_nul;
+use scan::find_nul_or_slash;
 
 // The entry before the one that is read.
 enum Last {
@@ -49,36 +48,6 @@ enum Last {
 enum Seen {
     Kept(EntryRecord, Cursor),
     Refused(Verdict),
-}
-
-// One entry at a place as its cursor decodes it, by the code of its mode where the mode is one of those written.
-fn decode_at(s: &[u8], h: usize, at: usize, code: usize) -> Decoded
-    requires { ⌜ code ≡ quickAt (now s) at ⌝ }
-    ensures { λ r. ⌜ r ≡ decode h at (drop at (now (s .entry))) ⌝ }
-{
-    let c = Cursor { at };
-    if code == 0 {
-        return c.decode(s, h);
-    }
-    let mode = code / 16;
-    let name_start = at + code % 16;
-    let name_end = find_nul(s, name_start);
-    let left = s.len() - name_end;
-    if left <= h {
-        return c.decode(s, h);
-    }
-    let id_start = name_end + 1;
-    let next = id_start + h;
-    Decoded::Whole(
-        EntryRecord {
-            mode,
-            name_start,
-            name_end,
-            id_start,
-            text_start: at,
-        },
-        Cursor { at: next },
-    )
 }
 
 // Where an entry stands after the one before, with n names open among the marks.
@@ -107,45 +76,29 @@ fn after_entry(s: &[u8], marks: &mut [u32], n: usize, last: Last, e: EntryRecord
     }
 }
 
-// Whether the mode text of an entry at a place is one of the rule set's.
-fn is_written(rules: u16, s: &[u8], at: usize, code: usize, e: EntryRecord) -> bool
-    requires { ⌜ Within (length (now s)) at e ⌝ }
-    requires { ⌜ e .«name_start» ≡ at + codeAt (now s) at % 16 ⌝ }
-    requires { ⌜ code ≡ quickAt (now s) at ⌝ }
-    ensures { λ r. ⌜ r ≡ isText (modesOf rules) (textOf (now (s .entry)) at e) ⌝ }
-{
-    if code != 0 {
-        return true;
-    }
-    let start = e.name_start;
-    let space = start - 1;
-    mode_permitted(rules, &s[at..space])
-}
-
 // What the strict rules say of an entry at a place by itself, as it was decoded there: 5, 6, 18 or 0.
-fn entry_number(rules: u16, s: &[u8], at: usize, code: usize, e: EntryRecord) -> usize
+fn entry_number(rules: u16, s: &[u8], at: usize, e: EntryRecord) -> usize
     requires { ⌜ Within (length (now s)) at e ⌝ }
     requires { ⌜ freeOf 0 (nameOf (now s) e) ≡ true ⌝ }
-    requires { ⌜ e .«name_start» ≡ at + codeAt (now s) at % 16 ⌝ }
-    requires { ⌜ code ≡ quickAt (now s) at ⌝ }
     ensures { λ r. ⌜ r ≡ entryNo rules (now (s .entry)) at e ⌝ }
 {
-    if is_written(rules, s, at, code, e) {
-        let start = e.name_start;
+    let start = e.name_start;
+    let space = start - 1;
+    if mode_permitted(rules, &s[at..space]) {
         let end = e.name_end;
         return name_number(&s[start..end]);
     }
     MODE_TEXT
 }
 
-// The entry at a place, if it keeps the rules by itself. The code of its mode is found once, for decoding and for judging.
-fn seen_at(rules: u16, s: &[u8], h: usize, at: usize) -> Seen
+// The entry at a place, if it keeps the rules by itself: decoded, then judged.
+fn judged_at(rules: u16, s: &[u8], h: usize, at: usize) -> Seen
     ensures { λ r. ⌜ r ≡ seenAt rules h (now (s .entry)) at ⌝ }
 {
-    let code = quick_code(s, at);
-    match decode_at(s, h, at, code) {
+    let c = Cursor { at };
+    match c.decode(s, h) {
         Decoded::Whole(e, next) => {
-            let number = entry_number(rules, s, at, code, e);
+            let number = entry_number(rules, s, at, e);
             if number != DONE {
                 return Seen::Refused(Verdict {
                     number,
@@ -157,6 +110,47 @@ fn seen_at(rules: u16, s: &[u8], h: usize, at: usize) -> Seen
         }
         Decoded::Broken(v) => Seen::Refused(v),
     }
+}
+
+// Whether NUL and an id stand behind a name, and the name is not reserved.
+fn is_kept(s: &[u8], h: usize, start: usize, end: usize) -> bool
+    requires { ⌜ (start ≤ end) × (end ≤ length (now s)) ⌝ }
+    ensures { λ r. ⌜ (r ≡ true → NameKept h (now (s .entry)) start end) ⌝ }
+{
+    if s.len() - end <= h {
+        return false;
+    }
+    if s[end] != 0 {
+        return false;
+    }
+    reserved_number(&s[start..end]) == DONE
+}
+
+// The same in one scan of the name where the mode is one of those written and there is nothing to refuse; any other entry is decoded and judged.
+fn seen_at(rules: u16, s: &[u8], h: usize, at: usize) -> Seen
+    ensures { λ r. ⌜ r ≡ seenAt rules h (now (s .entry)) at ⌝ }
+{
+    let code = quick_code(s, at);
+    if code == 0 {
+        return judged_at(rules, s, h, at);
+    }
+    let name_start = at + code % 16;
+    let name_end = find_nul_or_slash(s, name_start);
+    if is_kept(s, h, name_start, name_end) {
+        let id_start = name_end + 1;
+        let next = id_start + h;
+        return Seen::Kept(
+            EntryRecord {
+                mode: code / 16,
+                name_start,
+                name_end,
+                id_start,
+                text_start: at,
+            },
+            Cursor { at: next },
+        );
+    }
+    judged_at(rules, s, h, at)
 }
 
 // Refused: by a number, at a place.

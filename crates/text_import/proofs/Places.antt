@@ -3,19 +3,20 @@ use Prim.Native.Nat.{ℕ, zero, suc, _+_, _*_, _/_, _%_, _<_, _≤_}
 use native.Mathlib.Omega.{arith}
 use mathlib.Core.Path.{_≡_, refl, ap, sym, _∙_}
 use mathlib.Core.Logic.{⊎-elim}
-use mathlib.Core.Bool.{Bool, true, false, not, _&&_}
+use mathlib.Core.Bool.{Bool, true, false, _&&_}
 use mathlib.Core.List.{List, [], _∷_, _++_, map, List·Memᴰ, List·Memᴰ·head, List·Memᴰ·tail, List·Memᴰ·cases-cons, List·Memᴰ·not-nil}
 use lib.Dec.{eqb}
 use lib.ListN.{length, take, drop, length-drop}
 use lib.Seq.{drop-drop, take-append-seam}
 use borrow.Author.Tests.{eq-eqb, ne-eqb, eqb-true}
-use Rattle.ground.specs.Basics.{pick, ascii}
-use Rattle.ground.specs.Scan.{sameBytes, freeOf, countTo}
+use Rattle.ground.specs.Basics.{pick}
+use Rattle.ground.specs.Scan.{freeOf, countTo}
 use Rattle.ground.specs.Verdict.{verdict, mostRecords}
 use Rattle.ground.proofs.Laws.{count-free}
 use Rattle.mode.specs.Mode.{isTree}
 use Rattle.entry.specs.Entry.{Entry}
-use Rattle.rules.specs.Rules.{isPlain, isDotGit, bareNumber, orElse}
+use Rattle.rules.specs.Rules.{bareNumber}
+use Rattle.rules.proofs.Laws.{number-slash}
 use Rattle.keys.specs.Key.{pastMark, cutTo, nameAt, folder, slash, keyAt}
 use Rattle.sorting.proofs.Repeats.{Once}
 use Rattle.text_form.specs.Form.{frontLen}
@@ -55,15 +56,11 @@ odd false {x} e = ne-eqb x 1 (λ z. omega (arith, e, z))
 
 -- a name that is permitted has no slash
 bare-free : (n : List ℕ) → bareNumber n ≡ 0 → freeOf 47 n ≡ true
-unfolding bareNumber isPlain
-bare-free n = go (freeOf 47 n) (not (sameBytes n [])) (isDotGit n)
+bare-free n e = go (freeOf 47 n) refl
   where
-    go : (b a c : Bool)
-        → orElse (pick (a && (b && (not (sameBytes n (ascii ".")) && (not (sameBytes n (ascii "..")) && not (sameBytes n (ascii ".git")))))) 0 6) (pick c 18 0) ≡ 0
-        → b ≡ true
-    go true a c e = refl
-    go false true c e = absurd (omega arith)
-    go false false c e = absurd (omega arith)
+    go : (b : Bool) → freeOf 47 n ≡ b → freeOf 47 n ≡ true
+    go true q = q
+    go false q = absurd (omega (arith, e, number-slash n q))
 
 module _ (k h : ℕ) (s : List ℕ) where
   size-some : (at : ℕ) (b : List ℕ) → at + 1 ≤ at + sizeIn h b

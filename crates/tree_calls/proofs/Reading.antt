@@ -107,7 +107,7 @@ rule-gate-fits k h bytes records = go (ruleGate k h bytes records) refl
 pub of-reading : OfReading
 of-reading = record {
   rule-bounds = keeps-reads _ (λ i. tt) _ _ _ (λ i o m. m) (λ i. rule-gate-fits _ _ _ _);
-  rule-questions = ((λ i. tt), (λ i o p. same)) and ((λ i. tt), (λ i o p. same)) and none;
+  rule-questions = ((λ i. tt), (λ i o p. same)) and ((λ i. tt), (λ i o p. same)) and ((λ i. tt), (λ i o p. same)) and none;
   place-entry = keeps-stores _ (λ i. tt) _ _ _ _ (λ i o m. m);
   open-entry = keeps-stores _ (λ i. tt) _ _ _ _ (λ i o m. m);
   finish-reading = keeps-stores _ (λ i. tt) _ _ _ _ (λ i o m. m);

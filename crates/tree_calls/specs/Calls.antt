@@ -68,6 +68,7 @@ abbrev pub ruleQuestions : List Call
 ruleQuestions =
     call rules.mode_permitted.Kinds.ps rules.mode_permitted.Kinds.r rules.mode_permitted.Reads.Asked rules.mode_permitted.Reads.Post
     ∷ call names.name_number.Kinds.ps names.name_number.Kinds.r names.name_number.Reads.Asked names.name_number.Reads.Post
+    ∷ call names.reserved_number.Kinds.ps names.reserved_number.Kinds.r names.reserved_number.Reads.Asked names.reserved_number.Reads.Post
     ∷ []
 
 abbrev pub placeEntry : Deed
