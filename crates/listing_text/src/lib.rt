@@ -19,6 +19,7 @@ use ground::FINE;
 use ground::ID_LENGTH;
 use ground::Verdict;
 use hex_letter::digit_of;
+use loose_header::decimal_of;
 use mode::EntryMode;
 use output::put;
 use reading::read_tree;
@@ -43,28 +44,7 @@ fn add(out: &mut [u8], at: usize, piece: &[u8]) -> usize
     at + piece.len()
 }
 
-// The decimal digits of a number: those of the text from a place on.
-struct Decimal {
-    text: [u8; 20],
-    at: usize,
-}
-
-fn decimal_of(n: u64) -> Decimal
-    ensures { λ r. ⌜ (r .at ≤ 20) × (length (r .text) ≡ 20) × (drop (r .at) (r .text) ≡ decimal n) ⌝ }
-{
-    let mut text = [0u8; 20];
-    let mut at: usize = 20;
-    let mut rest = n;
-    while 10 <= rest {
-        at -= 1;
-        text[at] = b'0' + (rest % 10) as u8;
-        rest /= 10;
-    }
-    at -= 1;
-    text[at] = b'0' + rest as u8;
-    Decimal { text, at }
-}
-
+// A number, in decimal digits.
 fn add_number(out: &mut [u8], at: usize, n: usize) -> usize
     requires { ⌜ at ≤ 1099511627776 ⌝ }
     ensures { λ r. ⌜ Added (now (out .entry)) at (decimal n) (now (out .exit)) r × (r ≤ at + 20) ⌝ }

@@ -3,16 +3,17 @@
 use native.Mathlib.Nat.{pow-suc, pow-zero}
 use native.Mathlib.Omega.{arith}
 use Prim.Native.Nat.{ℕ, zero, suc, _+_, _-_, _*_, _/_, _%_, _^_, _≤_, _<_}
-use mathlib.Core.Path.{_≡_, refl, sym}
+use mathlib.Core.Path.{_≡_, refl, ap, sym, _∙_}
 use mathlib.Core.Bool.{Bool, true, false, _&&_}
 use mathlib.Core.List.{List, [], _∷_, _++_, append-nil}
 use lib.Dec.{leb, ltb}
-use lib.ListN.{length, getD, drop, set, length-append, length-set, List·getD-append}
-use lib.Seq.{drop-cons, append-snoc, getD-set-same, drop-set-lt}
+use lib.ListN.{length, getD, take, drop, set, replicate, length-append, length-set, length-drop, length-replicate, take-append-drop, List·getD-append}
+use lib.Seq.{drop-cons, append-snoc, getD-set-same, drop-set-lt, take-set-le, take-take, drop-at}
 use borrow.Author.Tests.{le-leb, lt-ltb, le-ltb, ltb-true, ltb-false}
 use Rattle.ground.specs.Basics.{pick}
 use Rattle.loose_header.specs.Digits.{saidAfter, areDigits}
-use Rattle.loose_header.specs.Header.{digits, decimal}
+use Rattle.loose_header.specs.Header.{digits, decimal, decimalText}
+use Rattle.loose_header.specs.declared.Decimal.{Decimal}
 
 -- ---- one more digit
 
@@ -76,6 +77,32 @@ digits-most (suc k) n = go (ltb n 10) (digits-most k (n / 10))
 pub decimal-most : (n : ℕ) → length (decimal n) ≤ 20
 unfolding decimal
 decimal-most n = digits-most 20 n
+
+-- ---- the whole text: 0 stands before the digits
+
+take-zeros : (k : ℕ) → take k (replicate {A = ℕ} (suc k) 0) ≡ replicate k 0
+take-zeros zero = refl
+take-zeros (suc k) = ap (λ (l : List ℕ). 0 ∷ l) (take-zeros k)
+
+pub zeros-before : (text : List ℕ) (at v : ℕ) → 0 < at → take at text ≡ replicate at 0 → take (at - 1) (set text (at - 1) v) ≡ replicate (at - 1) 0
+zeros-before text zero v h e = absurd (omega arith)
+zeros-before text (suc k) v h e =
+    let z : suc k - 1 ≡ k = omega arith in
+    rw (z, take-set-le k text k v (omega arith)) (sym (take-take k (suc k) text (omega arith)) ∙ rw e (take-zeros k))
+
+pub decimal-text : (text : List ℕ) (at n : ℕ) → length text ≡ 20 → at ≤ 20 → take at text ≡ replicate at 0 → drop at text ≡ decimal n
+    → record { text = text; at = at } ≡ decimalText n
+decimal-text text at n q h z e =
+    let l : at ≡ 20 - length (decimal n) = rw (← e) (omega (arith, length-drop at text)) in
+    let t : text ≡ replicate (20 - length (decimal n)) 0 ++ decimal n = sym (take-append-drop at text) ∙ rw (z, e, l) refl in
+    rw (t, l) refl
+
+-- the digits are what stands from that place on
+pub decimal-part : (r : Decimal) (n : ℕ) → r ≡ decimalText n → (r .at ≤ 20) × (length (r .text) ≡ 20) × (drop (r .at) (r .text) ≡ decimal n)
+decimal-part r n q =
+    let zeros : List ℕ = replicate (20 - length (decimal n)) 0 in
+    let l : length zeros ≡ 20 - length (decimal n) = length-replicate {A = ℕ} (20 - length (decimal n)) 0 in
+    rw q (omega arith, length-append zeros (decimal n) ∙ omega (arith, l, decimal-most n), drop-at zeros (decimal n) (20 - length (decimal n)) l)
 
 -- ---- what they say
 

@@ -1,13 +1,14 @@
 -- The header of a loose object (docs/FORMAT.md, "Loose headers"). Assumes nothing.
-use Prim.Native.Nat.{ℕ, zero, suc, _+_, _/_, _%_}
+use Prim.Native.Nat.{ℕ, zero, suc, _+_, _-_, _/_, _%_}
 use mathlib.Core.Bool.{_&&_}
 use mathlib.Core.List.{List, [], _∷_, _++_}
 use lib.Dec.{leb, ltb}
-use lib.ListN.{length, getD}
+use lib.ListN.{length, getD, replicate}
 use Rattle.ground.specs.Basics.{pick, ascii}
 use Rattle.ground.specs.Verdict.{verdict, counted, refused}
 use Rattle.ground.specs.declared.Answer.{Answer}
 use Rattle.output.specs.Output.{fitted}
+use Rattle.loose_header.specs.declared.Decimal.{Decimal}
 
 -- the kinds are 1 commit, 2 tree, 3 blob, 4 tag; another number has no word
 unfoldable pub kindWord : ℕ → List ℕ
@@ -21,6 +22,10 @@ digits (suc k) n = pick (ltb n 10) ((48 + n) ∷ []) (digits k (n / 10) ++ (48 +
 -- a number of 64 bits has at most 20 digits
 unfoldable pub decimal : ℕ → List ℕ
 decimal n = digits 20 n
+
+-- its digits at the end of twenty bytes, with 0 before them, and where they begin
+abbrev pub decimalText : ℕ → Decimal
+decimalText n = record { text = replicate (20 - length (decimal n)) 0 ++ decimal n; at = 20 - length (decimal n) }
 
 -- kind word, space, size, NUL
 unfoldable pub looseHeader : ℕ → ℕ → List ℕ

@@ -1,9 +1,9 @@
 // The header of a loose object, as `loose_header` of the Rust's encode.rs (docs/FORMAT.md, "Loose headers").
 ghost use mathlib.Core.Path.{_≡_};
 ghost use Prim.Native.Nat.{_≤_};
-ghost use lib.ListN.{length, take, drop};
+ghost use lib.ListN.{length, take};
 ghost use Rattle.ground.specs.Verdict.{stored};
-ghost use Rattle.loose_header.specs.Header.{kindWord, decimal, looseHeader, headerAnswer};
+ghost use Rattle.loose_header.specs.Header.{kindWord, decimalText, looseHeader, headerAnswer};
 use ground::Answer;
 use ground::DONE;
 use ground::FINE;
@@ -49,14 +49,14 @@ fn kind_word(kind: usize) -> Word
     }
 }
 
-// The decimal digits of a number: those of the text from a place on.
-struct Decimal {
-    text: [u8; 20],
-    at: usize,
+// The decimal digits of a number: those of the text from a place on, with 0 before them.
+pub struct Decimal {
+    pub text: [u8; 20],
+    pub at: usize,
 }
 
-fn decimal_of(n: u64) -> Decimal
-    ensures { λ r. ⌜ (r .at ≤ 20) × (length (r .text) ≡ 20) × (drop (r .at) (r .text) ≡ decimal n) ⌝ }
+pub fn decimal_of(n: u64) -> Decimal
+    ensures { λ r. ⌜ r ≡ decimalText n ⌝ }
 {
     let mut text = [0u8; 20];
     let mut at: usize = 20;

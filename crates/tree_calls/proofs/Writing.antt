@@ -17,10 +17,10 @@ use Rattle.entry.specs.Record.{recordsOf, wellFormed, nameOf}
 use Rattle.entry.specs.declared.EntryRecord.{EntryRecord}
 use Rattle.tree_write.specs.Write.{refusal, judged, measured, treeSize, treeAnswer}
 use Rattle.loose_header.specs.Header.{looseHeader, headerAnswer}
-use Rattle.call.specs.Call.{Refusal, Fits}
+use Rattle.call.specs.Call.{none, _and_, Refusal, Fits}
 use Rattle.call.specs.Deeds.{ofAnswer}
 use Rattle.tree_calls.specs.First.{OfWriting}
-use Rattle.call.proofs.Laws.{Of, done, zero, wider, added, keeps-reads, keeps-writes, hands-on, each-pick, each-passed, each-gate, each-fitted}
+use Rattle.call.proofs.Laws.{same, Of, done, zero, wider, added, keeps-reads, keeps-writes, hands-on, each-pick, each-passed, each-gate, each-fitted}
 
 -- every way to judge records: 0, 10 at an index, and when they are to be written 9 at one
 each-judged : (P : Verdict → Type 0) (writing : Bool) (most : ℕ) → P fine → ((i : ℕ) → i < most → P (verdict 10 i)) → ((i : ℕ) → i < most → writing ≡ true → P (verdict 9 i))
@@ -84,5 +84,6 @@ of-writing = record {
   tree-size = keeps-reads _ (λ i. tt) _ _ _ (λ i o m. m) (λ i. wider (size-fits _ _ _) refl);
   write-tree = keeps-writes _ (λ i. tt) _ _ _ _ _ _ (λ i o m. m) (λ i. wider (tree-fits _ _ _ _) refl) (λ i z. stored-refused _ _ _ z);
   loose-header = keeps-writes _ (λ i. tt) _ _ _ _ _ _ (λ i o m. m) (λ i. wider (header-fits _ _ _) refl) (λ i z. stored-refused _ _ _ z);
+  digit-questions = ((λ i. tt), (λ i o p. same)) and none;
   fit = hands-on _ (λ i. tt) _ _ _ _ (λ i o m. m) (λ i handed f. each-fitted (Of _ ofAnswer) _ _ (added (8 ∷ []) f) (λ n l. zero refl refl));
 }

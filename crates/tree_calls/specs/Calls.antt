@@ -138,6 +138,9 @@ writeTree = writes (call tree.write_tree.Kinds.ps tree.write_tree.Kinds.r tree.w
 abbrev pub looseHeader : Deed
 looseHeader = writes (call loose.loose_header.Kinds.ps loose.loose_header.Kinds.r loose.loose_header.Reads.Asked loose.loose_header.Reads.Post) (λ i x. x) (λ i. now (i .args .1 .1 .0)) (λ i o. now (o .last .1 .1 .0))
 
+abbrev pub digitQuestions : List Call
+digitQuestions = call loose.decimal_of.Kinds.ps loose.decimal_of.Kinds.r loose.decimal_of.Reads.Asked loose.decimal_of.Reads.Post ∷ []
+
 -- an answer held to the room that is lent, and the answer that it is handed
 abbrev pub fit : Deed
 fit = reads (call output.fit.Kinds.ps output.fit.Kinds.r output.fit.Reads.Asked output.fit.Reads.Post) (λ i x. ofAnswer x)

@@ -39,6 +39,7 @@ pub record OfWriting : Type 3 where
   pub tree-size : Keeps a.treeSize (0 ∷ 1 ∷ 2 ∷ 10 ∷ [])
   pub write-tree : Keeps a.writeTree (0 ∷ 1 ∷ 2 ∷ 8 ∷ 9 ∷ 10 ∷ [])
   pub loose-header : Keeps a.looseHeader (0 ∷ 8 ∷ 23 ∷ [])
+  pub digit-questions : EachOnce a.digitQuestions
   pub fit : HandsOn a.fit a.fitGiven (8 ∷ [])
 
 -- the text of a listing

@@ -1,9 +1,9 @@
 -- `loose_header::decimal_of` meets its contract. Assumes nothing.
 use Rattle.loose_header.proofs.decimal_of.Statement.{statement}
 use Rattle.loose_header.proofs.decimal_of.Tie as tie
-use Rattle.loose_header.proofs.Digits.{two-digits, tenth-at, store-start, store-more, store-last}
+use Rattle.loose_header.proofs.Digits.{two-digits, tenth-at, store-start, store-more, store-last, zeros-before, decimal-text}
 use Rattle.loose_header.specs.Header.{digits, decimal}
-use lib.ListN.{length, drop, length-set}
+use lib.ListN.{length, take, drop, replicate, length-set}
 use native.Mathlib.Omega.{arith}
 use mathlib.Core.List.{_++_}
 use mathlib.Core.Path.{_≡_, refl, sym, _∙_}
@@ -11,13 +11,14 @@ use Prim.Native.Nat.{_^_, _<_, _≤_}
 use borrow.Author.Needs.{needs}
 
 abbrev Inv-loop : tie.InvT-loop
-Inv-loop n text₀ at₀ rest₀ text at rest = (0 < at) × (at ≤ 20) × (length text ≡ 20) × (rest < 10 ^ at) × (decimal n ≡ digits at rest ++ drop at text)
+Inv-loop n text₀ at₀ rest₀ text at rest =
+    (0 < at) × (at ≤ 20) × (length text ≡ 20) × (rest < 10 ^ at) × (decimal n ≡ digits at rest ++ drop at text) × (take at text ≡ replicate at 0)
 
 abbrev μ-loop : tie.MeasureT-loop
 μ-loop n text₀ at₀ rest₀ text at rest = rest
 
 loop-holds : tie.Need-loop-holds Inv-loop μ-loop
-loop-holds c = (omega arith, omega arith, refl, omega (arith, c .fits), store-start _)
+loop-holds c = (omega arith, omega arith, refl, omega (arith, c .fits), store-start _, refl)
 
 sub-at : tie.Need-sub-at Inv-loop μ-loop
 sub-at c = search needs
@@ -43,8 +44,8 @@ loop-again c =
       omega arith,
       simp length-set (l .inv .2),
       tenth-at (l .at) (l .rest) (l .inv .0) (l .inv .3),
-      l .inv .4 ∙ store-more (l .text) (l .at)
-          (l .rest) (l .inv .0) (omega arith) (loop-test .taken),
+      l .inv .4 ∙ store-more (l .text) (l .at) (l .rest) (l .inv .0) (omega arith) (loop-test .taken),
+      zeros-before (l .text) (l .at) _ (l .inv .0) (l .inv .5),
     )
 
 sub-at-2 : tie.Need-sub-at-2 Inv-loop μ-loop
@@ -62,7 +63,8 @@ array-write-text-2 c = search needs
 returns : tie.Need-returns Inv-loop μ-loop
 returns c =
     let l = c .before .loop in
-    (omega arith, simp length-set (l .inv .2), sym (l .inv .4 ∙ store-last (l .text) (l .at) (l .rest) (l .inv .0) (omega arith) (omega arith)))
+    decimal-text _ _ _ (simp length-set (l .inv .2)) (omega arith) (zeros-before (l .text) (l .at) _ (l .inv .0) (l .inv .5))
+    (sym (l .inv .4 ∙ store-last (l .text) (l .at) (l .rest) (l .inv .0) (omega arith) (omega arith)))
 
 pub decimal-of-spec : {M : Type 1} → statement M
 decimal-of-spec =

@@ -3,6 +3,7 @@ use borrow.Author.Needs.{needs}
 use Rattle.loose_header.proofs.loose_header.Statement.{statement}
 use Rattle.loose_header.proofs.loose_header.Tie as tie
 use Rattle.output.proofs.Laws.{refused-both, fitted-both}
+use Rattle.loose_header.proofs.Digits.{decimal-part}
 use Rattle.loose_header.proofs.Laws.{header-other, header-kind, header-need, digits-part, header-stored}
 use lib.Seq.{length-take-le}
 use native.Mathlib.Omega.{arith}
@@ -21,7 +22,7 @@ add-next : tie.Need-add-next
 add-next c = search needs
 
 sub-need : tie.Need-sub-need
-sub-need c = search needs
+sub-need c = omega (arith, decimal-part (c .decimal-of .result) _ (c .decimal-of .ensures) .0)
 
 add-need : tie.Need-add-need
 add-need c = search needs
@@ -40,7 +41,7 @@ returns-2 c =
     let fit = c .before .fit in
     let if2 = c .if2 in
     let w = kind-word .ensures in
-    let d = decimal-of .ensures in
+    let d = decimal-part (decimal-of .result) _ (decimal-of .ensures) in
     refused-both _ _ _ (header-kind _ _ _ (λ q. if1 .left (w .0 ∙ q)) _ (header-need _ _ _ _ _ (w .0) (d .1) (d .2)) ∙ sym (fit .ensures)) (if2 .taken)
 
 array-share-prefix-letters : tie.Need-array-share-prefix-letters
@@ -53,13 +54,19 @@ put-ended-requires : tie.Need-put-ended-requires
 put-ended-requires c κs = search needs
 
 sub-put-ended : tie.Need-sub-put-ended
-sub-put-ended c = search needs
+sub-put-ended c =
+    let decimal-of = c .before .before .before .before .before .before .before .before .before .before .decimal-of in
+    omega (arith, decimal-part (decimal-of .result) _ (decimal-of .ensures) .0)
 
 part-put-ended-start : tie.Need-part-put-ended-start
-part-put-ended-start c = search needs
+part-put-ended-start c =
+    let decimal-of = c .before .before .before .before .before .before .before .before .before .before .before .decimal-of in
+    omega (arith, decimal-part (decimal-of .result) _ (decimal-of .ensures) .0)
 
 part-put-ended-end : tie.Need-part-put-ended-end
-part-put-ended-end c = search needs
+part-put-ended-end c =
+    let d = c .before .before .before .before .before .before .before .before .before .before .before .decimal-of in
+    omega (arith, decimal-part (d .result) _ (d .ensures) .1)
 
 put-ended-requires-2 : tie.Need-put-ended-requires-2
 put-ended-requires-2 c κs = search needs
@@ -80,7 +87,7 @@ returns-3 c =
     let a = at-args .args in
     let w = at-kind-word .kind-word .ensures in
     let t = at-decimal-of .decimal-of .result in
-    let d = at-decimal-of .decimal-of .ensures in
+    let d = decimal-part t (a .size) (at-decimal-of .decimal-of .ensures) in
     let f = at-fit .fit .ensures in
     let n = header-need (a .kind) (a .size) _ _ _ (w .0) (d .1) (d .2) in
     fitted-both _ _ _ (a .out .now) _ (header-kind _ _ _ (λ q. at-if1 .if1 .left (w .0 ∙ q)) _ n ∙ sym f) f (at-if2 .if2 .left) (λ z. sym n)
