@@ -3,16 +3,18 @@ use Prim.Native.Nat.{ℕ, zero, suc, _+_, _-_, _*_, _/_, _%_, _<_, _≤_}
 use native.Mathlib.Nat.{not-suc-le-zero, le-of-suc-le-suc}
 use native.Mathlib.Numerals.{add-one}
 use native.Mathlib.Omega.{arith}
-use mathlib.Core.Path.{_≡_, refl, ap, _∙_}
+use native.Mathlib.Decide.{decLt}
+use mathlib.Core.Path.{_≡_, refl, ap, sym, _∙_}
 use mathlib.Core.Bool.{Bool, true, false, _&&_}
 use mathlib.Core.List.{List, [], _∷_, map}
-use lib.Dec.{ltb, leb}
-use lib.ListN.{length, getD, drop, drop-of-length-le}
-use lib.Seq.{drop-cons}
-use borrow.Author.Tests.{eq-eqb, ne-eqb, le-leb, lt-leb, leb-true, lt-ltb, le-ltb, ltb-true, ltb-false}
+use lib.Bits.{bitOr, and-le-l, and-le-r, or-lt, or-add-and}
+use lib.Dec.{eqb, ltb, leb}
+use lib.ListN.{length, getD, set, drop, drop-of-length-le}
+use lib.Seq.{drop-cons, getD-set-same, getD-set-other}
+use borrow.Author.Tests.{eq-eqb, ne-eqb, eqb-true, eqb-false, le-leb, lt-leb, leb-true, lt-ltb, le-ltb, ltb-true, ltb-false}
 use Rattle.ground.specs.Basics.{pick}
 use Rattle.ground.proofs.Laws.{and-left, and-right}
-use Rattle.hex.specs.Hex.{hexValue, isHex, lowerDigit, digitOf}
+use Rattle.hex.specs.Hex.{hexValue, isHex, lowerDigit, digitOf, Laid}
 
 -- ---- the table
 
@@ -41,6 +43,19 @@ pub table-is : (b : ℕ) → b < 256 → getD (getD (rowsFrom 16 0) (b / 16) [])
 table-is b p =
     let z : 0 + b / 16 * 16 + b % 16 ≡ b = omega arith in
     ap (λ (r : List ℕ). getD r (b % 16) 0) (row-at 16 0 (b / 16) (omega (arith, p))) ∙ value-at 16 (0 + b / 16 * 16) (b % 16) (omega arith) ∙ ap hexValue z
+
+-- one more number behind those that are laid out: column k of row i
+pub laid-more : (rows : List (List ℕ)) (l : List ℕ) (i k : ℕ) → k < 16 → i * 16 + k < length l → Laid rows (i * 16 + k) l
+    → Laid rows (i * 16 + (k + 1)) (set l (i * 16 + k) (getD (getD rows i []) k 0))
+laid-more rows l i k h p f b q =
+    elim (decLt b (i * 16 + k)) [
+      | yes g ↦ getD-set-other l (i * 16 + k) b _ 0 (λ z. omega arith) ∙ f b g
+      | no g ↦
+          let z : b ≡ i * 16 + k = omega (arith, q) in
+          let x : (i * 16 + k) / 16 ≡ i = omega arith in
+          let y : (i * 16 + k) % 16 ≡ k = omega arith in
+          rw (z, x, y) (getD-set-same l (i * 16 + k) (getD (getD rows i []) k 0) 0 p)
+    ]
 
 -- ---- hex digits, from a place on: one, another byte, the end
 
@@ -144,3 +159,40 @@ value-digit b =
 
     high : (x : ℕ) → 10 ≤ x → digitFor x ≡ 87 + x
     high x p = rw (le-ltb x 10 p)
+
+-- ---- values with all their bits together: below 16 as long as each is
+
+or-below : (s v : ℕ) → v < 16 → ltb (bitOr s v) 16 ≡ ltb s 16
+or-below s v p =
+    elim (decLt s 16) [
+      | yes h ↦ lt-ltb (bitOr s v) 16 (or-lt 4 s v h p) ∙ sym (lt-ltb s 16 h)
+      | no h ↦ le-ltb (bitOr s v) 16 (omega (arith, or-add-and s v, and-le-r s v)) ∙ sym (le-ltb s 16 (omega arith))
+    ]
+
+or-above : (s v : ℕ) → 16 ≤ v → ltb (bitOr s v) 16 ≡ false
+or-above s v p = le-ltb (bitOr s v) 16 (omega (arith, or-add-and s v, and-le-l s v))
+
+-- one more value, and the end
+module _ (t : List ℕ) (i s : ℕ) where
+  pub hex-turn : (v : ℕ) → i < length t → v ≡ hexValue (getD t i 0) → (ltb s 16 && isHex (drop i t)) ≡ (ltb (bitOr s v) 16 && isHex (drop (i + 1) t))
+  hex-turn v p e = go (eqb v 255) refl
+    where
+      and-false : (u : Bool) → (u && false) ≡ false
+      and-false true = refl
+      and-false false = refl
+
+      go : (u : Bool) → eqb v 255 ≡ u → (ltb s 16 && isHex (drop i t)) ≡ (ltb (bitOr s v) 16 && isHex (drop (i + 1) t))
+      go true q =
+          let h : v ≡ 255 = eqb-true v 255 q in
+          rw (hex-not t i p (sym e ∙ h), or-above s v (omega arith)) (and-false (ltb s 16))
+      go false q =
+          let n : (hexValue (getD t i 0) ≡ 255 → ⊥) = λ z. eqb-false v 255 q (e ∙ z) in
+          let l : v < 16 = omega (arith, e, hex-small (getD t i 0) n) in
+          rw (hex-more t i p n, or-below s v l)
+
+  pub hex-last : length t ≤ i → (ltb s 16 && isHex (drop i t)) ≡ ltb s 16
+  hex-last h = rw (hex-end t i h) (and-true (ltb s 16))
+    where
+      and-true : (u : Bool) → (u && true) ≡ u
+      and-true true = refl
+      and-true false = refl

@@ -1,5 +1,6 @@
 -- Hex digits (docs/FORMAT.md, "Hex"). Assumes nothing.
-use Prim.Native.Nat.{ℕ, _+_, _-_}
+use Prim.Native.Nat.{ℕ, _+_, _-_, _/_, _%_, _<_}
+use mathlib.Core.Path.{_≡_}
 use mathlib.Core.Bool.{Bool, true, _&&_, not}
 use mathlib.Core.List.{List, [], _∷_, map}
 use lib.Dec.{eqb, leb}
@@ -29,3 +30,7 @@ lowerHex d = map lowerDigit d
 -- the digit of a number below 16, in lower case
 unfoldable pub digitOf : ℕ → ℕ
 digitOf x = getD (ascii "0123456789abcdef") x 0
+
+-- the first n numbers are those of rows of sixteen, one behind the other
+abbrev pub Laid : List (List ℕ) → ℕ → List ℕ → Type 0
+Laid rows n l = (b : ℕ) → b < n → getD l b 0 ≡ getD (getD rows (b / 16) []) (b % 16) 0

@@ -1,7 +1,7 @@
 // Hex digits: the value of every byte in one table (docs/FORMAT.md, "Hex").
 ghost use mathlib.Core.Path.{_≡_};
 ghost use Prim.Native.Nat.{_<_};
-ghost use Rattle.hex.specs.Hex.{hexValue, isHex};
+ghost use Rattle.hex.specs.Hex.{hexValue, isHex, Laid};
 
 // The value of a byte that is no hex digit.
 const X: u8 = 255;
@@ -43,20 +43,35 @@ fn wide(b: u8) -> usize
     b as usize
 }
 
-// Whether each byte is a hex digit. The table is laid out once, before the walk.
+// Sixteen rows one behind the other, so that a byte is its own place.
+fn laid(rows: [[u8; 16]; 16]) -> [u8; 256]
+    ensures { λ r. ⌜ Laid rows 256 r ⌝ }
+{
+    let mut flat = [0; 256];
+    let mut row: usize = 0;
+    while row < 16 {
+        let mut column: usize = 0;
+        while column < 16 {
+            flat[row * 16 + column] = rows[row][column];
+            column += 1;
+        }
+        row += 1;
+    }
+    flat
+}
+
+// Whether each byte is a hex digit. The table is laid out once, before the walk. The walk has no way out: it gathers the bits of all values,
+// and what they make is below 16 where each value is.
 pub fn is_hex(t: &[u8]) -> bool
     ensures { λ r. ⌜ r ≡ isHex (now (t .entry)) ⌝ }
 {
-    let digits = DIGITS;
+    let digits = laid(DIGITS);
+    let mut seen: u8 = 0;
     let mut i: usize = 0;
     while i < t.len() {
         let b = wide(t[i]);
-        let row = b / 16;
-        let column = b % 16;
-        if digits[row][column] == 255 {
-            return false;
-        }
+        seen = seen | digits[b];
         i += 1;
     }
-    true
+    seen < 16
 }

@@ -1,20 +1,23 @@
+-- `hex::is_hex` meets its contract. Assumes nothing.
 use Rattle.hex.proofs.is_hex.Statement.{statement}
 use Rattle.hex.proofs.is_hex.Tie as tie
-use Rattle.hex.proofs.is_hex.Reads as reads
-use Rattle.hex.proofs.is_hex.Lts as lts
-use Rattle.hex.proofs.wide.Reads as wide-reads
 use borrow.Author.Needs.{needs}
 use Prim.Native.Nat.{_-_}
 use mathlib.Core.Path.{_≡_, refl, ap, sym, _∙_}
+use mathlib.Core.Bool.{_&&_}
+use lib.Dec.{ltb}
 use lib.ListN.{length, drop}
 use Rattle.hex.specs.Hex.{hexValue, isHex}
-use Rattle.hex.proofs.Laws.{table-is, hex-more, hex-not, hex-end}
+use Rattle.hex.proofs.Laws.{table-is, hex-turn, hex-last}
 
 abbrev Inv-loop : tie.InvT-loop
-Inv-loop t digits i₀ i = isHex t ≡ isHex (drop i t)
+Inv-loop t digits seen₀ i₀ seen i = isHex t ≡ (ltb seen 16 && isHex (drop i t))
 
 abbrev μ-loop : tie.MeasureT-loop
-μ-loop t digits i₀ i = length t - i
+μ-loop t digits seen₀ i₀ seen i = length t - i
+
+laid-requires : tie.Need-laid-requires Inv-loop μ-loop
+laid-requires c κs = search needs
 
 loop-holds : tie.Need-loop-holds Inv-loop μ-loop
 loop-holds c = refl
@@ -25,23 +28,8 @@ shared-slice-read-wide c = search needs
 wide-requires : tie.Need-wide-requires Inv-loop μ-loop
 wide-requires c κs = search needs
 
-mul-if1 : tie.Need-mul-if1 Inv-loop μ-loop
-mul-if1 c = search needs
-
-index-1-if1 : tie.Need-index-1-if1 Inv-loop μ-loop
-index-1-if1 c = search needs
-
-index-2-if1 : tie.Need-index-2-if1 Inv-loop μ-loop
-index-2-if1 c = search needs
-
-returns : tie.Need-returns Inv-loop μ-loop
-unfolding hexValue
-returns c =
-    let loop = c .before .before .before .before .before .loop in
-    let loop-test = c .before .before .before .before .loop-test in
-    let wide = c .before .before .wide in
-    let if1 = c .if1 in
-    sym (loop .inv ∙ hex-not _ _ (loop-test .taken) (sym (ap hexValue (wide .ensures .0)) ∙ sym (table-is (wide .result) (wide .ensures .1)) ∙ if1 .taken))
+array-read-seen : tie.Need-array-read-seen Inv-loop μ-loop
+array-read-seen c = search needs
 
 add-i : tie.Need-add-i Inv-loop μ-loop
 add-i c = search needs
@@ -52,14 +40,18 @@ loop-less c = search needs
 loop-again : tie.Need-loop-again Inv-loop μ-loop
 unfolding hexValue
 loop-again c =
-    let loop = c .before .before .before .before .before .loop in
-    let loop-test = c .before .before .before .before .loop-test in
-    let wide = c .before .before .wide in
-    let if1 = c .if1 in
-    loop .inv ∙ hex-more _ _ (loop-test .taken) (λ e. if1 .left (table-is (wide .result) (wide .ensures .1) ∙ ap hexValue (wide .ensures .0) ∙ e))
+    let p = c .before .before .before in
+    let t = p .before .before .before .args .t .now in
+    let wide = c .wide in
+    let b = wide .result in
+    let e = p .before .laid .ensures b (wide .ensures .1) ∙ table-is b (wide .ensures .1) ∙ ap hexValue (wide .ensures .0) in
+    p .loop .inv ∙ hex-turn t (p .loop .i) (p .loop .seen) _ (c .before .before .loop-test .taken) e
 
-returns-2 : tie.Need-returns-2 Inv-loop μ-loop
-returns-2 c = sym (c .before .loop .inv ∙ hex-end _ _ (c .loop-test .left))
+returns : tie.Need-returns Inv-loop μ-loop
+returns c =
+    let loop = c .before .loop in
+    let t = c .before .before .before .before .args .t .now in
+    sym (loop .inv ∙ hex-last t (loop .i) (loop .seen) (c .loop-test .left))
 
 pub is-hex-spec : {M : Type 1} → statement M
 is-hex-spec =
@@ -67,14 +59,12 @@ is-hex-spec =
     (tie.spec
     Inv-loop
     μ-loop
+    laid-requires
     loop-holds
     shared-slice-read-wide
     wide-requires
-    mul-if1
-    index-1-if1
-    index-2-if1
-    returns
+    array-read-seen
     add-i
     loop-less
     loop-again
-    returns-2)
+    returns)
