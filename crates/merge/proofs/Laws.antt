@@ -64,17 +64,21 @@ module _ (h : ℕ) (s : List ℕ) (c : Rest) where
           unfolding aheadOf
           ahead-whole = ap (aheadOf c) (sym t) ∙ ahead-is
 
-          pub ahead-inside : (c .start + x .«name_start» ≤ c .start + x .«name_end») × (c .start + x .«name_end» ≤ length s) × (c .start + x .«id_start» + h ≤ length s)
+          ahead-inside : (c .start + x .«name_start» ≤ c .start + x .«name_end») × (c .start + x .«name_end» ≤ length s) × (c .start + x .«id_start» + h ≤ length s)
           ahead-inside =
               let f = decode-inside h (bytesOf s c) (c .at) x next (sym q ∙ t) in
               let n : length (bytesOf s c) ≡ c .end - c .start = part-length (c .start) (c .end) s g l in
               (omega (arith, f .1), omega (arith, f .2, f .3, f .4), omega (arith, f .2, f .3, f .4))
 
-          pub ahead-text : c .start + x .«text_start» ≤ length s
-          ahead-text =
+          -- its positions in the bundle are numbers
+          pub ahead-fits : length s < 18446744073709551616
+              → (c .start + x .«name_start» < 18446744073709551616) × (c .start + x .«name_end» < 18446744073709551616)
+              × (c .start + x .«id_start» < 18446744073709551616) × (c .start + x .«text_start» < 18446744073709551616)
+          ahead-fits b =
               let f = decode-inside h (bytesOf s c) (c .at) x next (sym q ∙ t) in
               let n : length (bytesOf s c) ≡ c .end - c .start = part-length (c .start) (c .end) s g l in
-              omega (arith, f .0, f .1, f .2, f .3, f .4, f .5)
+              let i = ahead-inside in
+              (omega (arith, i .0, i .1), omega (arith, i .1), omega (arith, i .2), omega (arith, f .0, f .1, f .2, f .3, f .4, f .5))
 
 -- the next entry lies inside the bundle
 pub ahead-within : (h : ℕ) (s : List ℕ) (c : Rest) → AheadWithin h s c (aheadAt h s c)
@@ -159,8 +163,8 @@ module _ (h : ℕ) (s : List ℕ) (l r : Rest) (x y : Ahead) (ex : x ≡ aheadAt
     step-both k t e = sym (step-is ∙ rw (p, q, ← eo, k, e))
 
 -- the entry that was found lies inside the bundle
-pub entry-in : (h : ℕ) (s : List ℕ) (c : Rest) (x : Ahead) (e : EntryRecord) (next : Rest) → AheadWithin h s c x → x ≡ Entry e next → EntryWithin h (length s) e
-entry-in h s c x e next w k = subst (λ (u : Ahead). AheadWithin h s c u) k w .0
+pub entry-in : (h : ℕ) (s : List ℕ) (c : Rest) (x : Ahead) (e : EntryRecord) (next : Rest) → x ≡ aheadAt h s c → x ≡ Entry e next → EntryWithin h (length s) e
+entry-in h s c x e next q k = subst (λ (u : Ahead). AheadWithin h s c u) (sym q ∙ k) (ahead-within h s c) .0
 
 -- an id that lies inside ends at a number
 pub id-fits : (h len : ℕ) (e : EntryRecord) → EntryWithin h len e → len < 18446744073709551616 → e .«id_start» + h < 18446744073709551616

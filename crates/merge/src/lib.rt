@@ -4,7 +4,7 @@ ghost use Prim.Native.Nat.{_+_, _≤_, _<_};
 ghost use lib.ListN.{length};
 ghost use Rattle.entry.specs.Record.{folderOf};
 ghost use Rattle.order.specs.Order.{nameOrder};
-ghost use Rattle.merge.specs.Merge.{aheadAt, AheadWithin, EntryWithin, nameIn, noSide, sideOf, leftChange, rightChange, bothOf, stepAt};
+ghost use Rattle.merge.specs.Merge.{aheadAt, EntryWithin, nameIn, noSide, sideOf, leftChange, rightChange, bothOf, stepAt};
 use entry::Cursor;
 use entry::Decoded;
 use entry::EntryRecord;
@@ -53,7 +53,6 @@ pub enum Step {
 // The next entry of a tree that lies inside the bundle.
 fn next_entry(bundle: &[u8], h: usize, c: Rest) -> Ahead
     ensures { λ r. ⌜ r ≡ aheadAt h (now (bundle .entry)) c ⌝ }
-    ensures { λ r. ⌜ AheadWithin h (now (bundle .entry)) c r ⌝ }
 {
     let left = c.left;
     if left == 0 {
@@ -69,15 +68,14 @@ fn next_entry(bundle: &[u8], h: usize, c: Rest) -> Ahead
     }
     let from = Cursor { at: c.at };
     match from.decode(&bundle[start..end], h) {
-        Decoded::Broken(_) => Ahead::End,
+        Decoded::Broken(_) => return Ahead::End,
         Decoded::Whole(e, next) => {
             let name_start = start + e.name_start;
             let name_end = start + e.name_end;
             let id_start = start + e.id_start;
             let text_start = start + e.text_start;
-            let at = next.at;
             let fewer = left - 1;
-            Ahead::Entry(
+            return Ahead::Entry(
                 EntryRecord {
                     mode: e.mode,
                     name_start,
@@ -88,10 +86,10 @@ fn next_entry(bundle: &[u8], h: usize, c: Rest) -> Ahead
                 Rest {
                     start,
                     end,
-                    at,
+                    at: next.at,
                     left: fewer,
                 },
-            )
+            );
         }
     }
 }
@@ -132,16 +130,14 @@ fn in_both(bundle: &[u8], h: usize, a: EntryRecord, b: EntryRecord, l: Rest, r: 
     let i_end = left.id_end;
     let j = right.id_start;
     let j_end = right.id_end;
-    let name_start = a.name_start;
-    let name_end = a.name_end;
     if same_bytes(&bundle[i..i_end], &bundle[j..j_end]) {
         if a.mode == b.mode {
             return Step::Same(l, r);
         }
         return Step::Differs(
             Change {
-                name_start,
-                name_end,
+                name_start: a.name_start,
+                name_end: a.name_end,
                 left,
                 right,
                 deep: false,
@@ -153,8 +149,8 @@ fn in_both(bundle: &[u8], h: usize, a: EntryRecord, b: EntryRecord, l: Rest, r: 
     let deep = is_folder(a);
     Step::Differs(
         Change {
-            name_start,
-            name_end,
+            name_start: a.name_start,
+            name_end: a.name_end,
             left,
             right,
             deep,
@@ -224,15 +220,15 @@ pub fn merge_step(bundle: &[u8], h: usize, l: Rest, r: Rest) -> Step
     let y = next_entry(bundle, h, r);
     match x {
         Ahead::End => match y {
-            Ahead::End => Step::Done,
-            Ahead::Entry(b, next) => Step::Differs(only_right(h, b), l, next),
+            Ahead::End => return Step::Done,
+            Ahead::Entry(b, next) => return Step::Differs(only_right(h, b), l, next),
         },
         Ahead::Entry(a, next) => match y {
-            Ahead::End => Step::Differs(only_left(h, a), next, r),
+            Ahead::End => return Step::Differs(only_left(h, a), next, r),
             Ahead::Entry(b, other) => match order_of(bundle, a, b) {
-                Order::Below => Step::Differs(only_left(h, a), next, r),
-                Order::Same => in_both(bundle, h, a, b, next, other),
-                Order::Above => Step::Differs(only_right(h, b), l, other),
+                Order::Below => return Step::Differs(only_left(h, a), next, r),
+                Order::Same => return in_both(bundle, h, a, b, next, other),
+                Order::Above => return Step::Differs(only_right(h, b), l, other),
             },
         },
     }

@@ -2,8 +2,8 @@
 use native.Mathlib.Nat.{add-zero}
 use native.Mathlib.Numerals.{add-one}
 use native.Mathlib.Omega.{arith}
-use Prim.Native.Nat.{ℕ, _+_, _-_, _/_, _%_, _≤_, _<_, max}
-use mathlib.Core.Path.{_≡_, refl, ap, sym, _∙_}
+use Prim.Native.Nat.{ℕ, _+_, _-_, _*_, _/_, _%_, _≤_, _<_, max}
+use mathlib.Core.Path.{_≡_, refl, ap, sym, subst, _∙_}
 use mathlib.Core.Bool.{Bool, true, false, _&&_, not}
 use mathlib.Core.List.{List, [], _∷_, _++_}
 use mathlib.Core.Logic.{⊎-elim}
@@ -19,7 +19,7 @@ use Rattle.ground.specs.declared.Verdict.{Verdict}
 use Rattle.ground.specs.declared.Answer.{Answer}
 use Rattle.ground.specs.declared.Gate.the-variants.{Open, Shut}
 use Rattle.output.specs.Output.{fitted}
-use Rattle.output.proofs.Laws.{gated-shut, gated-open}
+use Rattle.output.proofs.Laws.{fitted-done, gated-shut, gated-open}
 use Rattle.mode_text.specs.Write.{sixDigits, trimmed, writeMode}
 use Rattle.mode_text.proofs.Laws.{mode-le}
 use Rattle.entry.specs.Record.{many, noRecord, recordsOf, wellFormed, nameOf, idOf}
@@ -52,10 +52,22 @@ module _ (h : ℕ) (bytes : List ℕ) (e : EntryRecord) (w : wellFormed h (lengt
   unfolding entryBytes entryOf entrySize
   entry-length = simp length-append (omega (arith, name-length, id-length))
 
+  -- all that measuring it asks
+  pub sized : length bytes ≤ mostBytes → h ≤ 32 → (e .mode ≤ 65535) × (e .«name_start» ≤ e .«name_end») × (e .«name_end» ≤ mostBytes) × (h ≤ 32)
+  sized p q = let f = well-parts h (length bytes) e w in (f .0, f .1, omega (arith, f .2), q)
+
   -- six letters, a space, the longest name, a NUL and 32 bytes at most: so no sum of sizes leaves 64 bits
   pub size-le : length bytes ≤ mostBytes → h ≤ 32 → entrySize h e ≤ 1073741864
   unfolding entrySize
   size-le p q = omega (arith, well-parts h (length bytes) e w, mode-le (e .mode))
+
+-- sizes are summed in 64 bits
+module _ (i sum size : ℕ) (p : sum ≤ i * 1073741864) (q : size ≤ 1073741864) where
+  pub sum-fits : (n : ℕ) → i < n → n ≤ mostRecords → sum + size < 18446744073709551616
+  sum-fits n l g = omega arith
+
+  pub sum-next : sum + size ≤ (i + 1) * 1073741864
+  sum-next = omega arith
 
 -- ---- what refuses a record
 
@@ -248,6 +260,19 @@ module _ (h : ℕ) (bytes records : List ℕ) (i sum : ℕ) where
   unfolding asWritten
   written-end out p = rw (rest-end records i p)
 
+-- the places of an entry that has room are numbers, and it ends at its size
+module _ (h : ℕ) (e : EntryRecord) (at n : ℕ) where
+  pub entry-places : (room : ℕ) → n ≡ length (writeMode (e .mode)) → at + entrySize h e ≤ room → room < 18446744073709551616
+      → (at + n < 18446744073709551616) × (at + n + 1 < 18446744073709551616) × (at + n + 1 + (e .«name_end» - e .«name_start») < 18446744073709551616)
+      × (at + n + 1 + (e .«name_end» - e .«name_start») + 1 < 18446744073709551616)
+      × (at + n + 1 + (e .«name_end» - e .«name_start») + 1 + h < 18446744073709551616)
+  unfolding entrySize
+  entry-places room q g b = (omega arith, omega arith, omega arith, omega arith, omega arith)
+
+  pub entry-end : n ≡ length (writeMode (e .mode)) → at + n + 1 + (e .«name_end» - e .«name_start») + 1 + h ≡ at + entrySize h e
+  unfolding entrySize
+  entry-end q = omega arith
+
 -- an entry is written in three pieces: mode text and space, name and NUL, id
 module _ (h : ℕ) (bytes : List ℕ) (e : EntryRecord) (w : wellFormed h (length bytes) e ≡ true) where
   pub entry-stored : (out first second after text : List ℕ) (at name id : ℕ) → text ≡ writeMode (e .mode)
@@ -295,3 +320,22 @@ module _ (h : ℕ) (bytes records : List ℕ) where
     pub answer-open : gateOf h longest (many (length records)) ≡ Open → treeAnswer h bytes records room ≡ fitted room (measured true h bytes 0 0 (recordsOf records))
     unfolding treeAnswer
     answer-open g = rw (← e, records-many records) (gated-open _ _ g)
+
+    -- what was measured and has room is the answer
+    pub answer-fits : (m a : Answer) → m ≡ measured true h bytes 0 0 (recordsOf records) → a ≡ fitted room m → gateOf h longest (many (length records)) ≡ Open
+        → treeAnswer h bytes records room ≡ a
+    answer-fits m a p q g = answer-open g ∙ sym (q ∙ ap (fitted room) p)
+
+  module _ (m : Answer) (p : m ≡ measured true h bytes 0 0 (recordsOf records)) where
+    -- all that filling asks
+    pub fills : (room : ℕ) (a : Answer) → a ≡ fitted room m → a .verdict .number ≡ 0
+        → (measured true h bytes 0 0 (recordsOf records) .verdict .number ≡ 0) × (measured true h bytes 0 0 (recordsOf records) .count ≤ room)
+    fills room a q z =
+        let d = fitted-done room m (sym (ap (λ (x : Answer). x .verdict .number) q) ∙ z) in
+        (sym (ap (λ (x : Answer). x .verdict .number) p) ∙ d .0, subst (λ (x : Answer). x .count ≤ room) p (d .1))
+
+    pub count-is : m .verdict .number ≡ 0 → m .count ≡ length (written h bytes (recordsOf records))
+    count-is z =
+        ap (λ (x : Answer). x .count) p
+        ∙ measured-length true h bytes 0 0 (recordsOf records) (sym (ap (λ (x : Answer). x .verdict .number) p) ∙ z)
+        ∙ omega arith

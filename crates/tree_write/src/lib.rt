@@ -185,11 +185,13 @@ pub fn tree_size(bytes: &[u8], h: usize, records: &[usize]) -> Answer
     ensures { λ r. ⌜ r ≡ treeSize h (now (bytes .entry)) (now (records .entry)) ⌝ }
 {
     match bounds(h, bytes.len(), records.len() / WIDTH) {
-        Gate::Shut(v) => Answer {
-            verdict: v,
-            count: 0,
-        },
-        Gate::Open => measure(bytes, h, records, false),
+        Gate::Shut(v) => {
+            return Answer {
+                verdict: v,
+                count: 0,
+            };
+        }
+        Gate::Open => return measure(bytes, h, records, false),
     }
 }
 

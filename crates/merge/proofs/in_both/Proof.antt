@@ -2,13 +2,7 @@
 use borrow.Author.Needs.{needs}
 use Rattle.merge.proofs.in_both.Statement.{statement}
 use Rattle.merge.proofs.in_both.Tie as tie
-use Rattle.merge.proofs.in_both.Reads as reads
-use Rattle.merge.proofs.in_both.Lts as lts
-use Rattle.merge.proofs.side_of.Reads as side-of-reads
-use Rattle.entry_record.proofs.is_folder.Reads as is-folder-reads
-use Rattle.scan.proofs.same_bytes.Reads as same-bytes-reads
 use Rattle.merge.proofs.Laws as laws
-use native.Mathlib.Omega.{arith}
 use lib.ListN.{length}
 
 side-of-requires : tie.Need-side-of-requires
@@ -22,48 +16,42 @@ sub-same-bytes c =
     let args = c .before .before .before .args in
     let pre = c .before .before .before .pre in
     let side-of = c .before .side-of in
-    let f = laws.side-within (args .h) (length (args .bundle .now)) (args .a) (side-of .result) (side-of .ensures) (pre .0 .2) in
-    omega (arith, f .0, f .1)
+    laws.side-within (args .h) (length (args .bundle .now)) (args .a) (side-of .result) (side-of .ensures) (pre .0 .2) .0
 
 part-same-bytes-start : tie.Need-part-same-bytes-start
 part-same-bytes-start c =
     let args = c .before .before .before .args in
     let pre = c .before .before .before .pre in
     let side-of = c .before .side-of in
-    let f = laws.side-within (args .h) (length (args .bundle .now)) (args .a) (side-of .result) (side-of .ensures) (pre .0 .2) in
-    omega (arith, f .0, f .1)
+    laws.side-within (args .h) (length (args .bundle .now)) (args .a) (side-of .result) (side-of .ensures) (pre .0 .2) .0
 
 part-same-bytes-end : tie.Need-part-same-bytes-end
 part-same-bytes-end c =
     let args = c .before .before .before .args in
     let pre = c .before .before .before .pre in
     let side-of = c .before .side-of in
-    let f = laws.side-within (args .h) (length (args .bundle .now)) (args .a) (side-of .result) (side-of .ensures) (pre .0 .2) in
-    omega (arith, f .0, f .1)
+    laws.side-within (args .h) (length (args .bundle .now)) (args .a) (side-of .result) (side-of .ensures) (pre .0 .2) .1
 
 sub-same-bytes-2 : tie.Need-sub-same-bytes-2
 sub-same-bytes-2 c =
     let args = c .before .before .before .before .args in
     let pre = c .before .before .before .before .pre in
     let side-of2 = c .before .side-of2 in
-    let f = laws.side-within (args .h) (length (args .bundle .now)) (args .b) (side-of2 .result) (side-of2 .ensures) (pre .1 .2) in
-    omega (arith, f .0, f .1)
+    laws.side-within (args .h) (length (args .bundle .now)) (args .b) (side-of2 .result) (side-of2 .ensures) (pre .1 .2) .0
 
 part-same-bytes-start-2 : tie.Need-part-same-bytes-start-2
 part-same-bytes-start-2 c =
     let args = c .before .before .before .before .args in
     let pre = c .before .before .before .before .pre in
     let side-of2 = c .before .side-of2 in
-    let f = laws.side-within (args .h) (length (args .bundle .now)) (args .b) (side-of2 .result) (side-of2 .ensures) (pre .1 .2) in
-    omega (arith, f .0, f .1)
+    laws.side-within (args .h) (length (args .bundle .now)) (args .b) (side-of2 .result) (side-of2 .ensures) (pre .1 .2) .0
 
 part-same-bytes-end-2 : tie.Need-part-same-bytes-end-2
 part-same-bytes-end-2 c =
     let args = c .before .before .before .before .args in
     let pre = c .before .before .before .before .pre in
     let side-of2 = c .before .side-of2 in
-    let f = laws.side-within (args .h) (length (args .bundle .now)) (args .b) (side-of2 .result) (side-of2 .ensures) (pre .1 .2) in
-    omega (arith, f .0, f .1)
+    laws.side-within (args .h) (length (args .bundle .now)) (args .b) (side-of2 .result) (side-of2 .ensures) (pre .1 .2) .1
 
 same-bytes-requires : tie.Need-same-bytes-requires
 same-bytes-requires c κs = search needs

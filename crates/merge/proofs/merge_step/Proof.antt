@@ -26,7 +26,7 @@ only-right-requires c κs =
     let good = c .before .before .before .before .before .before .before .before .good in
     let next-entry2 = c .before .before .before .before .before .next-entry2 in
     let y = c .before .y in
-    let f = laws.entry-in (args .h) (args .bundle .now) (args .r) (next-entry2 .result) (y .given .0 .0) (y .given .0 .1 .0) (next-entry2 .ensures .1)
+    let f = laws.entry-in (args .h) (args .bundle .now) (args .r) (next-entry2 .result) (y .given .0 .0) (y .given .0 .1 .0) (next-entry2 .ensures)
     (y .given .1) in
     laws.id-fits (args .h) (length (args .bundle .now)) (y .given .0 .0) f (good .0 .0)
 
@@ -42,7 +42,7 @@ only-left-requires c κs =
     let good = c .before .before .before .before .before .before .before .before .good in
     let next-entry = c .before .before .before .before .before .before .next-entry in
     let x = c .before .before .before .x in
-    let f = laws.entry-in (args .h) (args .bundle .now) (args .l) (next-entry .result) (x .given .0 .0) (x .given .0 .1 .0) (next-entry .ensures .1)
+    let f = laws.entry-in (args .h) (args .bundle .now) (args .l) (next-entry .result) (x .given .0 .0) (x .given .0 .1 .0) (next-entry .ensures)
     (x .given .1) in
     laws.id-fits (args .h) (length (args .bundle .now)) (x .given .0 .0) f (good .0 .0)
 
@@ -56,9 +56,9 @@ order-of-requires c κs =
     let next-entry2 = c .before .before .before .before .before .before .next-entry2 in
     let x = c .before .before .before .before .x in
     let y2 = c .before .y2 in
-    let f = laws.entry-in (args .h) (args .bundle .now) (args .l) (next-entry .result) (x .given .0 .0) (x .given .0 .1 .0) (next-entry .ensures .1)
+    let f = laws.entry-in (args .h) (args .bundle .now) (args .l) (next-entry .result) (x .given .0 .0) (x .given .0 .1 .0) (next-entry .ensures)
     (x .given .1) in
-    let g = laws.entry-in (args .h) (args .bundle .now) (args .r) (next-entry2 .result) (y2 .given .0 .0) (y2 .given .0 .1 .0) (next-entry2 .ensures .1)
+    let g = laws.entry-in (args .h) (args .bundle .now) (args .r) (next-entry2 .result) (y2 .given .0 .0) (y2 .given .0 .1 .0) (next-entry2 .ensures)
     (y2 .given .1) in
     ((f .0, f .1), (g .0, g .1))
 
@@ -71,7 +71,7 @@ only-left-requires-2 c κs =
     let good = c .before .before .before .before .before .before .before .before .before .before .before .before .good in
     let next-entry = c .before .before .before .before .before .before .before .before .before .before .next-entry in
     let x = c .before .before .before .before .before .before .before .x in
-    let f = laws.entry-in (args .h) (args .bundle .now) (args .l) (next-entry .result) (x .given .0 .0) (x .given .0 .1 .0) (next-entry .ensures .1)
+    let f = laws.entry-in (args .h) (args .bundle .now) (args .l) (next-entry .result) (x .given .0 .0) (x .given .0 .1 .0) (next-entry .ensures)
     (x .given .1) in
     laws.id-fits (args .h) (length (args .bundle .now)) (x .given .0 .0) f (good .0 .0)
 
@@ -85,8 +85,8 @@ in-both-requires c κs =
     let next-entry2 = c .before .before .before .before .before .before .before .before .before .next-entry2 in
     let x = c .before .before .before .before .before .before .before .x in
     let y2 = c .before .before .before .before .y2 in (
-      laws.entry-in (args .h) (args .bundle .now) (args .l) (next-entry .result) (x .given .0 .0) (x .given .0 .1 .0) (next-entry .ensures .1) (x .given .1),
-      laws.entry-in (args .h) (args .bundle .now) (args .r) (next-entry2 .result) (y2 .given .0 .0) (y2 .given .0 .1 .0) (next-entry2 .ensures .1) (y2 .given .1),
+      laws.entry-in (args .h) (args .bundle .now) (args .l) (next-entry .result) (x .given .0 .0) (x .given .0 .1 .0) (next-entry .ensures) (x .given .1),
+      laws.entry-in (args .h) (args .bundle .now) (args .r) (next-entry2 .result) (y2 .given .0 .0) (y2 .given .0 .1 .0) (next-entry2 .ensures) (y2 .given .1),
     )
 
 enum-told-6 : tie.Need-enum-told-6
@@ -98,7 +98,7 @@ only-right-requires-2 c κs =
     let good = c .before .before .before .before .before .before .before .before .before .before .before .before .good in
     let next-entry2 = c .before .before .before .before .before .before .before .before .before .next-entry2 in
     let y2 = c .before .before .before .before .y2 in
-    let f = laws.entry-in (args .h) (args .bundle .now) (args .r) (next-entry2 .result) (y2 .given .0 .0) (y2 .given .0 .1 .0) (next-entry2 .ensures .1)
+    let f = laws.entry-in (args .h) (args .bundle .now) (args .r) (next-entry2 .result) (y2 .given .0 .0) (y2 .given .0 .1 .0) (next-entry2 .ensures)
     (y2 .given .1) in
     laws.id-fits (args .h) (length (args .bundle .now)) (y2 .given .0 .0) f (good .0 .0)
 
@@ -109,8 +109,8 @@ returns c =
     let next-entry2 = c .before .before .before .before .next-entry2 in
     let enum-told = c .before .before .enum-told in
     let enum-told2 = c .enum-told2 in
-    laws.step-done (args .h) (args .bundle .now) (args .l) (args .r) (next-entry .result) (next-entry2 .result) (next-entry .ensures .0)
-    (next-entry2 .ensures .0) (enum-told .given .1) (enum-told2 .given .1)
+    laws.step-done (args .h) (args .bundle .now) (args .l) (args .r) (next-entry .result) (next-entry2 .result) (next-entry .ensures)
+    (next-entry2 .ensures) (enum-told .given .1) (enum-told2 .given .1)
 
 returns-2 : tie.Need-returns-2
 returns-2 c =
@@ -120,8 +120,8 @@ returns-2 c =
     let enum-told = c .before .before .before .before .enum-told in
     let y = c .before .before .y in
     let only-right = c .only-right in
-    laws.step-right-end (args .h) (args .bundle .now) (args .l) (args .r) (next-entry .result) (next-entry2 .result) (next-entry .ensures .0)
-    (next-entry2 .ensures .0) (enum-told .given .1) (y .given .0 .0) (y .given .0 .1 .0) (y .given .1) (only-right .result) (only-right .ensures)
+    laws.step-right-end (args .h) (args .bundle .now) (args .l) (args .r) (next-entry .result) (next-entry2 .result) (next-entry .ensures)
+    (next-entry2 .ensures) (enum-told .given .1) (y .given .0 .0) (y .given .0 .1 .0) (y .given .1) (only-right .result) (only-right .ensures)
 
 returns-3 : tie.Need-returns-3
 returns-3 c =
@@ -131,8 +131,8 @@ returns-3 c =
     let x = c .before .before .before .before .x in
     let enum-told3 = c .before .enum-told3 in
     let only-left = c .only-left in
-    laws.step-left-end (args .h) (args .bundle .now) (args .l) (args .r) (next-entry .result) (next-entry2 .result) (next-entry .ensures .0)
-    (next-entry2 .ensures .0) (enum-told3 .given .1) (x .given .0 .0) (x .given .0 .1 .0) (x .given .1) (only-left .result) (only-left .ensures)
+    laws.step-left-end (args .h) (args .bundle .now) (args .l) (args .r) (next-entry .result) (next-entry2 .result) (next-entry .ensures)
+    (next-entry2 .ensures) (enum-told3 .given .1) (x .given .0 .0) (x .given .0 .1 .0) (x .given .1) (only-left .result) (only-left .ensures)
 
 returns-4 : tie.Need-returns-4
 returns-4 c =
@@ -144,8 +144,8 @@ returns-4 c =
     let order-of = c .before .before .before .order-of in
     let enum-told4 = c .before .enum-told4 in
     let only-left2 = c .only-left2 in
-    laws.step-left (args .h) (args .bundle .now) (args .l) (args .r) (next-entry .result) (next-entry2 .result) (next-entry .ensures .0)
-    (next-entry2 .ensures .0) (x .given .0 .0) (x .given .0 .1 .0) (x .given .1) (y2 .given .0 .0) (y2 .given .0 .1 .0) (y2 .given .1) (order-of .result)
+    laws.step-left (args .h) (args .bundle .now) (args .l) (args .r) (next-entry .result) (next-entry2 .result) (next-entry .ensures)
+    (next-entry2 .ensures) (x .given .0 .0) (x .given .0 .1 .0) (x .given .1) (y2 .given .0 .0) (y2 .given .0 .1 .0) (y2 .given .1) (order-of .result)
     (order-of .ensures) (enum-told4 .given .1) (only-left2 .result) (only-left2 .ensures)
 
 returns-5 : tie.Need-returns-5
@@ -158,8 +158,8 @@ returns-5 c =
     let order-of = c .before .before .before .order-of in
     let enum-told5 = c .before .enum-told5 in
     let in-both = c .in-both in
-    laws.step-both (args .h) (args .bundle .now) (args .l) (args .r) (next-entry .result) (next-entry2 .result) (next-entry .ensures .0)
-    (next-entry2 .ensures .0) (x .given .0 .0) (x .given .0 .1 .0) (x .given .1) (y2 .given .0 .0) (y2 .given .0 .1 .0) (y2 .given .1) (order-of .result)
+    laws.step-both (args .h) (args .bundle .now) (args .l) (args .r) (next-entry .result) (next-entry2 .result) (next-entry .ensures)
+    (next-entry2 .ensures) (x .given .0 .0) (x .given .0 .1 .0) (x .given .1) (y2 .given .0 .0) (y2 .given .0 .1 .0) (y2 .given .1) (order-of .result)
     (order-of .ensures) (enum-told5 .given .1) (in-both .result) (in-both .ensures)
 
 returns-6 : tie.Need-returns-6
@@ -172,8 +172,8 @@ returns-6 c =
     let order-of = c .before .before .before .order-of in
     let enum-told6 = c .before .enum-told6 in
     let only-right2 = c .only-right2 in
-    laws.step-right (args .h) (args .bundle .now) (args .l) (args .r) (next-entry .result) (next-entry2 .result) (next-entry .ensures .0)
-    (next-entry2 .ensures .0) (x .given .0 .0) (x .given .0 .1 .0) (x .given .1) (y2 .given .0 .0) (y2 .given .0 .1 .0) (y2 .given .1) (order-of .result)
+    laws.step-right (args .h) (args .bundle .now) (args .l) (args .r) (next-entry .result) (next-entry2 .result) (next-entry .ensures)
+    (next-entry2 .ensures) (x .given .0 .0) (x .given .0 .1 .0) (x .given .1) (y2 .given .0 .0) (y2 .given .0 .1 .0) (y2 .given .1) (order-of .result)
     (order-of .ensures) (enum-told6 .given .1) (only-right2 .result) (only-right2 .ensures)
 
 pub merge-step-spec : {M : Type 1} → statement M
@@ -184,22 +184,22 @@ merge-step-spec =
     next-entry-requires-2
     enum-told
     enum-told-2
+    returns
     enum-known-y
     only-right-requires
+    returns-2
     enum-known-x
     enum-told-3
     only-left-requires
+    returns-3
     enum-known-y-2
     order-of-requires
     enum-told-4
     only-left-requires-2
+    returns-4
     enum-told-5
     in-both-requires
+    returns-5
     enum-told-6
     only-right-requires-2
-    returns
-    returns-2
-    returns-3
-    returns-4
-    returns-5
     returns-6)

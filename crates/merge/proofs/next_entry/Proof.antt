@@ -3,17 +3,16 @@ use borrow.Author.Needs.{needs}
 use Rattle.merge.proofs.next_entry.Statement.{statement}
 use Rattle.merge.proofs.next_entry.Tie as tie
 use Rattle.merge.proofs.Laws as laws
-use native.Mathlib.Omega.{arith}
 
 returns : tie.Need-returns
-returns c = (laws.ahead-none (c .before .before .args .h) (c .before .before .args .bundle .now) (c .before .before .args .c) (c .if1 .taken), tt)
+returns c = laws.ahead-none (c .before .before .args .h) (c .before .before .args .bundle .now) (c .before .before .args .c) (c .if1 .taken)
 
 returns-2 : tie.Need-returns-2
 returns-2 c =
     let args = c .before .before .before .args in
     let if1 = c .before .if1 in
     let if2 = c .if2 in
-    (laws.ahead-crossed (args .h) (args .bundle .now) (args .c) (if1 .left) (if2 .taken), tt)
+    laws.ahead-crossed (args .h) (args .bundle .now) (args .c) (if1 .left) (if2 .taken)
 
 returns-3 : tie.Need-returns-3
 returns-3 c =
@@ -21,13 +20,13 @@ returns-3 c =
     let if1 = c .before .before .if1 in
     let if2 = c .before .if2 in
     let if3 = c .if3 in
-    (laws.ahead-outside (args .h) (args .bundle .now) (args .c) (if1 .left) (if2 .left) (if3 .taken), tt)
+    laws.ahead-outside (args .h) (args .bundle .now) (args .c) (if1 .left) (if2 .left) (if3 .taken)
 
 part-decode-start : tie.Need-part-decode-start
-part-decode-start c = search needs
+part-decode-start c = c .before .if2 .left
 
 part-decode-end : tie.Need-part-decode-end
-part-decode-end c = search needs
+part-decode-end c = c .if3 .left
 
 decode-requires : tie.Need-decode-requires
 decode-requires c κs = search needs
@@ -47,9 +46,10 @@ add-name-start c =
     let if3 = c .before .before .before .before .before .before .if3 in
     let decode = c .before .before .before .before .decode in
     let e = c .before .before .e in
-    let f = laws.ahead-inside (args .h) (args .bundle .now) (args .c) (if1 .left) (if2 .left) (if3 .left) (decode .result) (decode .ensures) (e .given .0 .0)
-    (e .given .0 .1 .0) (e .given .1) in
-    omega (arith, f .0, f .1, good .0 .0)
+    record {
+      fits = laws.ahead-fits (args .h) (args .bundle .now) (args .c) (if1 .left) (if2 .left) (if3 .left) (decode .result)
+          (decode .ensures) (e .given .0 .0) (e .given .0 .1 .0) (e .given .1) (good .0 .0) .0;
+    }
 
 add-name-end : tie.Need-add-name-end
 add-name-end c =
@@ -60,9 +60,10 @@ add-name-end c =
     let if3 = c .before .before .before .before .before .before .before .if3 in
     let decode = c .before .before .before .before .before .decode in
     let e = c .before .before .before .e in
-    let f = laws.ahead-inside (args .h) (args .bundle .now) (args .c) (if1 .left) (if2 .left) (if3 .left) (decode .result) (decode .ensures) (e .given .0 .0)
-    (e .given .0 .1 .0) (e .given .1) in
-    omega (arith, f .1, good .0 .0)
+    record {
+      fits = laws.ahead-fits (args .h) (args .bundle .now) (args .c) (if1 .left) (if2 .left) (if3 .left) (decode .result)
+          (decode .ensures) (e .given .0 .0) (e .given .0 .1 .0) (e .given .1) (good .0 .0) .1;
+    }
 
 add-id-start : tie.Need-add-id-start
 add-id-start c =
@@ -73,9 +74,10 @@ add-id-start c =
     let if3 = c .before .before .before .before .before .before .before .before .if3 in
     let decode = c .before .before .before .before .before .before .decode in
     let e = c .before .before .before .before .e in
-    let f = laws.ahead-inside (args .h) (args .bundle .now) (args .c) (if1 .left) (if2 .left) (if3 .left) (decode .result) (decode .ensures) (e .given .0 .0)
-    (e .given .0 .1 .0) (e .given .1) in
-    omega (arith, f .2, good .0 .0)
+    record {
+      fits = laws.ahead-fits (args .h) (args .bundle .now) (args .c) (if1 .left) (if2 .left) (if3 .left) (decode .result)
+          (decode .ensures) (e .given .0 .0) (e .given .0 .1 .0) (e .given .1) (good .0 .0) .2;
+    }
 
 add-text-start : tie.Need-add-text-start
 add-text-start c =
@@ -86,9 +88,10 @@ add-text-start c =
     let if3 = c .before .before .before .before .before .before .before .before .before .if3 in
     let decode = c .before .before .before .before .before .before .before .decode in
     let e = c .before .before .before .before .before .e in
-    let f = laws.ahead-text (args .h) (args .bundle .now) (args .c) (if1 .left) (if2 .left) (if3 .left) (decode .result) (decode .ensures) (e .given .0 .0)
-    (e .given .0 .1 .0) (e .given .1) in
-    omega (arith, f, good .0 .0)
+    record {
+      fits = laws.ahead-fits (args .h) (args .bundle .now) (args .c) (if1 .left) (if2 .left) (if3 .left) (decode .result)
+          (decode .ensures) (e .given .0 .0) (e .given .0 .1 .0) (e .given .1) (good .0 .0) .3;
+    }
 
 sub-fewer : tie.Need-sub-fewer
 sub-fewer c = search needs
@@ -100,11 +103,9 @@ returns-4 c =
     let if2 = c .before .before .before .before .before .if2 in
     let if3 = c .before .before .before .before .if3 in
     let decode = c .before .before .decode in
-    let enum-told = c .enum-told in (
-      laws.ahead-broken (args .h) (args .bundle .now) (args .c) (if1 .left) (if2 .left) (if3 .left) (decode .result) (decode .ensures) (enum-told .given .0 .0)
-          (enum-told .given .1),
-      tt,
-    )
+    let enum-told = c .enum-told in
+    laws.ahead-broken (args .h) (args .bundle .now) (args .c) (if1 .left) (if2 .left) (if3 .left) (decode .result) (decode .ensures) (enum-told .given .0 .0)
+    (enum-told .given .1)
 
 returns-5 : tie.Need-returns-5
 returns-5 c =
@@ -113,16 +114,9 @@ returns-5 c =
     let if2 = c .before .before .before .before .before .before .before .before .before .before .if2 in
     let if3 = c .before .before .before .before .before .before .before .before .before .if3 in
     let decode = c .before .before .before .before .before .before .before .decode in
-    let e = c .before .before .before .before .before .e in (
-      laws.ahead-whole (args .h) (args .bundle .now) (args .c) (if1 .left) (if2 .left) (if3 .left) (decode .result) (decode .ensures) (e .given .0 .0)
-          (e .given .0 .1 .0) (e .given .1),
-      (
-        laws.ahead-inside (args .h) (args .bundle .now) (args .c) (if1 .left) (if2 .left) (if3 .left) (decode .result)
-            (decode .ensures) (e .given .0 .0) (e .given .0 .1 .0) (e .given .1),
-        (if2 .left, if3 .left),
-        omega (arith, if1 .left),
-      ),
-    )
+    let e = c .before .before .before .before .before .e in
+    laws.ahead-whole (args .h) (args .bundle .now) (args .c) (if1 .left) (if2 .left) (if3 .left) (decode .result) (decode .ensures) (e .given .0 .0)
+    (e .given .0 .1 .0) (e .given .1)
 
 pub next-entry-spec : {M : Type 1} → statement M
 next-entry-spec =
@@ -135,11 +129,11 @@ next-entry-spec =
     part-decode-end
     decode-requires
     enum-told
+    returns-4
     enum-known-e
     add-name-start
     add-name-end
     add-id-start
     add-text-start
     sub-fewer
-    returns-4
     returns-5)

@@ -2,11 +2,6 @@
 use borrow.Author.Needs.{needs}
 use Rattle.merge.proofs.only_left.Statement.{statement}
 use Rattle.merge.proofs.only_left.Tie as tie
-use Rattle.merge.proofs.only_left.Reads as reads
-use Rattle.merge.proofs.only_left.Lts as lts
-use Rattle.merge.proofs.no_side.Reads as no-side-reads
-use Rattle.merge.proofs.side_of.Reads as side-of-reads
-use Rattle.entry_record.proofs.is_folder.Reads as is-folder-reads
 use Rattle.merge.proofs.Laws as laws
 
 side-of-requires : tie.Need-side-of-requires

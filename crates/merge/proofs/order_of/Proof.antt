@@ -5,25 +5,25 @@ use Rattle.merge.proofs.order_of.Tie as tie
 use Rattle.merge.proofs.Laws.{order-is}
 
 sub-name-order : tie.Need-sub-name-order
-sub-name-order c = search needs
+sub-name-order c = c .before .pre .0 .0
 
 part-name-order-start : tie.Need-part-name-order-start
-part-name-order-start c = search needs
+part-name-order-start c = c .before .pre .0 .0
 
 part-name-order-end : tie.Need-part-name-order-end
-part-name-order-end c = search needs
+part-name-order-end c = c .before .pre .0 .1
 
 is-folder-requires : tie.Need-is-folder-requires
 is-folder-requires c κs = search needs
 
 sub-name-order-2 : tie.Need-sub-name-order-2
-sub-name-order-2 c = search needs
+sub-name-order-2 c = c .before .before .before .pre .1 .0
 
 part-name-order-start-2 : tie.Need-part-name-order-start-2
-part-name-order-start-2 c = search needs
+part-name-order-start-2 c = c .before .before .before .pre .1 .0
 
 part-name-order-end-2 : tie.Need-part-name-order-end-2
-part-name-order-end-2 c = search needs
+part-name-order-end-2 c = c .before .before .before .pre .1 .1
 
 is-folder-requires-2 : tie.Need-is-folder-requires-2
 is-folder-requires-2 c κs = search needs

@@ -7,6 +7,7 @@ use Rattle.entry.specs.Record.{many, recordsOf}
 use Rattle.entry.proofs.Laws.{well-parts}
 use lib.Seq.{sets}
 use lib.ListN.{length, drop}
+use native.Mathlib.Nat.{le-trans}
 use native.Mathlib.Omega.{arith}
 use mathlib.Core.Bool.{true}
 use mathlib.Core.Path.{_≡_, refl, sym, _∙_}
@@ -29,10 +30,11 @@ entry-at-requires c κs = search needs
 
 write-entry-requires : tie.Need-write-entry-requires Inv-loop μ-loop
 write-entry-requires c κs =
-    let at-loop = c .before .before .before in
-    let at-pre = at-loop .before .before .before .before in
-    let s = step _ _ _ _ _ _ (omega arith) (c .before .entry-at .ensures) _ (at-loop .loop .inv .3) (at-pre .pre .0) in
-    (well-parts _ _ _ (s .0), omega (arith, s .1, at-pre .pre .1, at-loop .loop .inv .2))
+    let loop-test = c .before .before .loop-test in
+    let loop = c .before .before .before .loop in
+    let pre = c .before .before .before .before .before .before .before .pre in
+    let s = step _ _ _ _ _ _ (loop-test .taken) (c .before .entry-at .ensures) _ (loop .inv .3) (pre .0) in
+    (well-parts _ _ _ (s .0), rw (loop .inv .2) (le-trans (s .1) (pre .1)))
 
 add-i : tie.Need-add-i Inv-loop μ-loop
 add-i c = search needs
@@ -44,17 +46,18 @@ loop-again : tie.Need-loop-again Inv-loop μ-loop
 loop-again c =
     let write-entry = c .before .before .write-entry in
     let at-entry-at = c .before .before .before .before in
+    let loop-test = at-entry-at .before .loop-test in
     let at-loop = at-entry-at .before .before in
     let at-pre = at-loop .before .before .before .before in
     let l = at-loop .loop in
-    let s = step _ _ _ _ _ _ (omega arith) (at-entry-at .entry-at .ensures) _ (l .inv .3) (at-pre .pre .0) in
+    let s = step _ _ _ _ _ _ (loop-test .taken) (at-entry-at .entry-at .ensures) _ (l .inv .3) (at-pre .pre .0) in
     let p = write-entry .ensures .0 in
     let q = write-entry .ensures .1 in (
       omega arith,
       refl,
       write-entry .kept .0 ∙ l .inv .2,
       rw p (s .2),
-      l .inv .4 ∙ written-next _ _ _ (l .i) (l .at) _ (omega arith)
+      l .inv .4 ∙ written-next _ _ _ (l .i) (l .at) _ (loop-test .taken)
           (at-entry-at .entry-at .ensures) (l .out) (s .0) ∙ rw (p, q),
     )
 
@@ -63,9 +66,9 @@ same-length c = c .before .loop .inv .2
 
 returns : tie.Need-returns Inv-loop μ-loop
 returns c =
-    let at-args = c .before .before .before .before .before in
+    let args = c .before .before .before .before .before .args in
     let l = c .before .loop in
-    sym (l .inv .4 ∙ written-end _ _ (at-args .args .records .now) (l .i) (l .at) (l .out) (omega arith))
+    sym (l .inv .4 ∙ written-end _ _ (args .records .now) (l .i) (l .at) (l .out) (c .loop-test .left))
 
 pub fill-spec : {M : Type 1} → statement M
 fill-spec =

@@ -2,10 +2,10 @@
 use Rattle.tree_write.proofs.measure.Statement.{statement}
 use Rattle.tree_write.proofs.measure.Tie as tie
 use Rattle.tree_write.specs.Write.{measured, refusal}
-use Rattle.tree_write.proofs.Laws.{measured-end, measured-bad, measured-next, refusal-well, size-le}
+use Rattle.tree_write.proofs.Laws.{measured-end, measured-bad, measured-next, refusal-well, sized, size-le, sum-fits, sum-next}
 use Rattle.ground.specs.Verdict.{verdict, refused}
 use Rattle.entry.specs.Record.{many, recordsOf}
-use Rattle.entry.proofs.Laws.{well-parts, records-many}
+use Rattle.entry.proofs.Laws.{records-many}
 use lib.ListN.{length, drop}
 use native.Mathlib.Omega.{arith}
 use mathlib.Core.Path.{_≡_, refl, sym, ap, _∙_}
@@ -30,28 +30,35 @@ refuse-requires c κs = search needs
 returns : tie.Need-returns Inv-loop μ-loop
 returns c =
     let loop = c .before .before .before .before .loop in
+    let loop-test = c .before .before .before .loop-test in
     let entry-at = c .before .before .entry-at in
     let refuse = c .before .refuse in
     let if1 = c .if1 in
-    sym (loop .inv .3 ∙ measured-bad _ _ _ _ _ _ (omega arith) (entry-at .ensures) _ (λ z. if1 .taken (refuse .ensures ∙ z)) ∙ ap
+    sym (loop .inv .3 ∙ measured-bad _ _ _ _ _ _ (loop-test .taken) (entry-at .ensures) _ (λ z. if1 .taken (refuse .ensures ∙ z)) ∙ ap
     (λ (n : ℕ). refused (verdict n (loop .i))) (sym (refuse .ensures)))
 
 entry-size-requires : tie.Need-entry-size-requires Inv-loop μ-loop
-entry-size-requires c κs = omega (arith, well-parts _ _ _ (refusal-well _ _ _ _ (sym (c .before .refuse .ensures) ∙ c .if1 .left)))
+entry-size-requires c κs =
+    let at-args = c .before .before .before .before .before .before .before in
+    let a = at-args .args in
+    let pre = at-args .pre in
+    sized (a .h) (a .bytes .now) _ (refusal-well _ _ _ _ (sym (c .before .refuse .ensures) ∙ c .if1 .left)) (pre .1) (pre .0)
 
 add-sum : tie.Need-add-sum Inv-loop μ-loop
 add-sum c =
     let refuse = c .before .before .refuse in
-    let if1 = c .before .if1 in
     let at-entry-at = c .before .before .before in
+    let e = at-entry-at .entry-at .result in
+    let loop = at-entry-at .before .before .loop in
     let at-args = at-entry-at .before .before .before .before .before in
     let a = at-args .args in
-    omega (
-      arith,
-      records-many (a .records .now),
-      size-le (a .h) (a .bytes .now) (at-entry-at .entry-at .result)
-          (refusal-well _ _ _ _ (sym (refuse .ensures) ∙ if1 .left)) (at-args .pre .1) (at-args .pre .0),
-    )
+    let pre = at-args .pre in
+    let w = refusal-well (a .h) (a .bytes .now) e (a .writing) (sym (refuse .ensures) ∙ c .before .if1 .left) in
+    record {
+      fits = sum-fits (loop .i) (loop .sum) (c .entry-size .result) (loop .inv .2)
+          (rw (c .entry-size .ensures) (size-le (a .h) (a .bytes .now) e w (pre .1) (pre .0))) (many (length (a .records .now)))
+          (at-entry-at .before .loop-test .taken) (rw records-many at (pre .2));
+    }
 
 add-i : tie.Need-add-i Inv-loop μ-loop
 add-i c = search needs
@@ -73,13 +80,15 @@ loop-again c =
     let l = at-loop .loop in (
       omega arith,
       refl,
-      omega (arith, size-le (a .h) (a .bytes .now) e (refusal-well _ _ _ _ z) (at-args .pre .1) (at-args .pre .0)),
+      sum-next (l .i) (l .sum) (entry-size .result) (l .inv .2)
+          (rw (entry-size .ensures)
+          (size-le (a .h) (a .bytes .now) e (refusal-well (a .h) (a .bytes .now) e (a .writing) z) (at-args .pre .1) (at-args .pre .0))),
       l .inv .3 ∙ measured-next
-          _ _ _ _ _ _ (omega arith) (at-entry-at .entry-at .ensures) _ z ∙ rw (entry-size .ensures),
+          _ _ _ _ _ _ (at-entry-at .before .loop-test .taken) (at-entry-at .entry-at .ensures) _ z ∙ rw (entry-size .ensures),
     )
 
 returns-2 : tie.Need-returns-2 Inv-loop μ-loop
-returns-2 c = sym (c .before .loop .inv .3 ∙ measured-end _ _ _ _ _ _ (omega arith))
+returns-2 c = sym (c .before .loop .inv .3 ∙ measured-end _ _ _ _ _ _ (c .loop-test .left))
 
 pub measure-spec : {M : Type 1} → statement M
 measure-spec =

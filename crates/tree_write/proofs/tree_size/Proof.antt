@@ -29,4 +29,4 @@ returns-2 c = c .measure .ensures ∙ sym (size-open _ _ _ (sym (c .before .befo
 
 pub tree-size-spec : {M : Type 1} → statement M
 tree-size-spec =
-    tie.close (tie.spec bounds-requires enum-known-v enum-told measure-requires returns returns-2)
+    tie.close (tie.spec bounds-requires enum-known-v returns enum-told measure-requires returns-2)

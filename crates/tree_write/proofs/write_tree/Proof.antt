@@ -2,13 +2,11 @@
 use borrow.Author.Needs.{needs}
 use Rattle.tree_write.proofs.write_tree.Statement.{statement}
 use Rattle.tree_write.proofs.write_tree.Tie as tie
-use Rattle.ground.specs.declared.Answer.{Answer}
-use Rattle.output.proofs.Laws.{fitted-done, refused-both, fitted-both, shut-refuses}
-use Rattle.tree_write.proofs.Laws.{answer-shut, answer-open, within, measured-length}
+use Rattle.output.proofs.Laws.{refused-both, fitted-both, shut-refuses}
+use Rattle.tree_write.proofs.Laws.{answer-shut, answer-fits, fills, count-is, within}
 use native.Mathlib.Omega.{arith}
-use mathlib.Core.Path.{sym, ap, _∙_}
-use mathlib.Core.Bool.{true}
-use Rattle.entry.specs.Record.{recordsOf}
+use mathlib.Core.Path.{sym, _∙_}
+use lib.ListN.{length}
 
 longer-requires : tie.Need-longer-requires
 longer-requires c κs = search needs
@@ -43,19 +41,20 @@ returns-2 : tie.Need-returns-2
 returns-2 c =
     let measure = c .before .before .measure in
     let fit = c .before .fit in
-    let if1 = c .if1 in
     let at-enum-told = c .before .before .before in
     let at-bounds = at-enum-told .before .before in
     let at-longer = at-bounds .before in
-    let f = rw (measure .ensures) at (fit .ensures) in
-    refused-both _ _ _ (answer-open _ _ _ _ _ (at-longer .longer .ensures) (sym (at-bounds .bounds .ensures) ∙ at-enum-told .enum-told .given .1) ∙ sym f)
-    (if1 .taken)
+    let a = at-longer .before .before .before .before .args in
+    refused-both _ _ _ (answer-fits (a .h) (a .bytes .now) (a .records .now) (length (a .out .now)) _ (at-longer .longer .ensures) (measure .result)
+    (fit .result) (measure .ensures) (fit .ensures) (sym (at-bounds .bounds .ensures) ∙ at-enum-told .enum-told .given .1)) (c .if1 .taken)
 
 fill-requires : tie.Need-fill-requires
 fill-requires c κs =
-    let f = rw (c .before .before .before .measure .ensures) at (c .before .before .fit .ensures) in
-    let d = fitted-done _ _ (sym (ap (λ (x : Answer). x .verdict .number) f) ∙ c .before .if1 .left) in
-    (d .0, d .1)
+    let measure = c .before .before .before .measure in
+    let fit = c .before .before .fit in
+    let a = c .before .before .before .before .before .before .before .before .before .before .before .args in
+    fills (a .h) (a .bytes .now) (a .records .now) (measure .result) (measure .ensures) (length (a .out .now)) (fit .result) (fit .ensures)
+    (c .before .if1 .left)
 
 same-length : tie.Need-same-length
 same-length c = search needs
@@ -64,17 +63,16 @@ returns-3 : tie.Need-returns-3
 returns-3 c =
     let fill = c .before .before .fill in
     let at-if1 = c .before .before .before .before in
-    let at-fit = at-if1 .before in
-    let at-measure = at-fit .before in
-    let at-enum-told = at-measure .before in
+    let fit = at-if1 .before .fit in
+    let measure = at-if1 .before .before .measure in
+    let at-enum-told = at-if1 .before .before .before in
     let at-bounds = at-enum-told .before .before in
     let at-longer = at-bounds .before in
-    let at-args = at-longer .before .before .before .before in
-    let a = at-args .args in
-    let f = rw (at-measure .measure .ensures) at (at-fit .fit .ensures) in
-    fitted-both _ _ _ (a .out .now) _ (answer-open _ _ _ _ _ (at-longer .longer .ensures) (sym (at-bounds .bounds .ensures) ∙ at-enum-told .enum-told .given .1)
-    ∙ sym f) f (at-if1 .if1 .left)
-    (λ z. measured-length true (a .h) (a .bytes .now) 0 0 (recordsOf (a .records .now)) z ∙ omega arith) (fill .ensures)
+    let a = at-longer .before .before .before .before .args in
+    fitted-both (fit .result) (measure .result) _ (a .out .now) _ (answer-fits (a .h) (a .bytes .now) (a .records .now) (length (a .out .now)) _
+    (at-longer .longer .ensures) (measure .result) (fit .result) (measure .ensures) (fit .ensures)
+    (sym (at-bounds .bounds .ensures) ∙ at-enum-told .enum-told .given .1)) (fit .ensures) (at-if1 .if1 .left)
+    (count-is (a .h) (a .bytes .now) (a .records .now) (measure .result) (measure .ensures)) (fill .ensures)
 
 pub write-tree-spec : {M : Type 1} → statement M
 write-tree-spec =
