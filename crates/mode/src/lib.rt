@@ -3,12 +3,10 @@
 ghost use mathlib.Core.Path.{_≡_};
 ghost use mathlib.Core.Bool.{not};
 ghost use lib.Dec.{eqb};
-ghost use Rattle.ground.specs.Basics.{pick};
 ghost use Rattle.mode_text.specs.Write.{modeText};
 ghost use Rattle.mode_table.specs.Kind.{isExecutable, isFileOrLink};
-ghost use Rattle.mode_table.specs.declared.EntryKind.the-variants.{Blob, BlobExecutable};
-ghost use Rattle.mode.specs.Mode.{valueOf, sortOf, executes, kindOf, wordOf, isTree, fromNumber};
-ghost use Rattle.mode.specs.Read.{readModeAt, alone, modeAlone};
+ghost use Rattle.mode.specs.Mode.{valueOf, sortOf, kindOf, wordOf, isTree, fromNumber};
+ghost use Rattle.mode.specs.Read.{readModeAt, modeAlone};
 use ground::BROKEN_ENTRY;
 use ground::FINE;
 use ground::Gate;
@@ -60,21 +58,6 @@ const NO_NUMBER: ModeAnswer = ModeAnswer {
     mode: EntryMode { internal: 0 },
 };
 
-impl ModeAnswer {
-    // A mode text that stands alone.
-    fn alone(read: ModeRead) -> ModeAnswer
-        ensures { λ r. ⌜ r ≡ alone read ⌝ }
-    {
-        match read {
-            ModeRead::Mode(m, _) => ModeAnswer {
-                verdict: FINE,
-                mode: m,
-            },
-            ModeRead::Bad => NO_TEXT,
-        }
-    }
-}
-
 impl EntryMode {
     // The masks of the sort and of the owner's execute bit, and the sorts.
     pub const IFMT: u16 = 0o170000;
@@ -95,12 +78,10 @@ impl EntryMode {
     pub fn value(self) -> u16
         ensures { λ r. ⌜ r ≡ valueOf (self .internal) ⌝ }
     {
-        let m = self.internal;
-        if m & EntryMode::IFMT == EntryMode::PADDED_TREE {
-            EntryMode::TREE
-        } else {
-            m
+        if self.internal & EntryMode::IFMT == EntryMode::PADDED_TREE {
+            return EntryMode::TREE;
         }
+        self.internal
     }
 
     // The value's top four bits.
@@ -108,17 +89,6 @@ impl EntryMode {
         ensures { λ r. ⌜ r ≡ sortOf (self .internal) ⌝ }
     {
         self.value() & EntryMode::IFMT
-    }
-
-    // The kind of a file, by whether its owner may execute it.
-    fn file_kind(self) -> EntryKind
-        ensures { λ r. ⌜ r ≡ pick (executes (self .internal)) BlobExecutable Blob ⌝ }
-    {
-        if self.value() & EntryMode::EXECUTE == EntryMode::EXECUTE {
-            EntryKind::BlobExecutable
-        } else {
-            EntryKind::Blob
-        }
     }
 
     pub fn is_tree(self) -> bool
@@ -155,10 +125,15 @@ impl EntryMode {
         ensures { λ r. ⌜ r ≡ kindOf (self .internal) ⌝ }
     {
         match self.sort() {
-            EntryMode::BLOB => self.file_kind(),
-            EntryMode::LINK => EntryKind::Link,
-            EntryMode::TREE => EntryKind::Tree,
-            _ => EntryKind::Commit,
+            EntryMode::BLOB => {
+                if self.value() & EntryMode::EXECUTE == EntryMode::EXECUTE {
+                    return EntryKind::BlobExecutable;
+                }
+                return EntryKind::Blob;
+            }
+            EntryMode::LINK => return EntryKind::Link,
+            EntryMode::TREE => return EntryKind::Tree,
+            _ => return EntryKind::Commit,
         }
     }
 
@@ -209,11 +184,21 @@ impl EntryMode {
         ensures { λ r. ⌜ r ≡ modeAlone (now (i .entry)) ⌝ }
     {
         match sizes(i.len(), 0) {
-            Gate::Open => ModeAnswer::alone(EntryMode::extract_at(i, 0)),
-            Gate::Shut(v) => ModeAnswer {
-                verdict: v,
-                mode: EntryMode { internal: 0 },
+            Gate::Open => match EntryMode::extract_at(i, 0) {
+                ModeRead::Mode(m, _) => {
+                    return ModeAnswer {
+                        verdict: FINE,
+                        mode: m,
+                    };
+                }
+                ModeRead::Bad => return NO_TEXT,
             },
+            Gate::Shut(v) => {
+                return ModeAnswer {
+                    verdict: v,
+                    mode: EntryMode { internal: 0 },
+                };
+            }
         }
     }
 
@@ -222,8 +207,8 @@ impl EntryMode {
         ensures { λ r. ⌜ r ≡ readModeAt (now (s .entry)) at ⌝ }
     {
         match read_at(s, at) {
-            TextRead::Bits(m, next) => ModeRead::Mode(EntryMode { internal: m }, next),
-            TextRead::Bad => ModeRead::Bad,
+            TextRead::Bits(m, next) => return ModeRead::Mode(EntryMode { internal: m }, next),
+            TextRead::Bad => return ModeRead::Bad,
         }
     }
 }

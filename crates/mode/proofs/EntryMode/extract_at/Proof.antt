@@ -22,4 +22,4 @@ returns-2 : tie.Need-returns-2
 returns-2 c = ap made (sym (c .enum-told .given .1) ∙ c .before .before .read-at .ensures) ∙ made-at _ _
 
 pub extract-at-spec : {M : Type 1} → statement M
-extract-at-spec = tie.close (tie.spec read-at-requires enum-known-m enum-told returns returns-2)
+extract-at-spec = tie.close (tie.spec read-at-requires enum-known-m returns enum-told returns-2)

@@ -15,19 +15,29 @@ enum-told c = search needs
 extract-at-requires : tie.Need-extract-at-requires
 extract-at-requires c κs = search needs
 
-alone-requires : tie.Need-alone-requires
-alone-requires c κs = search needs
+enum-known-m : tie.Need-enum-known-m
+enum-known-m c = search needs
+
+returns : tie.Need-returns
+returns c =
+    let read = c .before .before .before in
+    let gate = sym (read .before .before .before .sizes .ensures) ∙ read .before .enum-told .given .1 in
+    ap alone (sym (c .before .m .given .1) ∙ read .extract-at .ensures) ∙ sym (alone-open _ gate)
+
+enum-told-2 : tie.Need-enum-told-2
+enum-told-2 c = search needs
+
+returns-2 : tie.Need-returns-2
+returns-2 c =
+    let read = c .before .before in
+    let gate = sym (read .before .before .before .sizes .ensures) ∙ read .before .enum-told .given .1 in
+    ap alone (sym (c .enum-told2 .given .1) ∙ read .extract-at .ensures) ∙ sym (alone-open _ gate)
 
 enum-known-v : tie.Need-enum-known-v
 enum-known-v c = search needs
 
-returns : tie.Need-returns
-returns c =
-    let sizes = c .before .before .before .before .sizes in
-    c .alone .ensures ∙ ap alone (c .before .extract-at .ensures) ∙ sym (alone-open _ (sym (sizes .ensures) ∙ c .before .before .enum-told .given .1))
-
-returns-2 : tie.Need-returns-2
-returns-2 c =
+returns-3 : tie.Need-returns-3
+returns-3 c =
     let sizes = c .before .before .before .sizes in
     sym (alone-shut _ _ (sym (sizes .ensures) ∙ c .before .v .given .1))
 
@@ -38,7 +48,9 @@ from-bytes-spec =
     sizes-requires
     enum-told
     extract-at-requires
-    alone-requires
-    enum-known-v
+    enum-known-m
     returns
-    returns-2)
+    enum-told-2
+    returns-2
+    enum-known-v
+    returns-3)

@@ -8,11 +8,15 @@ use Rattle.mode.proofs.EntryMode.value.Tie as tie
 
 returns : tie.Need-returns
 unfolding valueOf
-returns c = simp (eq-eqb (topBits (c .before .args .self .internal)) 0o140000 (sym (mask-top (c .before .args .self .internal)) ∙ c .if1 .taken))
+returns c =
+    let m = c .before .before .args .self .internal in
+    simp (eq-eqb (topBits m) 0o140000 (sym (mask-top m) ∙ c .if1 .taken))
 
 returns-2 : tie.Need-returns-2
 unfolding valueOf
-returns-2 c = simp (ne-eqb (topBits (c .before .args .self .internal)) 0o140000 (λ e. c .if1 .left (mask-top (c .before .args .self .internal) ∙ e)))
+returns-2 c =
+    let m = c .before .before .args .self .internal in
+    simp (ne-eqb (topBits m) 0o140000 (λ e. c .if1 .left (mask-top m ∙ e)))
 
 pub value-spec : {M : Type 1} → statement M
 value-spec = tie.close (tie.spec returns returns-2)
