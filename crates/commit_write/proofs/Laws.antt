@@ -43,7 +43,7 @@ pub record Put (l : List ℕ) (at : ℕ) (p m : List ℕ) (to : ℕ) : Type 0 wh
   pub past : to ≡ at + length p
 
 -- what a store promises, as a piece that was put
-pub put-of : (l : List ℕ) (at : ℕ) (p m : List ℕ) (to : ℕ) → to ≡ at + length p → m ≡ sets l at p → Put l at p m to
+put-of : (l : List ℕ) (at : ℕ) (p m : List ℕ) (to : ℕ) → to ≡ at + length p → m ≡ sets l at p → Put l at p m to
 put-of l at p m to q e = record { holds = e; past = q }
 
 pub put-then : {l : List ℕ} {at : ℕ} {p m : List ℕ} {to : ℕ} {q r : List ℕ} {next : ℕ} → Put l at p m to → Put m to q r next → Put l at (p ++ q) r next
@@ -52,6 +52,12 @@ put-then {l} {at} {p} {m} {to} {q} {r} {next} a b =
       holds = b .holds ∙ rw (a .holds, a .past) (sym (sets-append l at p q));
       past = omega (arith, length-append p q, a .past, b .past);
     }
+
+-- the places of a line are numbers: its word, a space, its value and an LF
+pub line-places : (at n v : ℕ) → at + (n + v + 2) < 18446744073709551616
+    → (v < 18446744073709551616) × (at + n < 18446744073709551616) × (at + n + 1 < 18446744073709551616) × (at + n + 1 + v < 18446744073709551616)
+    × (at + n + 1 + v + 1 < 18446744073709551616)
+line-places at n v g = (omega arith, omega arith, omega arith, omega arith, omega arith)
 
 -- ---- digits from a place on
 
@@ -235,7 +241,7 @@ module _ (bytes : List ℕ) (p : CommitParts) where
 -- ---- the whole
 
 -- what each part of a commit that passes takes, so that no sum leaves 64 bits, and where its parts lie
-pub record Sizes (h : ℕ) (bytes : List ℕ) (p : CommitParts) (parents headers : List ℕ) : Type 0 where
+record Sizes (h : ℕ) (bytes : List ℕ) (p : CommitParts) (parents headers : List ℕ) : Type 0 where
   pub id-small : h ≤ 32
   pub bytes-most : length bytes ≤ mostBytes
   pub parents-most : length parents ≤ mostRecords
@@ -299,29 +305,56 @@ sizes h bytes p parents headers room s =
       message-long = part-length bytes (p .«message_start») (p .«message_end») (m .0) (m .1);
     }
 
-pub sizes-of : (h : ℕ) (bytes : List ℕ) (p : CommitParts) (parents headers : List ℕ) → checked h bytes p parents headers 0 .number ≡ 0 → Sizes h bytes p parents headers
-sizes-of h bytes p parents headers z = sizes h bytes p parents headers 0 (checked-sound h bytes p parents headers 0 z)
+-- what each piece asks of its place, which the pieces before it end at: no place leaves 64 bits
+module _ (h : ℕ) (bytes : List ℕ) (p : CommitParts) (parents headers : List ℕ) (z : checked h bytes p parents headers 0 .number ≡ 0) where
+  k : Sizes h bytes p parents headers
+  k = sizes h bytes p parents headers 0 (checked-sound h bytes p parents headers 0 z)
 
--- where the pieces end, so that no place leaves 64 bits
-module _ {h : ℕ} {bytes : List ℕ} {p : CommitParts} {parents headers : List ℕ} (k : Sizes h bytes p parents headers) where
-  pub parents-end : {a b : ℕ} → a ≡ 0 + length (line treeWord (lowerHex (idNamed h bytes (p .tree))))
-      → b ≡ a + length (parentsBytes (map lowerHex (map (idNamed h bytes) parents))) → b ≤ 75497542
-  parents-end e f = omega (arith, e, f, k .tree-size, k .parents-size, k .parents-most)
+  pub tree-asks : (p .tree + 2 * h ≤ length bytes) × ((h ≤ 32) × (0 + (4 + 2 * h + 2) < 18446744073709551616))
+  tree-asks = (k .tree-inside, (k .id-small, omega (arith, k .id-small)))
 
-  pub author-end : {b c : ℕ} → b ≤ 75497542 → c ≡ b + length (line authorWord (part (p .«author_start») (p .«author_end») bytes)) → c ≤ 1149239374
-  author-end m e = omega (arith, m, e, k .author-size)
+  module _ {a : ℕ} (ea : a ≡ 0 + length (line treeWord (lowerHex (idNamed h bytes (p .tree))))) where
+    pub parents-asks : (passing (map (idFits h bytes) parents) ≡ length parents) × ((h ≤ 32) × (a + length parents * 72 < 18446744073709551616))
+    parents-asks = (checked-sound h bytes p parents headers 0 z .parents-pass, (k .id-small, omega (arith, ea, k .tree-size, k .parents-most)))
 
-  pub committer-end : {c d : ℕ} → c ≤ 1149239374 → d ≡ c + length (line committerWord (part (p .«committer_start») (p .«committer_end») bytes)) → d ≤ 2222981209
-  committer-end m e = omega (arith, m, e, k .committer-size)
+    module _ {b : ℕ} (eb : b ≡ a + length (parentsBytes (map lowerHex (map (idNamed h bytes) parents)))) where
+      parents-end : b ≤ 75497542
+      parents-end = omega (arith, ea, eb, k .tree-size, k .parents-size, k .parents-most)
 
-  pub encoding-end : {d e : ℕ} → d ≤ 2222981209 → e ≡ d + length (encodingBytes (encodingNamed bytes p)) → e ≤ 3296723043
-  encoding-end m e = omega (arith, m, e, k .encoding-size)
+      pub author-asks : ((p .«author_start» ≤ p .«author_end») × (p .«author_end» ≤ length bytes))
+          × (b + (6 + (p .«author_end» - p .«author_start») + 2) < 18446744073709551616)
+      author-asks = (k .author-range, omega (arith, parents-end, k .author-range, k .bytes-most))
 
-  pub headers-end : {e f : ℕ} → e ≤ 3296723043 → f ≡ e + length (headersWritten (map (headerNamed bytes) (headersOf headers))) → f ≤ 3377703019348067
-  headers-end m e = omega (arith, m, e, k .headers-size, k .headers-most)
+      module _ {c : ℕ} (ec : c ≡ b + length (line authorWord (part (p .«author_start») (p .«author_end») bytes))) where
+        author-end : c ≤ 1149239374
+        author-end = omega (arith, parents-end, ec, k .author-size)
+
+        pub committer-asks : ((p .«committer_start» ≤ p .«committer_end») × (p .«committer_end» ≤ length bytes))
+            × (c + (9 + (p .«committer_end» - p .«committer_start») + 2) < 18446744073709551616)
+        committer-asks = (k .committer-range, omega (arith, author-end, k .committer-range, k .bytes-most))
+
+        module _ {d : ℕ} (ed : d ≡ c + length (line committerWord (part (p .«committer_start») (p .«committer_end») bytes))) where
+          committer-end : d ≤ 2222981209
+          committer-end = omega (arith, author-end, ed, k .committer-size)
+
+          pub encoding-asks : (encodingFits (length bytes) p ≡ true) × ((length bytes ≤ mostBytes) × (d + 1073741834 < 18446744073709551616))
+          encoding-asks = (checked-sound h bytes p parents headers 0 z .encoding, (k .bytes-most, omega (arith, committer-end)))
+
+          module _ {e : ℕ} (ee : e ≡ d + length (encodingBytes (encodingNamed bytes p))) where
+            encoding-end : e ≤ 3296723043
+            encoding-end = omega (arith, committer-end, ee, k .encoding-size)
+
+            pub headers-asks : (passing (map (headerFits bytes) (headersOf headers)) ≡ length headers / width)
+                × ((length bytes ≤ mostBytes) × (e + (length headers / width) * 3221225474 ≤ mostPlace))
+            headers-asks = (checked-sound h bytes p parents headers 0 z .headers-pass, (k .bytes-most, omega (arith, encoding-end, k .headers-most)))
+
+            pub message-asks : {f : ℕ} → f ≡ e + length (headersWritten (map (headerNamed bytes) (headersOf headers)))
+                → ((p .«message_start» ≤ p .«message_end») × (p .«message_end» ≤ length bytes))
+                × (f + (p .«message_end» - p .«message_start») + 1 < 18446744073709551616)
+            message-asks ef = (k .message-range, omega (arith, encoding-end, ef, k .headers-size, k .headers-most, k .message-range, k .bytes-most))
 
 -- the pieces in turn are the commit
-pub commit-put : (h : ℕ) (bytes : List ℕ) (p : CommitParts) (parents headers : List ℕ) {l l1 l2 l3 l4 l5 l6 l7 : List ℕ} {a b c d e f g : ℕ}
+commit-pieces : (h : ℕ) (bytes : List ℕ) (p : CommitParts) (parents headers : List ℕ) {l l1 l2 l3 l4 l5 l6 l7 : List ℕ} {a b c d e f g : ℕ}
     → Put l 0 (line treeWord (lowerHex (idNamed h bytes (p .tree)))) l1 a
     → Put l1 a (parentsBytes (map lowerHex (map (idNamed h bytes) parents))) l2 b
     → Put l2 b (line authorWord (part (p .«author_start») (p .«author_end») bytes)) l3 c
@@ -331,12 +364,31 @@ pub commit-put : (h : ℕ) (bytes : List ℕ) (p : CommitParts) (parents headers
     → Put l6 f (10 ∷ part (p .«message_start») (p .«message_end») bytes) l7 g
     → Put l 0 (partsWritten h bytes p parents headers) l7 g
 unfolding commitWritten
-commit-put h bytes p parents headers x1 x2 x3 x4 x5 x6 x7 = put-then x1 (put-then x2 (put-then x3 (put-then x4 (put-then x5 (put-then x6 x7)))))
+commit-pieces h bytes p parents headers x1 x2 x3 x4 x5 x6 x7 = put-then x1 (put-then x2 (put-then x3 (put-then x4 (put-then x5 (put-then x6 x7)))))
+
+-- so are they where each says its end and what it stored
+pub commit-put : (h : ℕ) (bytes : List ℕ) (p : CommitParts) (parents headers l : List ℕ) {l1 l2 l3 l4 l5 l6 l7 : List ℕ} {a b c d e f g : ℕ}
+    → a ≡ 0 + length (line treeWord (lowerHex (idNamed h bytes (p .tree)))) → l1 ≡ sets l 0 (line treeWord (lowerHex (idNamed h bytes (p .tree))))
+    → b ≡ a + length (parentsBytes (map lowerHex (map (idNamed h bytes) parents)))
+    → l2 ≡ sets l1 a (parentsBytes (map lowerHex (map (idNamed h bytes) parents)))
+    → c ≡ b + length (line authorWord (part (p .«author_start») (p .«author_end») bytes))
+    → l3 ≡ sets l2 b (line authorWord (part (p .«author_start») (p .«author_end») bytes))
+    → d ≡ c + length (line committerWord (part (p .«committer_start») (p .«committer_end») bytes))
+    → l4 ≡ sets l3 c (line committerWord (part (p .«committer_start») (p .«committer_end») bytes))
+    → e ≡ d + length (encodingBytes (encodingNamed bytes p)) → l5 ≡ sets l4 d (encodingBytes (encodingNamed bytes p))
+    → f ≡ e + length (headersWritten (map (headerNamed bytes) (headersOf headers)))
+    → l6 ≡ sets l5 e (headersWritten (map (headerNamed bytes) (headersOf headers)))
+    → g ≡ f + length (10 ∷ part (p .«message_start») (p .«message_end») bytes) → l7 ≡ sets l6 f (10 ∷ part (p .«message_start») (p .«message_end») bytes)
+    → (g ≡ length (partsWritten h bytes p parents headers)) × (l7 ≡ sets l 0 (partsWritten h bytes p parents headers))
+commit-put h bytes p parents headers l ea la eb lb ec lc ed ld ee le ef lf eg lg =
+    let w = commit-pieces h bytes p parents headers (put-of l 0 _ _ _ ea la) (put-of _ _ _ _ _ eb lb) (put-of _ _ _ _ _ ec lc) (put-of _ _ _ _ _ ed ld)
+    (put-of _ _ _ _ _ ee le) (put-of _ _ _ _ _ ef lf) (put-of _ _ _ _ _ eg lg) in
+    (omega (arith, w .past), w .holds)
 
 -- ---- the answers
 
 module _ (h : ℕ) (bytes : List ℕ) (p : CommitParts) (parents headers : List ℕ) (room : ℕ) where
-  pub measured-bad : (checked h bytes p parents headers room .number ≡ 0 → ⊥) → measured h bytes p parents headers room ≡ refused (checked h bytes p parents headers room)
+  measured-bad : (checked h bytes p parents headers room .number ≡ 0 → ⊥) → measured h bytes p parents headers room ≡ refused (checked h bytes p parents headers room)
   unfolding measured
   measured-bad z = simp (ne-eqb (checked h bytes p parents headers room .number) 0 z)
 
@@ -387,3 +439,46 @@ module _ (h : ℕ) (bytes : List ℕ) (p : CommitParts) (parents headers : List 
     pub answer-fits : encodingRefusal (encodingNamed bytes p) ≡ 0 → commitAnswer h bytes p parents headers room ≡ fitted room (measured h bytes p parents headers room)
     unfolding commitAnswer encoded
     answer-fits n = rw (eq-eqb (measured h bytes p parents headers room .verdict .number) 0 z, eq-eqb (encodingRefusal (encodingNamed bytes p)) 0 n)
+
+  -- the same by what the calls answered: the verdict of the check, the length of what was put
+  module _ (v : Verdict) (q : v ≡ checked h bytes p parents headers room) where
+    number-is : v .number ≡ checked h bytes p parents headers room .number
+    number-is = ap (λ (x : Verdict). x .number) q
+
+    pub measure-refused : (v .number ≡ 0 → ⊥) → refused v ≡ measured h bytes p parents headers room
+    measure-refused n = sym (measured-bad (λ z. n (number-is ∙ z)) ∙ ap refused (sym q))
+
+    module _ (z : v .number ≡ 0) where
+      pub measure-asks : checked h bytes p parents headers 0 .number ≡ 0
+      measure-asks = checked-less (sym number-is ∙ z)
+
+      pub measure-done : (n : ℕ) → n ≡ length (partsWritten h bytes p parents headers) → counted n ≡ measured h bytes p parents headers room
+      measure-done n e = sym (measured-fine (sym number-is ∙ z) ∙ ap counted (sym e))
+
+  -- and by the measure, the encoding's refusal, and the measure with its room
+  module _ (a : Answer) (q : a ≡ measured h bytes p parents headers room) where
+    refusal-is : a .verdict .number ≡ measured h bytes p parents headers room .verdict .number
+    refusal-is = ap (λ (x : Answer). x .verdict .number) q
+
+    pub write-bad : (a .verdict .number ≡ 0 → ⊥) → commitAnswer h bytes p parents headers room ≡ a
+    write-bad n = answer-bad (λ z. n (refusal-is ∙ z)) ∙ sym q
+
+    module _ (z : a .verdict .number ≡ 0) where
+      passed : measured h bytes p parents headers room .verdict .number ≡ 0
+      passed = sym refusal-is ∙ z
+
+      pub encoding-fits : encodingFits (length bytes) p ≡ true
+      encoding-fits = checked-sound h bytes p parents headers room (measured-checked passed) .encoding
+
+      pub write-asks : checked h bytes p parents headers 0 .number ≡ 0
+      write-asks = checked-less (measured-checked passed)
+
+      pub write-count : a .count ≡ length (partsWritten h bytes p parents headers)
+      write-count = ap (λ (x : Answer). x .count) q ∙ measured-length passed
+
+      module _ (n : ℕ) (e : n ≡ encodingRefusal (encodingNamed bytes p)) where
+        pub write-fault : (n ≡ 0 → ⊥) → commitAnswer h bytes p parents headers room ≡ refused (verdict n 0)
+        write-fault f = answer-fault passed (λ w. f (e ∙ w)) ∙ ap (λ (m : ℕ). refused (verdict m 0)) (sym e)
+
+        pub write-fits : n ≡ 0 → (r : Answer) → r ≡ fitted room a → commitAnswer h bytes p parents headers room ≡ r
+        write-fits f r g = answer-fits passed (sym e ∙ f) ∙ sym (g ∙ ap (fitted room) q)

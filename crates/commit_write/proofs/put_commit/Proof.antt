@@ -2,25 +2,24 @@
 use borrow.Author.Needs.{needs}
 use Rattle.commit_write.proofs.put_commit.Statement.{statement}
 use Rattle.commit_write.proofs.put_commit.Tie as tie
-use Rattle.commit_write.proofs.Laws.{sizes-of, parents-end, author-end, committer-end, encoding-end, headers-end, put-of, commit-put}
-use Rattle.commit_check.proofs.Laws.{checked-sound}
+use Rattle.commit_write.proofs.Laws.{tree-asks, parents-asks, author-asks, committer-asks, encoding-asks, headers-asks, message-asks, commit-put}
 use mathlib.Core.Path.{_∙_}
-use native.Mathlib.Omega.{arith}
 
 slice-aggregate-put-id-line : tie.Need-slice-aggregate-put-id-line
 slice-aggregate-put-id-line c = search needs
 
 put-id-line-requires : tie.Need-put-id-line-requires
 put-id-line-requires c κs =
-    let k = sizes-of _ _ _ _ _ (c .before .before .before .before .before .before .pre) in
-    (k .tree-inside, (k .id-small, omega (arith, k .id-small)))
+    let start = c .before .before .before .before .before .before in
+    let a = start .args in
+    tree-asks (a .h) (a .bytes .now) (a .parts) (a .parents .now) (a .headers .now) (start .pre)
 
 put-parents-requires : tie.Need-put-parents-requires
 put-parents-requires c κs =
     let at-put-id-line = c .before .before .before in
     let start = at-put-id-line .before .before .before .before .before .before .before in
-    let k = sizes-of _ _ _ _ _ (start .pre) in
-    (checked-sound _ _ _ _ _ 0 (start .pre) .parents-pass, (k .id-small, omega (arith, k .tree-size, k .parents-most, at-put-id-line .put-id-line .ensures .0)))
+    let a = start .args in
+    parents-asks (a .h) (a .bytes .now) (a .parts) (a .parents .now) (a .headers .now) (start .pre) (at-put-id-line .put-id-line .ensures .0)
 
 slice-aggregate-put-line : tie.Need-slice-aggregate-put-line
 slice-aggregate-put-line c = search needs
@@ -30,9 +29,9 @@ put-line-requires c κs =
     let at-put-parents = c .before .before .before .before in
     let at-put-id-line = at-put-parents .before .before .before .before in
     let start = at-put-id-line .before .before .before .before .before .before .before in
-    let k = sizes-of _ _ _ _ _ (start .pre) in
-    let m = parents-end k (at-put-id-line .put-id-line .ensures .0) (at-put-parents .put-parents .ensures .0) in
-    (k .author-range, omega (arith, k .author-range, k .bytes-most, m))
+    let a = start .args in
+    author-asks (a .h) (a .bytes .now) (a .parts) (a .parents .now) (a .headers .now) (start .pre) (at-put-id-line .put-id-line .ensures .0)
+    (at-put-parents .put-parents .ensures .0)
 
 slice-aggregate-put-line-2 : tie.Need-slice-aggregate-put-line-2
 slice-aggregate-put-line-2 c = search needs
@@ -43,10 +42,10 @@ put-line-requires-2 c κs =
     let at-put-parents = at-put-line .before .before .before .before .before in
     let at-put-id-line = at-put-parents .before .before .before .before in
     let start = at-put-id-line .before .before .before .before .before .before .before in
-    let k = sizes-of _ _ _ _ _ (start .pre) in
-    let m = author-end k (parents-end k (at-put-id-line .put-id-line .ensures .0) (at-put-parents .put-parents .ensures .0)) (at-put-line .put-line .ensures .0)
-    in
-    (k .committer-range, omega (arith, k .committer-range, k .bytes-most, m))
+    let a = start .args in
+    committer-asks (a .h) (a .bytes .now) (a .parts) (a .parents .now) (a .headers .now) (start .pre) (at-put-id-line .put-id-line .ensures .0)
+    (at-put-parents .put-parents .ensures .0)
+    (at-put-line .put-line .ensures .0)
 
 put-encoding-requires : tie.Need-put-encoding-requires
 put-encoding-requires c κs =
@@ -55,10 +54,10 @@ put-encoding-requires c κs =
     let at-put-parents = at-put-line .before .before .before .before .before in
     let at-put-id-line = at-put-parents .before .before .before .before in
     let start = at-put-id-line .before .before .before .before .before .before .before in
-    let k = sizes-of _ _ _ _ _ (start .pre) in
-    let m = author-end k (parents-end k (at-put-id-line .put-id-line .ensures .0) (at-put-parents .put-parents .ensures .0)) (at-put-line .put-line .ensures .0)
-    in
-    (checked-sound _ _ _ _ _ 0 (start .pre) .encoding, (k .bytes-most, omega (arith, committer-end k m (at-put-line2 .put-line2 .ensures .0))))
+    let a = start .args in
+    encoding-asks (a .h) (a .bytes .now) (a .parts) (a .parents .now) (a .headers .now) (start .pre) (at-put-id-line .put-id-line .ensures .0)
+    (at-put-parents .put-parents .ensures .0)
+    (at-put-line .put-line .ensures .0) (at-put-line2 .put-line2 .ensures .0)
 
 put-headers-requires : tie.Need-put-headers-requires
 put-headers-requires c κs =
@@ -68,11 +67,10 @@ put-headers-requires c κs =
     let at-put-parents = at-put-line .before .before .before .before .before in
     let at-put-id-line = at-put-parents .before .before .before .before in
     let start = at-put-id-line .before .before .before .before .before .before .before in
-    let k = sizes-of _ _ _ _ _ (start .pre) in
-    let m = author-end k (parents-end k (at-put-id-line .put-id-line .ensures .0) (at-put-parents .put-parents .ensures .0)) (at-put-line .put-line .ensures .0)
-    in
-    let n = encoding-end k (committer-end k m (at-put-line2 .put-line2 .ensures .0)) (at-put-encoding .put-encoding .ensures .0) in
-    (checked-sound _ _ _ _ _ 0 (start .pre) .headers-pass, (k .bytes-most, omega (arith, n, k .headers-most)))
+    let a = start .args in
+    headers-asks (a .h) (a .bytes .now) (a .parts) (a .parents .now) (a .headers .now) (start .pre) (at-put-id-line .put-id-line .ensures .0)
+    (at-put-parents .put-parents .ensures .0)
+    (at-put-line .put-line .ensures .0) (at-put-line2 .put-line2 .ensures .0) (at-put-encoding .put-encoding .ensures .0)
 
 put-message-requires : tie.Need-put-message-requires
 put-message-requires c κs =
@@ -83,11 +81,11 @@ put-message-requires c κs =
     let at-put-parents = at-put-line .before .before .before .before .before in
     let at-put-id-line = at-put-parents .before .before .before .before in
     let start = at-put-id-line .before .before .before .before .before .before .before in
-    let k = sizes-of _ _ _ _ _ (start .pre) in
-    let m = author-end k (parents-end k (at-put-id-line .put-id-line .ensures .0) (at-put-parents .put-parents .ensures .0)) (at-put-line .put-line .ensures .0)
-    in
-    let n = encoding-end k (committer-end k m (at-put-line2 .put-line2 .ensures .0)) (at-put-encoding .put-encoding .ensures .0) in
-    (k .message-range, omega (arith, k .message-range, k .bytes-most, headers-end k n (at-put-headers .put-headers .ensures .0)))
+    let a = start .args in
+    message-asks (a .h) (a .bytes .now) (a .parts) (a .parents .now) (a .headers .now) (start .pre) (at-put-id-line .put-id-line .ensures .0)
+    (at-put-parents .put-parents .ensures .0)
+    (at-put-line .put-line .ensures .0) (at-put-line2 .put-line2 .ensures .0) (at-put-encoding .put-encoding .ensures .0)
+    (at-put-headers .put-headers .ensures .0)
 
 same-length : tie.Need-same-length
 same-length c =
@@ -112,16 +110,13 @@ returns c =
     let at-put-id-line = at-put-parents .before .before .before .before in
     let start = at-put-id-line .before .before .before .before .before .before .before in
     let args = start .args in
-    let tree = put-of (args .out .now) 0 _ _ _ (at-put-id-line .put-id-line .ensures .0) (at-put-id-line .put-id-line .ensures .1) in
-    let parents = put-of _ _ _ _ _ (at-put-parents .put-parents .ensures .0) (at-put-parents .put-parents .ensures .1) in
-    let author = put-of _ _ _ _ _ (at-put-line .put-line .ensures .0) (at-put-line .put-line .ensures .1) in
-    let committer = put-of _ _ _ _ _ (at-put-line2 .put-line2 .ensures .0) (at-put-line2 .put-line2 .ensures .1) in
-    let encoding = put-of _ _ _ _ _ (at-put-encoding .put-encoding .ensures .0) (at-put-encoding .put-encoding .ensures .1) in
-    let headers = put-of _ _ _ _ _ (at-put-headers .put-headers .ensures .0) (at-put-headers .put-headers .ensures .1) in
-    let message = put-of _ _ _ _ _ (at-put-message .put-message .ensures .0) (at-put-message .put-message .ensures .1) in
-    let w = commit-put (args .h) (args .bytes .now) (args .parts) (args .parents .now)
-    (args .headers .now) tree parents author committer encoding headers message in
-    (omega (arith, w .past), w .holds)
+    commit-put (args .h) (args .bytes .now) (args .parts) (args .parents .now) (args .headers .now) (args .out .now)
+    (at-put-id-line .put-id-line .ensures .0) (at-put-id-line .put-id-line .ensures .1) (at-put-parents .put-parents .ensures .0)
+    (at-put-parents .put-parents .ensures .1)
+    (at-put-line .put-line .ensures .0) (at-put-line .put-line .ensures .1) (at-put-line2 .put-line2 .ensures .0) (at-put-line2 .put-line2 .ensures .1)
+    (at-put-encoding .put-encoding .ensures .0) (at-put-encoding .put-encoding .ensures .1) (at-put-headers .put-headers .ensures .0)
+    (at-put-headers .put-headers .ensures .1)
+    (at-put-message .put-message .ensures .0) (at-put-message .put-message .ensures .1)
 
 pub put-commit-spec : {M : Type 1} → statement M
 put-commit-spec =

@@ -2,41 +2,57 @@
 use borrow.Author.Needs.{needs}
 use Rattle.commit_write.proofs.put_id_line.Statement.{statement}
 use Rattle.commit_write.proofs.put_id_line.Tie as tie
-use Rattle.commit_write.proofs.Laws.{id-put, named-length}
+use Rattle.commit_write.proofs.Laws.{line-places, id-put, named-length}
 use Rattle.grammar.specs.Named.{idNamed}
 use lib.ListN.{length}
+use native.Mathlib.Nat.{le-add-right, lt-of-le-of-lt}
 use Prim.Native.Nat.{_+_, _*_}
 use mathlib.Core.Path.{refl}
 
 mul-end : tie.Need-mul-end
-mul-end c = search needs
+mul-end c =
+    let start = c .before .before .before in
+    let a = start .args in
+    record { fits = line-places (a .at) (length (a .word .now)) (2 * a .h) (start .pre .1 .1) .0 }
 
 add-end : tie.Need-add-end
-add-end c = search needs
+add-end c = record { fits = lt-of-le-of-lt (c .before .before .before .pre .0) (c .before .before .before .good .1 .1 .1 .0 .0) }
 
 add-digits : tie.Need-add-digits
-add-digits c = search needs
+add-digits c =
+    let start = c .before .before .before in
+    let a = start .args in
+    record { fits = line-places (a .at) (length (a .word .now)) (2 * a .h) (start .pre .1 .1) .1 }
 
 add-digits-2 : tie.Need-add-digits-2
-add-digits-2 c = search needs
+add-digits-2 c =
+    let start = c .before .before .before in
+    let a = start .args in
+    record { fits = line-places (a .at) (length (a .word .now)) (2 * a .h) (start .pre .1 .1) .2 }
 
 mul-last : tie.Need-mul-last
-mul-last c = search needs
+mul-last c =
+    let start = c .before .before .before in
+    let a = start .args in
+    record { fits = line-places (a .at) (length (a .word .now)) (2 * a .h) (start .pre .1 .1) .0 }
 
 add-last : tie.Need-add-last
-add-last c = search needs
+add-last c =
+    let start = c .before .before .before in
+    let a = start .args in
+    record { fits = line-places (a .at) (length (a .word .now)) (2 * a .h) (start .pre .1 .1) .3 }
 
 put-ended-requires : tie.Need-put-ended-requires
 put-ended-requires c κs = search needs
 
 sub-put-digits : tie.Need-sub-put-digits
-sub-put-digits c = search needs
+sub-put-digits c = le-add-right _ _
 
 part-put-digits-start : tie.Need-part-put-digits-start
-part-put-digits-start c = search needs
+part-put-digits-start c = le-add-right _ _
 
 part-put-digits-end : tie.Need-part-put-digits-end
-part-put-digits-end c = search needs
+part-put-digits-end c = c .before .before .before .before .before .before .before .before .pre .0
 
 put-digits-requires : tie.Need-put-digits-requires
 put-digits-requires c κs = search needs
@@ -45,7 +61,10 @@ put-byte-requires : tie.Need-put-byte-requires
 put-byte-requires c κs = search needs
 
 add-result : tie.Need-add-result
-add-result c = search needs
+add-result c =
+    let start = c .before .before .before .before .before .before .before .before .before .before .before .before .before .before .before .before in
+    let a = start .args in
+    record { fits = line-places (a .at) (length (a .word .now)) (2 * a .h) (start .pre .1 .1) .4 }
 
 same-length : tie.Need-same-length
 same-length c = search needs

@@ -2,40 +2,52 @@
 use borrow.Author.Needs.{needs}
 use Rattle.commit_write.proofs.put_line.Statement.{statement}
 use Rattle.commit_write.proofs.put_line.Tie as tie
-use Rattle.commit_write.proofs.Laws.{range-put}
+use Rattle.commit_write.proofs.Laws.{line-places, range-put}
 use lib.ListN.{length}
 use Prim.Native.Nat.{_+_, _-_}
 use mathlib.Core.Path.{refl}
 
 add-value : tie.Need-add-value
-add-value c = search needs
+add-value c =
+    let start = c .before .before .before in
+    let a = start .args in
+    record { fits = line-places (a .at) (length (a .word .now)) (a .to - a .from) (start .pre .1) .1 }
 
 add-value-2 : tie.Need-add-value-2
-add-value-2 c = search needs
+add-value-2 c =
+    let start = c .before .before .before in
+    let a = start .args in
+    record { fits = line-places (a .at) (length (a .word .now)) (a .to - a .from) (start .pre .1) .2 }
 
 sub-end : tie.Need-sub-end
-sub-end c = search needs
+sub-end c = c .before .before .before .pre .0 .0
 
 add-end : tie.Need-add-end
-add-end c = search needs
+add-end c =
+    let start = c .before .before .before in
+    let a = start .args in
+    record { fits = line-places (a .at) (length (a .word .now)) (a .to - a .from) (start .pre .1) .3 }
 
 put-ended-requires : tie.Need-put-ended-requires
 put-ended-requires c κs = search needs
 
 sub-put-ended : tie.Need-sub-put-ended
-sub-put-ended c = search needs
+sub-put-ended c = c .before .before .before .before .before .before .before .before .pre .0 .0
 
 part-put-ended-start : tie.Need-part-put-ended-start
-part-put-ended-start c = search needs
+part-put-ended-start c = c .before .before .before .before .before .before .before .before .pre .0 .0
 
 part-put-ended-end : tie.Need-part-put-ended-end
-part-put-ended-end c = search needs
+part-put-ended-end c = c .before .before .before .before .before .before .before .before .pre .0 .1
 
 put-ended-requires-2 : tie.Need-put-ended-requires-2
 put-ended-requires-2 c κs = search needs
 
 add-result : tie.Need-add-result
-add-result c = search needs
+add-result c =
+    let start = c .before .before .before .before .before .before .before .before .before .before .before .before in
+    let a = start .args in
+    record { fits = line-places (a .at) (length (a .word .now)) (a .to - a .from) (start .pre .1) .4 }
 
 same-length : tie.Need-same-length
 same-length c = search needs
