@@ -1,11 +1,13 @@
 // The actor form of an author's or committer's value (docs/FORMAT.md, "Commits"; Rust: the signature parser that src/parse.rs calls).
+#![tactic(auto)]
+
 ghost use Rattle.std.specs.Prelude.{◌≡◌};
 ghost use Rattle.actor.specs.Actor.{is_digit, is_plain, in_class, all_of, two_digits, is_sign, is_name, is_named, is_zone, is_time, is_addressed, is_actor};
 
 use scan::count_to;
 
 // A class of bytes: digits, the bytes of a name, those of an address.
-#[derive(Drop)]
+#[derive(Clone, Copy)]
 enum Class {
     Digit,
     Name,

@@ -1,11 +1,13 @@
 // What the words of a command line ask where they are `[sha256] [1|2]`.
+#![tactic(auto)]
+
 ghost use Rattle.std.specs.Prelude.{◌≡◌};
 ghost use Rattle.asking.specs.Asking.{asked_from, asked_of};
 
 use words::{id_length, is_word, rule_set, word_at};
 
 // The length of ids, the rule set, and where the input starts behind the words and the empty line.
-#[derive(Drop)]
+#[derive(Clone, Copy)]
 pub struct Asked {
     pub h: usize,
     pub rules: u16,

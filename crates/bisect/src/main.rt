@@ -1,5 +1,7 @@
 // Seeks a name in a tree object by order, as a loader does: `./run bisect [sha256] NAME <object`, a folder's name with a slash behind it
 // (docs/FORMAT.md, "Lookup"). Prints the mode, the word of its kind and the id, or a refusal in one line.
+#![tactic(auto)]
+
 use entry::EntryRecord;
 use entry_record::{WIDTH, entry_at};
 use ground::DONE;

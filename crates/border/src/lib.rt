@@ -1,4 +1,6 @@
 // How an answer is handed over to C: its numbers into an array that the caller lends (specs/Border.antt).
+#![tactic(auto)]
+
 ghost use Rattle.std.specs.Prelude.{◌≡◌};
 ghost use Rattle.border.specs.Border.{answer_numbers};
 

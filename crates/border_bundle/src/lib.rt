@@ -1,4 +1,6 @@
 // Bundles as C has them (include/sarpukten.h): the answer in a lent array, its number returned too.
+#![tactic(auto)]
+
 ghost use Rattle.std.specs.Prelude.{◌≡◌};
 ghost use Rattle.bundle.specs.Bundle.{check_of};
 ghost use Rattle.border_bundle.specs.Border.{object_asked, checked_numbers, object_numbers};
@@ -8,7 +10,7 @@ use frame::Placed;
 use ground::{FINE, Gate, NOT_THERE, Verdict, longer, sizes};
 
 // An object of a bundle: its kind, and where its bytes begin and end; zeros on a refusal.
-#[derive(Drop)]
+#[derive(Clone, Copy)]
 pub struct Object {
     pub verdict: Verdict,
     pub kind: usize,

@@ -1,4 +1,6 @@
 // A check in pieces begins and ends as C has it (include/sarpukten.h): its state in what the caller lends, eighteen numbers and an entry's first bytes.
+#![tactic(auto)]
+
 ghost use Rattle.std.specs.Prelude.{◌≡◌};
 ghost use Rattle.arriving.specs.Feed.{start_of};
 ghost use Rattle.border.specs.Border.{answer_numbers};

@@ -1,4 +1,6 @@
 // The calls that write commits as C has them (include/sarpukten.h): the answer in a lent array, its number returned too.
+#![tactic(auto)]
+
 ghost use Rattle.std.specs.Prelude.{◌≡◌};
 ghost use Rattle.border.specs.Border.{answer_numbers};
 ghost use Rattle.border_commit_write.specs.Border.{parts_of, size_said, answer_said, output_said};

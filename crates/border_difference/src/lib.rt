@@ -1,4 +1,6 @@
 // The call that compares two trees of a bundle as C has it (include/sarpukten.h): the answer in a lent array, its number returned too.
+#![tactic(auto)]
+
 ghost use Rattle.std.specs.Prelude.{◌≡◌};
 ghost use Rattle.border.specs.Border.{answer_numbers};
 ghost use Rattle.border_difference.specs.Border.{compare_answered, compare_items, compare_paths};

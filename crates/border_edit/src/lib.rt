@@ -1,4 +1,6 @@
 // The edits of a tree object as C has them (include/sarpukten.h): the answer in a lent array, its number returned too.
+#![tactic(auto)]
+
 ghost use Rattle.std.specs.Prelude.{◌≡◌};
 ghost use Rattle.edit_walk.specs.Walk.{new_entry};
 ghost use Rattle.edit.specs.Edit.{put_output, remove_output};

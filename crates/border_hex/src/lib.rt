@@ -1,4 +1,6 @@
 // Ids from hex digits and back as C has them (include/sarpukten.h): the answer in a lent array, its number returned too.
+#![tactic(auto)]
+
 ghost use Rattle.std.specs.Prelude.{◌≡◌};
 ghost use Rattle.border.specs.Border.{answer_numbers};
 ghost use Rattle.border_hex.specs.Border.{id_answered, id_output, hex_answered, hex_output};

@@ -1,4 +1,6 @@
 // What a mode is asked, as C asks it (include/sarpukten.h): its kind, the seven questions, its word and its text.
+#![tactic(auto)]
+
 ghost use Rattle.std.specs.Prelude.{◌≡◌};
 ghost use Rattle.mode.specs.Mode.{kind_of, word_of};
 ghost use Rattle.mode_text.specs.Write.{mode_text};

@@ -1,4 +1,6 @@
 // The order of names and the lookups as C has them (include/sarpukten.h): the answer in a lent array, its number returned too.
+#![tactic(auto)]
+
 ghost use Rattle.std.specs.Prelude.{◌≡◌};
 ghost use Rattle.order.specs.Order.{name_order, order_number};
 ghost use Rattle.border.specs.Border.{answer_numbers};

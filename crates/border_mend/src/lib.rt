@@ -1,4 +1,6 @@
 // The call that mends a tree as C has it (include/sarpukten.h): the answer in a lent array, its number returned too.
+#![tactic(auto)]
+
 ghost use Rattle.std.specs.Prelude.{◌≡◌};
 ghost use Rattle.border_mend.specs.Border.{mend_answered, mend_numbers, mend_fates, mend_output};
 

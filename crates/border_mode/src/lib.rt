@@ -1,4 +1,6 @@
 // The calls on modes as C has them (include/sarpukten.h): the answer in a lent array, its number returned too.
+#![tactic(auto)]
+
 ghost use Rattle.std.specs.Prelude.{◌≡◌};
 ghost use Rattle.mode.specs.Mode.{value_of, from_number};
 ghost use Rattle.mode.specs.Read.{mode_alone};

@@ -1,4 +1,6 @@
 // A path followed in a bundle, as C has it (include/sarpukten.h): the answer in two lent arrays, its number returned too.
+#![tactic(auto)]
+
 ghost use Rattle.std.specs.Prelude.{◌≡◌};
 ghost use Rattle.path.specs.Path.{follow};
 ghost use Rattle.border_path.specs.Border.{followed_numbers};

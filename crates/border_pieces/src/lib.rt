@@ -1,5 +1,7 @@
 // A piece more of a check as C has it (include/sarpukten.h): its state in what the caller lends, eighteen numbers, an entry's first bytes and the two
 // rooms.
+#![tactic(auto)]
+
 ghost use Rattle.std.specs.Prelude.{◌≡◌};
 ghost use Rattle.border_pieces.specs.Border.{fed_of, fed_numbers};
 

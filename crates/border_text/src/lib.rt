@@ -1,4 +1,6 @@
 // Trees as text and back as C has them (include/sarpukten.h): the answer in a lent array, its number returned too.
+#![tactic(auto)]
+
 ghost use Rattle.std.specs.Prelude.{◌≡◌};
 ghost use Rattle.border.specs.Border.{answer_numbers};
 ghost use Rattle.border_text.specs.Border.{export_answered, export_output, import_answered, import_output};

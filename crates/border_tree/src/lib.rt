@@ -1,4 +1,6 @@
 // The calls that read trees as C has them (include/sarpukten.h): the answer in a lent array, its number returned too.
+#![tactic(auto)]
+
 ghost use Rattle.std.specs.Prelude.{◌≡◌};
 ghost use Rattle.entry.specs.Decode.{step_of};
 ghost use Rattle.reading.specs.Listing.{listing};

@@ -1,4 +1,6 @@
 // The calls that write trees and loose headers as C has them (include/sarpukten.h): the answer in a lent array, its number returned too.
+#![tactic(auto)]
+
 ghost use Rattle.std.specs.Prelude.{◌≡◌};
 ghost use Rattle.tree_write.specs.Write.{tree_size};
 ghost use Rattle.border.specs.Border.{answer_numbers};

@@ -1,4 +1,6 @@
 // A bundle of objects that is well framed and has no id twice: refusals 24 and 25 (docs/FORMAT.md, "Bundles").
+#![tactic(auto)]
+
 ghost use Rattle.std.specs.Prelude.{◌≡◌, ◌≤◌, length};
 ghost use Rattle.ground.specs.Verdict.{most_bytes};
 ghost use Rattle.frame.specs.Frame.{head_of, frames_by};
@@ -12,14 +14,14 @@ use ground::{FINE, Gate, ID_TWICE, NOT_FRAMED, Verdict, sizes};
 use twice::id_twice;
 
 // Whether a bundle can be used.
-#[derive(Drop)]
+#[derive(Clone, Copy)]
 pub enum Opening {
     Open(Header),
     Shut(Verdict),
 }
 
 // The answer of a check: with a bundle that can be used its H, its rule set and how many objects it has, else zeros.
-#[derive(Drop)]
+#[derive(Clone, Copy)]
 pub struct Checked {
     pub verdict: Verdict,
     pub h: usize,

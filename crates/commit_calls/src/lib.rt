@@ -1,1 +1,2 @@
 // The first demand of the calls on commits: theorems over the layers below, and no code.
+#![tactic(auto)]

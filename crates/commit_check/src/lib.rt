@@ -1,4 +1,6 @@
 // The records of a commit that is to be written, checked one by one (docs/FORMAT.md, "Commit writing").
+#![tactic(auto)]
+
 ghost use Rattle.std.specs.Prelude.{◌≡◌, map, ◌+◌, ◌≤◌, ◌/◌, length};
 ghost use Rattle.ground.specs.Verdict.{most_records};
 ghost use Rattle.header.specs.Record.{width};

@@ -1,4 +1,6 @@
 // Where the fields of a commit stand, or the first that fails (docs/FORMAT.md, "Commits" and "Numbers"; Rust: src/commit/decode.rs).
+#![tactic(auto)]
+
 ghost use Rattle.std.specs.Prelude.{◌≡◌, ◌<◌, ◌≤◌, length};
 ghost use Rattle.commit_fields.specs.Parents.{parent_at, parent_count};
 ghost use Rattle.commit_fields.specs.Headers.{heads, tally};
@@ -12,21 +14,21 @@ use ground::{ACTOR, COMMIT_FIELD, FEW_RECORDS, FINE, Gate, Verdict, bounds, byte
 use header::CommitParts;
 
 // Why a commit is refused.
-#[derive(Drop)]
+#[derive(Clone, Copy)]
 pub struct Refusal {
     pub verdict: Verdict,
     pub field: usize,
 }
 
 // The value of an author's or committer's line.
-#[derive(Drop)]
+#[derive(Clone, Copy)]
 pub enum Person {
     At(usize, usize),
     Fails(Refusal),
 }
 
 // The encoding's value, its mark 1 where there is one, and the place after it.
-#[derive(Drop)]
+#[derive(Clone, Copy)]
 pub struct Encoding {
     pub mark: usize,
     pub start: usize,
@@ -35,14 +37,14 @@ pub struct Encoding {
 }
 
 // How many extra headers there are, and the place after them.
-#[derive(Drop)]
+#[derive(Clone, Copy)]
 pub struct HeaderCount {
     pub count: usize,
     pub end: usize,
 }
 
 // What was found: the counts, the place of the first extra header, and the parts.
-#[derive(Drop)]
+#[derive(Clone, Copy)]
 pub struct Found {
     pub parents: usize,
     pub headers: usize,
@@ -50,7 +52,7 @@ pub struct Found {
     pub parts: CommitParts,
 }
 
-#[derive(Drop)]
+#[derive(Clone, Copy)]
 pub enum Outcome {
     Whole(Found),
     Fails(Refusal),

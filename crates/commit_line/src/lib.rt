@@ -1,4 +1,6 @@
 // The lines of a commit that begin with a word: those of ids, and those of values (docs/FORMAT.md, "Commits"; Rust: src/parse.rs).
+#![tactic(auto)]
+
 ghost use Rattle.std.specs.Prelude.{◌≡◌};
 ghost use Rattle.commit_line.specs.Line.{word_at, id_from, id_at, line_at};
 
@@ -7,7 +9,7 @@ use hex_digits::is_hex;
 use scan::{find_byte, same_bytes};
 
 // A line's value, from its first byte to its LF; or that there is no such line.
-#[derive(Drop)]
+#[derive(Clone, Copy)]
 pub enum Line {
     Value(usize, usize),
     Missing,

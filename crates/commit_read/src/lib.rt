@@ -1,4 +1,6 @@
 // Reading a commit into lent lists (docs/FORMAT.md, "Commits" and "Numbers"; Rust: src/commit/decode.rs).
+#![tactic(auto)]
+
 ghost use Rattle.std.specs.Prelude.{◌≡◌, ◌+◌, ◌*◌, ◌<◌, ◌≤◌, length};
 ghost use Rattle.commit_fields.specs.Headers.{heads};
 ghost use Rattle.commit_read.specs.Stored.{stored, heads_stored};
@@ -10,7 +12,7 @@ use ground::{FINE, Verdict};
 use header::{CommitParts, HEADER_WIDTH, put_header};
 
 // The answer: the verdict with the field that failed (0 where none did), the counts, and the parts. All are 0 on a refusal.
-#[derive(Drop)]
+#[derive(Clone, Copy)]
 pub struct CommitRead {
     pub verdict: Verdict,
     pub field: usize,

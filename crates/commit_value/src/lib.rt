@@ -1,4 +1,6 @@
 // The values of a commit that is written: a header's, folded where it is not yet, and an encoding (docs/FORMAT.md, "Commit writing").
+#![tactic(auto)]
+
 ghost use Rattle.std.specs.Prelude.{◌≡◌, ◌+◌, ◌*◌, ◌<◌, length, set};
 ghost use Rattle.std.proofs.lemmas.List.Edits.{sets};
 ghost use Rattle.grammar.specs.Grammar.{given};

@@ -1,5 +1,7 @@
 // A commit written from its parts, and its size (docs/FORMAT.md, "Commit writing"). Follows commit/write.rs and encode.rs.
 // One walk serves both: it stores what has room and gives the place past it, so with no room it measures.
+#![tactic(auto)]
+
 ghost use Rattle.std.specs.Prelude.{◌≡◌, true, map, [], ◌∷◌, ◌++◌, ◌+◌, ◌-◌, ◌*◌, ◌/◌, ◌<◌, ◌≤◌, length};
 ghost use Rattle.std.proofs.lemmas.List.Edits.{sets};
 ghost use Rattle.ground.specs.Basics.{part};

@@ -1,4 +1,6 @@
 // Git's comparison of two names by words and blocks, for the lookup (docs/FORMAT.md, "Order"): what `order::name_order` answers, in fewer steps and more code.
+#![tactic(auto)]
+
 ghost use Rattle.std.specs.Prelude.{◌≡◌, ◌+◌, ◌≤◌, ◌<◌, length, take, drop};
 ghost use Rattle.scan.specs.Word.{WordOf};
 ghost use Rattle.order.specs.Order.{name_order};

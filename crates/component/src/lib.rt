@@ -1,4 +1,6 @@
 // A path's components, and one component in a tree: the first entry of its name (docs/FORMAT.md, "Paths").
+#![tactic(auto)]
+
 ghost use Rattle.std.specs.Prelude.{◌≡◌, length};
 ghost use Rattle.reading.specs.Listing.{plain};
 ghost use Rattle.component.specs.Component.{pieces, is_path};
@@ -11,7 +13,7 @@ use scan::{find_byte, same_bytes};
 pub const MOST_COMPONENTS: usize = 64;
 
 // The first entry of a name, if there is one.
-#[derive(Drop)]
+#[derive(Clone, Copy)]
 pub enum Named {
     Entry(EntryRecord),
     NoEntry,

@@ -1,1 +1,2 @@
 // The second and the third demand, each read in one place: theorems over the layers below, and no code.
+#![tactic(auto)]

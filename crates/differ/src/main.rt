@@ -1,6 +1,8 @@
 // Lists what differs between two trees of a bundle: `./run differ LEFT RIGHT <bundle`, the ids of both root trees in hex (docs/FORMAT.md,
 // "Differences"). Prints the lines of `git diff-tree -r -t --no-renames`, or a refusal in one line. Words and bundle have at most 2,400,000
 // bytes together, and the items are at most 10,000, with 600,000 bytes of paths: all of it lies on the stack, beside 4 MiB of an index.
+#![tactic(auto)]
+
 use difference::compare_trees;
 use ground::DONE;
 use hex_of_id::hex_of_id;

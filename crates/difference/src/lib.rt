@@ -1,4 +1,6 @@
 // What differs between two trees of a bundle (docs/FORMAT.md, "Differences"): an index of its objects, and the walk with it.
+#![tactic(auto)]
+
 ghost use Rattle.std.specs.Prelude.{◌≡◌, [], ◌≤◌, length};
 ghost use Rattle.ground.specs.Verdict.{most_bytes, most_records, stored};
 ghost use Rattle.seeking.specs.Index.{IsIndex};

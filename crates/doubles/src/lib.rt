@@ -1,4 +1,6 @@
 // Two entries of one name in an ascending listing, found in one pass (docs/FORMAT.md, "Strict reading").
+#![tactic(auto)]
+
 ghost use Rattle.std.specs.Prelude.{◌≡◌, ◌≤◌, min, length};
 ghost use Rattle.doubles.specs.Stack.{kept_of, open_at, marks_at, is_double, open_of, place_of, marks_of};
 
@@ -7,7 +9,7 @@ use order::{Order, by_next};
 use scan::common_start;
 
 // Where an entry stands: after the one before and of a new name, with so many names open; or not.
-#[derive(Drop)]
+#[derive(Clone, Copy)]
 pub enum Placed {
     Fine(usize),
     NotAfter,

@@ -1,5 +1,7 @@
 // A name put into a strict tree object with its mode and id, in the place of any entry of that name (docs/FORMAT.md, "Edits").
 // The walk of `edit_walk` measures first and then writes.
+#![tactic(auto)]
+
 ghost use Rattle.std.specs.Prelude.{◌≡◌, ◌≤◌, ◌<◌, length};
 ghost use Rattle.ground.specs.Verdict.{verdict, refused, most_bytes, stored};
 ghost use Rattle.entry.specs.Entry.{as_written};

@@ -1,4 +1,6 @@
 // A name removed from a strict tree object (docs/FORMAT.md, "Edits"). The walk of `edit_walk` measures first and then writes.
+#![tactic(auto)]
+
 ghost use Rattle.std.specs.Prelude.{◌≡◌, ◌≤◌, ◌<◌, length};
 ghost use Rattle.ground.specs.Verdict.{most_bytes, stored};
 ghost use Rattle.entry.specs.Entry.{as_written};

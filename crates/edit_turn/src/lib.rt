@@ -1,5 +1,7 @@
 // What an edit does with one entry of a tree object (docs/FORMAT.md, "Edits"): an entry of the name is left out, any other is carried over, and the
 // new one is put ahead of the first that does not stand before it.
+#![tactic(auto)]
+
 ghost use Rattle.std.specs.Prelude.{◌≡◌};
 ghost use Rattle.edit_turn.specs.Turns.{fate_of, turn_at};
 
@@ -9,7 +11,7 @@ use order::{Order, name_order};
 use scan::same_bytes;
 
 // What is done with an entry: it is left out, carried over, or carried over behind the new one.
-#[derive(Drop)]
+#[derive(Clone, Copy)]
 pub enum Fate {
     Out,
     Over,
@@ -17,7 +19,7 @@ pub enum Fate {
 }
 
 // The same, with the place past the entry; or no entry can be read.
-#[derive(Drop)]
+#[derive(Clone, Copy)]
 pub enum Turn {
     End,
     Drop(usize),

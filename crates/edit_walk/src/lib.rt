@@ -1,5 +1,7 @@
 // One walk over a tree object that leaves out the entries of a name and puts a new one where it belongs (docs/FORMAT.md, "Edits").
 // It stores where there is room and always counts, so that it measures first and then writes.
+#![tactic(auto)]
+
 ghost use Rattle.std.specs.Prelude.{◌≡◌, ◌+◌, ◌≤◌, length};
 ghost use Rattle.std.proofs.lemmas.List.Edits.{sets};
 ghost use Rattle.ground.specs.Verdict.{most_bytes, most_records};
@@ -13,7 +15,7 @@ use mode::EntryMode;
 use output::{put, put_ended};
 
 // What a walk took: the bytes of its result, and the entries carried over.
-#[derive(Drop)]
+#[derive(Clone, Copy)]
 pub struct Walked {
     pub used: usize,
     pub kept: usize,

@@ -1,4 +1,6 @@
 // One tree entry, and the cursor that steps over an object (docs/FORMAT.md, "Entries"). Follows tree/ref_iter.rs.
+#![tactic(auto)]
+
 ghost use Rattle.std.specs.Prelude.{◌≡◌, drop};
 ghost use Rattle.entry.specs.Decode.{broken_at, short_part, decode, no_entry, step_over, step_of};
 
@@ -7,7 +9,7 @@ use mode::{EntryMode, ModeRead};
 use scan::find_nul;
 
 // An entry by its mode and by positions in the lent bytes; the last is where its mode text starts.
-#[derive(Drop)]
+#[derive(Clone, Copy)]
 pub struct EntryRecord {
     pub mode: usize,
     pub name_start: usize,
@@ -26,20 +28,20 @@ pub const NO_RECORD: EntryRecord = EntryRecord {
 };
 
 // A place in an object, from which the next entry is read.
-#[derive(Drop)]
+#[derive(Clone, Copy)]
 pub struct Cursor {
     pub at: usize,
 }
 
 // An entry with the cursor past it, or why none can be read.
-#[derive(Drop)]
+#[derive(Clone, Copy)]
 pub enum Decoded {
     Whole(EntryRecord, Cursor),
     Broken(Verdict),
 }
 
 // What a step of the cursor answers: where none was found the entry is all zeros.
-#[derive(Drop)]
+#[derive(Clone, Copy)]
 pub struct Step {
     pub verdict: Verdict,
     pub found: bool,

@@ -1,4 +1,6 @@
 // The record of an entry among flat numbers: read, stored, and asked (docs/FORMAT.md, "Records").
+#![tactic(auto)]
+
 ghost use Rattle.std.specs.Prelude.{◌≡◌, ◌+◌, leb, get_or};
 ghost use Rattle.entry.specs.Record.{records_of, no_record, put_record, well_formed, folder_of};
 

@@ -1,5 +1,7 @@
 // Writes a strict tree object as text: `./run export [sha256] [1|2] <tree | git mktree -z` (docs/FORMAT.md, "Text"). Without a rule set it
 // is 2. An object has at most 131,072 bytes. A refusal is one line with its number, place and part.
+#![tactic(auto)]
+
 use asking::ask;
 use libc::STDIN_FILENO;
 use saying::{say_answer, say_too_long};

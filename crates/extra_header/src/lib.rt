@@ -1,4 +1,6 @@
 // Extra headers, folded or on one line (docs/FORMAT.md, "Commits"; Rust: src/parse.rs).
+#![tactic(auto)]
+
 ghost use Rattle.std.specs.Prelude.{◌≡◌};
 ghost use Rattle.extra_header.specs.Extra.{fold_end, extra_at, folded_form};
 
@@ -6,7 +8,7 @@ use header::HeaderRecord;
 use scan::{count_to, find_byte};
 
 // An extra header with the place after it; or that there is none.
-#[derive(Drop)]
+#[derive(Clone, Copy)]
 pub enum Extra {
     Got(HeaderRecord, usize),
     No,

@@ -1,4 +1,6 @@
 // What mending does to one entry: whether it stays, and the text of its kind's own mode (docs/FORMAT.md, "Mending").
+#![tactic(auto)]
+
 ghost use Rattle.std.specs.Prelude.{◌≡◌, ◌&&◌, eqb};
 ghost use Rattle.ground.specs.Basics.{pick};
 ghost use Rattle.ground.specs.Scan.{same_bytes};

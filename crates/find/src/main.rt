@@ -1,6 +1,8 @@
 // Finds what a path leads to in a bundle: `./run find ROOT PATH <bundle`, the root's id in hex (docs/FORMAT.md, "Bundles"). Prints the mode,
 // the word of its kind and the id, or a refusal in one line. Words and bundle have at most 4,000,000 bytes together: the bundle is lent
 // whole, and the stack, of 8 MiB, has to hold it beside the 4 MiB that a bundle with its ids in no order needs.
+#![tactic(auto)]
+
 use ground::DONE;
 use hex_of_id::hex_of_id;
 use id_of_hex::id_of_hex;

@@ -1,4 +1,6 @@
 // Where the object of an id stands in a bundle: the first, by a walk along it (docs/FORMAT.md, "Bundles").
+#![tactic(auto)]
+
 ghost use Rattle.std.specs.Prelude.{◌≡◌};
 ghost use Rattle.frame.specs.Frame.{frames};
 ghost use Rattle.frame.specs.Place.{first_of, place_of};

@@ -1,4 +1,6 @@
 // A bundle's framing: its header, and one object at a place (docs/FORMAT.md, "Bundles").
+#![tactic(auto)]
+
 ghost use Rattle.std.specs.Prelude.{◌≡◌, ◌+◌, ◌≤◌, ◌<◌, length, take, drop};
 ghost use Rattle.frame.specs.Frame.{little, fields_at, by_rules, head_of, frame_at};
 
@@ -9,7 +11,7 @@ use scan::same_bytes;
 pub const TREE: usize = 2;
 
 // What a bundle's header says: the length of ids, the rule set, how many objects there are, and where the first begins.
-#[derive(Drop)]
+#[derive(Clone, Copy)]
 pub struct Header {
     pub h: usize,
     pub rules: u16,
@@ -18,14 +20,14 @@ pub struct Header {
 }
 
 // A header, if there is one.
-#[derive(Drop)]
+#[derive(Clone, Copy)]
 pub enum Head {
     Good(Header),
     Bad,
 }
 
 // An object by its kind and by positions in the bundle: of its id, of its first byte, and past its last.
-#[derive(Drop)]
+#[derive(Clone, Copy)]
 pub struct Frame {
     pub kind: usize,
     pub id: usize,
@@ -34,14 +36,14 @@ pub struct Frame {
 }
 
 // The object at a place, if one stands there.
-#[derive(Drop)]
+#[derive(Clone, Copy)]
 pub enum Framed {
     Whole(Frame),
     Broken,
 }
 
 // Where an object stands, if it is there.
-#[derive(Drop)]
+#[derive(Clone, Copy)]
 pub enum Placed {
     At(Frame),
     Absent,

@@ -1,4 +1,6 @@
 // Whether the objects of a bundle stand in turn, and whether their ids ascend (docs/FORMAT.md, "Bundles").
+#![tactic(auto)]
+
 ghost use Rattle.std.specs.Prelude.{◌≡◌, []};
 ghost use Rattle.frame.specs.Frame.{frames, whole};
 ghost use Rattle.twice.specs.Ids.{ids_in};

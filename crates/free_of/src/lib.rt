@@ -1,4 +1,6 @@
 // Whether a byte does not stand among others, by blocks (docs/FORMAT.md, "Strict reading").
+#![tactic(auto)]
+
 ghost use Rattle.std.specs.Prelude.{◌≡◌, ◌+◌, ◌≤◌, ◌<◌, length};
 ghost use Rattle.ground.specs.Scan.{place_from, free_of};
 

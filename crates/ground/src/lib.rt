@@ -1,4 +1,6 @@
 // What every layer stands on: the verdict and the two bounds (docs/FORMAT.md, "Numbers" and "Bounds").
+#![tactic(auto)]
+
 ghost use Rattle.std.specs.Prelude.{◌≡◌, max, min, get_or};
 ghost use Rattle.ground.specs.Verdict.{size_gate, gate_of};
 
@@ -71,7 +73,7 @@ pub const CUT_ID: usize = 3;
 
 // A number of the table with its place, and with number 3 the part of the entry that cannot be read, else 0;
 // number 0 with place 0 is "done".
-#[derive(Drop)]
+#[derive(Clone, Copy)]
 pub struct Verdict {
     pub number: usize,
     pub place: usize,
@@ -86,14 +88,14 @@ pub const FINE: Verdict = Verdict {
 };
 
 // The answer of a call that counts records or bytes: the count is 0 on a refusal.
-#[derive(Drop)]
+#[derive(Clone, Copy)]
 pub struct Answer {
     pub verdict: Verdict,
     pub count: usize,
 }
 
 // Whether a call may begin.
-#[derive(Drop)]
+#[derive(Clone, Copy)]
 pub enum Gate {
     Open,
     Shut(Verdict),

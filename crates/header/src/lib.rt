@@ -1,4 +1,6 @@
 // Where the parts of a commit stand, and the records of its extra headers (docs/FORMAT.md, "Commits").
+#![tactic(auto)]
+
 ghost use Rattle.std.specs.Prelude.{◌≡◌};
 ghost use Rattle.header.specs.Record.{header_at, put_header, well_formed};
 
@@ -6,7 +8,7 @@ ghost use Rattle.header.specs.Record.{header_at, put_header, well_formed};
 pub const HEADER_WIDTH: usize = 5;
 
 // An extra header: its name, its value (through the last LF where it is folded), and the mark, 1 for folded and 0 for one line.
-#[derive(Drop)]
+#[derive(Clone, Copy)]
 pub struct HeaderRecord {
     pub name_start: usize,
     pub name_end: usize,
@@ -16,7 +18,7 @@ pub struct HeaderRecord {
 }
 
 // Where the parts of a commit stand: the tree's first hex digit, then ranges. The encoding's mark is 1 where there is one.
-#[derive(Drop)]
+#[derive(Clone, Copy)]
 pub struct CommitParts {
     pub tree: usize,
     pub author_start: usize,

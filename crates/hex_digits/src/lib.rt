@@ -1,4 +1,6 @@
 // Hex digits: the value of every byte in one table (docs/FORMAT.md, "Hex").
+#![tactic(auto)]
+
 ghost use Rattle.std.specs.Prelude.{◌≡◌, ◌<◌};
 ghost use Rattle.hex_digits.specs.Hex.{hex_value, is_hex, Laid};
 

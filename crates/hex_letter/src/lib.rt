@@ -1,4 +1,6 @@
 // Hex digits as they are written: a digit in lower case, and the digit of a number (docs/FORMAT.md, "Hex").
+#![tactic(auto)]
+
 ghost use Rattle.std.specs.Prelude.{◌≡◌, ◌%◌};
 ghost use Rattle.hex_digits.specs.Hex.{lower_digit, digit_of};
 

@@ -1,4 +1,6 @@
 // The hex digits of an id: a tree has ids as bytes, a commit names them by digits (docs/FORMAT.md, "Hex").
+#![tactic(auto)]
+
 ghost use Rattle.std.specs.Prelude.{◌≡◌, ◌*◌, ◌≤◌, length};
 ghost use Rattle.std.proofs.lemmas.List.Edits.{sets};
 ghost use Rattle.ground.specs.Verdict.{counted, stored};

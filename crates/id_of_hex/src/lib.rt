@@ -1,4 +1,6 @@
 // An id from its hex digits: a commit names ids by digits, a tree has their bytes (docs/FORMAT.md, "Hex").
+#![tactic(auto)]
+
 ghost use Rattle.std.specs.Prelude.{◌≡◌, true, ◌/◌, ◌≤◌, length};
 ghost use Rattle.std.proofs.lemmas.List.Edits.{sets};
 ghost use Rattle.ground.specs.Verdict.{stored};

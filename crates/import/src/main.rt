@@ -1,5 +1,7 @@
 // Writes the strict tree object of a text: `./run import [sha256] [1|2] <text` (docs/FORMAT.md, "Text"). Without a rule set it is 2. The text
 // is what `git ls-tree -z` prints, its records in any order, and has at most 262,144 bytes. A refusal is one line with its number, place and part.
+#![tactic(auto)]
+
 use asking::ask;
 use libc::STDIN_FILENO;
 use saying::{say_answer, say_too_long};

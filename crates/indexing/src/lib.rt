@@ -1,4 +1,6 @@
 // An index of a bundle's objects: the places of their ids, sorted by the ids in a list of the caller's.
+#![tactic(auto)]
+
 ghost use Rattle.std.specs.Prelude.{◌≡◌, ◌++◌, ◌≤◌, length, drop};
 ghost use Rattle.std.proofs.lemmas.List.Edits.{sets};
 ghost use Rattle.ground.specs.Verdict.{most_bytes};

@@ -1,5 +1,7 @@
 // An item of a difference as it is stored (docs/FORMAT.md, "Differences"): six numbers in one list, its path in another.
 // A folder's item comes before its inner items, so the front of an inner path is copied from where the folder's path was stored.
+#![tactic(auto)]
+
 ghost use Rattle.std.specs.Prelude.{◌≡◌, ◌&&◌, ◌+◌, ◌≤◌, leb, ltb, length, drop};
 ghost use Rattle.std.proofs.Math.Seq.{paste};
 ghost use Rattle.item.specs.Put.{put_numbers, put_path};

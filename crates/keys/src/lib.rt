@@ -1,4 +1,6 @@
 // What an element of a list stands for, bytes of a text, and the comparison of two elements by them. It reads no further than it has to.
+#![tactic(auto)]
+
 ghost use Rattle.std.specs.Prelude.{◌≡◌, false, ◌-◌, ◌≤◌, ltb, length, take, drop};
 ghost use Rattle.order.specs.Order.{by_number, next, name_order};
 ghost use Rattle.keys.specs.Key.{past_mark, cut_to, key_at, below_by, decide, ended};

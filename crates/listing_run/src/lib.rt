@@ -1,5 +1,7 @@
 // The program `listing`, which also `listing_refuses` is: standard input is read, and the text of its listing written; which part of an entry
 // cannot be read is said on standard error.
+#![tactic(auto)]
+
 use libc::{STDERR_FILENO, STDIN_FILENO, STDOUT_FILENO};
 use listing_text::{Listed, put_listing};
 use part_words::put_part;

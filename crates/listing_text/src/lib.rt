@@ -1,4 +1,6 @@
 // The text of a listing, made from an object that is read plainly, with ids of 20 or 32 bytes (docs/FORMAT.md, "Examples").
+#![tactic(auto)]
+
 ghost use Rattle.std.specs.Prelude.{◌≡◌, true, ◌+◌, ◌-◌, ◌*◌, ◌<◌, ◌≤◌, length, take, drop};
 ghost use Rattle.std.proofs.lemmas.List.Edits.{sets};
 ghost use Rattle.ground.specs.Verdict.{id_length};
@@ -23,7 +25,7 @@ pub const LONGEST: usize = 65536;
 pub const ROOM: usize = 2978;
 
 // The verdict on an object, and how long its text is.
-#[derive(Drop)]
+#[derive(Clone, Copy)]
 pub struct Listed {
     pub verdict: Verdict,
     pub len: usize,

@@ -1,4 +1,6 @@
 // Lookup by halving in a listing that is lent as records (docs/FORMAT.md, "Lookup"); in the Rust `TreeRef::bisect_entry` of src/tree/ref_iter.rs.
+#![tactic(auto)]
+
 ghost use Rattle.std.specs.Prelude.{◌≡◌, ◌<◌, length};
 ghost use Rattle.entry.specs.Record.{many, records_of};
 ghost use Rattle.lookup.specs.Halving.{most_comparisons, told_of};
@@ -9,7 +11,7 @@ use ground::{BAD_RECORD, FINE, Gate, NOT_THERE, Verdict};
 use order::Order;
 
 // The answer of a lookup: the index of what was found, and how many records were compared.
-#[derive(Drop)]
+#[derive(Clone, Copy)]
 pub struct Looked {
     pub verdict: Verdict,
     pub index: usize,
@@ -17,7 +19,7 @@ pub struct Looked {
 }
 
 // How a search ended: at the record that was found, at one that is not well formed, or without one; and how many were compared.
-#[derive(Drop)]
+#[derive(Clone, Copy)]
 enum Ended {
     Found(usize, usize),
     Bad(usize),

@@ -1,6 +1,8 @@
 // Many lookups in one listing: a lent list of names, and a lent list of answers (docs/FORMAT.md, "Many lookups").
 // The answers of the first names are kept in an array of the call's own until every name was looked up, so those are searched once; names past them are
 // looked up again to be stored. A refusal leaves the lent answers as they were.
+#![tactic(auto)]
+
 ghost use Rattle.std.specs.Prelude.{◌≡◌, ℕ, ◌+◌, ◌*◌, ◌<◌, ◌≤◌, length, get_or, take, drop};
 ghost use Rattle.std.proofs.lemmas.List.Edits.{sets};
 ghost use Rattle.ground.specs.Verdict.{stored};
@@ -27,7 +29,7 @@ const BAD: Looked = Looked {
 };
 
 // A name that is sought: where it stands in the lent names, and 1 for a folder or 0 for anything else.
-#[derive(Drop)]
+#[derive(Clone, Copy)]
 pub struct Sought {
     pub start: usize,
     pub end: usize,

@@ -1,4 +1,6 @@
 // The header of a loose object, as `loose_header` of the Rust's encode.rs (docs/FORMAT.md, "Loose headers").
+#![tactic(auto)]
+
 ghost use Rattle.std.specs.Prelude.{◌≡◌, ◌≤◌, length, take};
 ghost use Rattle.ground.specs.Verdict.{stored};
 ghost use Rattle.loose_header.specs.Header.{kind_word, decimal_text, loose_header, header_answer};
@@ -6,7 +8,7 @@ ghost use Rattle.loose_header.specs.Header.{kind_word, decimal_text, loose_heade
 use ground::{Answer, DONE, FINE, NO_MODE_OR_KIND, Verdict};
 
 // The word of an object kind: the first len of its letters; none where the number is no kind.
-#[derive(Drop)]
+#[derive(Clone, Copy)]
 struct Word {
     letters: [u8; 6],
     len: usize,
@@ -46,7 +48,7 @@ fn kind_word(kind: usize) -> Word
 }
 
 // The decimal digits of a number: those of the text from a place on, with 0 before them.
-#[derive(Drop)]
+#[derive(Clone, Copy)]
 pub struct Decimal {
     pub text: [u8; 20],
     pub at: usize,

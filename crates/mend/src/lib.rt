@@ -1,6 +1,8 @@
 // From a tree object that can be read, one that rule set 2 accepts, and a list of what was done to each entry
 // (docs/FORMAT.md, "Mending"). The call's own memory holds places of entries: sorted by their names to see which name comes again,
 // then by Git's order to write those that are kept.
+#![tactic(auto)]
+
 ghost use Rattle.std.specs.Prelude.{◌≡◌, true, false, [], ◌∷◌, ◌++◌, ◌+◌, ◌*◌, ◌/◌, ◌≤◌, ◌<◌, length, take, drop, set};
 ghost use Rattle.std.proofs.lemmas.List.Edits.{sets};
 ghost use Rattle.ground.specs.Basics.{pick};
@@ -29,7 +31,7 @@ use scan::same_bytes;
 use sorting::sort_front;
 
 // The answer: the bytes written, and the entries that the object has; both 0 on a refusal.
-#[derive(Drop)]
+#[derive(Clone, Copy)]
 pub struct Mended {
     pub verdict: Verdict,
     pub count: usize,

@@ -1,5 +1,7 @@
 // Says what mending does to each entry of a tree object: `./run mend [sha256] <object` (docs/FORMAT.md, "Mending"). A line an entry, in the object's
 // order: its mode text as it stands, what is done in words, a colon, its name. A refusal is one line with its number, place and part.
+#![tactic(auto)]
+
 use entry::EntryRecord;
 use entry_record::{WIDTH, entry_at};
 use fate::{CHANGED, KEPT, NO_NAME, NO_SORT, own_text};

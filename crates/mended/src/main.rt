@@ -1,5 +1,7 @@
 // Mends a tree object: `./run mended [sha256] <object >new` (docs/FORMAT.md, "Mending"); the program `mend` says what is done to each entry.
 // A refusal is one line with its number, place and part.
+#![tactic(auto)]
+
 use ground::DONE;
 use libc::STDIN_FILENO;
 use mend::{Mended, mend_tree};

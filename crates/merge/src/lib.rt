@@ -1,4 +1,6 @@
 // One step of the merge of two trees' entries in Git's order (docs/FORMAT.md, "Differences"): what is only left, only right, or in both.
+#![tactic(auto)]
+
 ghost use Rattle.std.specs.Prelude.{◌≡◌, ◌+◌, ◌≤◌, ◌<◌, length};
 ghost use Rattle.entry.specs.Record.{folder_of};
 ghost use Rattle.order.specs.Order.{name_order};
@@ -10,7 +12,7 @@ use order::{Order, name_order};
 use scan::same_bytes;
 
 // What is still to be read of a tree: where its bytes begin and end in the bundle, the place in it of the next entry, and how many are left.
-#[derive(Drop)]
+#[derive(Clone, Copy)]
 pub struct Rest {
     pub start: usize,
     pub end: usize,
@@ -19,14 +21,14 @@ pub struct Rest {
 }
 
 // The next entry of a tree, its positions counted in the bundle, and what is left behind it.
-#[derive(Drop)]
+#[derive(Clone, Copy)]
 pub enum Ahead {
     End,
     Entry(EntryRecord, Rest),
 }
 
 // One side of a change: a mode and an id's range in the bundle. Where nothing is there, all are 0.
-#[derive(Drop)]
+#[derive(Clone, Copy)]
 pub struct Side {
     pub mode: usize,
     pub id_start: usize,
@@ -34,7 +36,7 @@ pub struct Side {
 }
 
 // An entry that differs: its name's range in the bundle, both sides, and whether its folders have to be opened.
-#[derive(Drop)]
+#[derive(Clone, Copy)]
 pub struct Change {
     pub name_start: usize,
     pub name_end: usize,
@@ -44,7 +46,7 @@ pub struct Change {
 }
 
 // A step: both trees are at their end, an entry is the same in both, or one differs.
-#[derive(Drop)]
+#[derive(Clone, Copy)]
 pub enum Step {
     Done,
     Same(Rest, Rest),

@@ -1,5 +1,7 @@
 // The mode of a tree entry: 16 bits, asked what they stand for, made from a text or a number, and written again
 // (docs/FORMAT.md, "Modes"; it follows src/tree/mod.rs).
+#![tactic(auto)]
+
 ghost use Rattle.std.specs.Prelude.{◌≡◌, not, eqb};
 ghost use Rattle.mode_text.specs.Write.{mode_text};
 ghost use Rattle.mode_table.specs.Kind.{is_executable, is_file_or_link};
@@ -11,20 +13,20 @@ use mode_table::{EntryKind, written_of};
 use mode_text::{ShortText, TextRead, read_at, text_of};
 
 // The 16 bits. 16384 from a text that begins with 0 is kept as 49152, so that the text can be written again.
-#[derive(Drop)]
+#[derive(Clone, Copy)]
 pub struct EntryMode {
     pub internal: u16,
 }
 
 // A mode at the front of some bytes with the place where the rest begins, or that none can be read there.
-#[derive(Drop)]
+#[derive(Clone, Copy)]
 pub enum ModeRead {
     Mode(EntryMode, usize),
     Bad,
 }
 
 // The answer of a call that makes a mode: number 0 in it on a refusal.
-#[derive(Drop)]
+#[derive(Clone, Copy)]
 pub struct ModeAnswer {
     pub verdict: Verdict,
     pub mode: EntryMode,

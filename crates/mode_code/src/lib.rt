@@ -1,5 +1,7 @@
 // The mode at the front of an entry as one number: sixteen times the mode, and how many bytes its text takes with the space
 // (docs/FORMAT.md, "Modes").
+#![tactic(auto)]
+
 ghost use Rattle.std.specs.Prelude.{◌≡◌, ◌+◌, ◌<◌, ◌≤◌, length};
 ghost use Rattle.mode_code.specs.Code.{code_at, quick_at};
 ghost use Rattle.mode_code.specs.Quad.{quad_at, six_of};

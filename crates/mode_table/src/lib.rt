@@ -1,4 +1,6 @@
 // The table of the five written modes and their kinds (docs/FORMAT.md, "Modes"; it follows src/tree/mod.rs).
+#![tactic(auto)]
+
 ghost use Rattle.std.specs.Prelude.{◌≡◌, ◌<◌};
 ghost use Rattle.mode_table.specs.Kind.{is_executable, is_file_or_link};
 ghost use Rattle.mode_table.specs.Table.{place_of, row_at, written_of, written_mode};
@@ -7,7 +9,7 @@ use mode_text::ShortText;
 use scan::same_bytes;
 
 // What an entry is.
-#[derive(Drop)]
+#[derive(Clone, Copy)]
 pub enum EntryKind {
     Tree,
     Blob,
@@ -17,14 +19,14 @@ pub enum EntryKind {
 }
 
 // A mode of the table, or that there is none.
-#[derive(Drop)]
+#[derive(Clone, Copy)]
 pub enum ModeFound {
     Mode(u16),
     None,
 }
 
 // A row of the table: a mode, its kind, its octal text and its kind's word.
-#[derive(Drop)]
+#[derive(Clone, Copy)]
 pub struct Written {
     pub mode: u16,
     pub kind: EntryKind,

@@ -1,4 +1,6 @@
 // The text of a mode: octal digits to 16 bits and back (docs/FORMAT.md, "Modes"; it follows src/tree/mod.rs).
+#![tactic(auto)]
+
 ghost use Rattle.std.specs.Prelude.{◌≡◌, [], ◌∷◌, ◌+◌, ◌%◌, ◌≤◌, min};
 ghost use Rattle.mode_text.specs.Read.{octal_from, has_six, text_len, settle, rest_at, read_text, read_text_at};
 ghost use Rattle.mode_text.specs.Write.{trimmed, short, mode_text};
@@ -6,21 +8,21 @@ ghost use Rattle.mode_text.specs.Write.{trimmed, short, mode_text};
 use scan::count_to;
 
 // The 16 bits that a text at the front of some bytes says with the place where the rest begins, or that none can be read there.
-#[derive(Drop)]
+#[derive(Clone, Copy)]
 pub enum TextRead {
     Bits(u16, usize),
     Bad,
 }
 
 // A run of octal digits as a number's low 16 bits, or that a byte is no digit.
-#[derive(Drop)]
+#[derive(Clone, Copy)]
 pub enum Octal {
     Number(u16),
     Other,
 }
 
 // At most six bytes: the first len are the text, the others are 0.
-#[derive(Drop)]
+#[derive(Clone, Copy)]
 pub struct ShortText {
     pub bytes: [u8; 6],
     pub len: usize,

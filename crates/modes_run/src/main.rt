@@ -1,5 +1,7 @@
 // Runs every mode and the mode texts of docs/FORMAT.md, "Modes", and writes what comes of them; expected.py computes the same without Rattle.
 // A line for each of the 16 sorts: the sort in octal, and the sum over its 4,096 modes.
+#![tactic(auto)]
+
 use libc::STDOUT_FILENO;
 use mode::{EntryMode, ModeAnswer, ModeRead};
 use mode_table::EntryKind;

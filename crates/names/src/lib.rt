@@ -1,4 +1,6 @@
 // What strict reading says of a name (docs/FORMAT.md, "Strict reading").
+#![tactic(auto)]
+
 ghost use Rattle.std.specs.Prelude.{◌≡◌, ◌||◌};
 ghost use Rattle.ground.specs.Basics.{ascii};
 ghost use Rattle.ground.specs.Scan.{same_bytes};

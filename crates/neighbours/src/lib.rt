@@ -1,4 +1,6 @@
 // Whether two neighbours in an index of a bundle name the same id: where it is sorted, then an id stands twice.
+#![tactic(auto)]
+
 ghost use Rattle.std.specs.Prelude.{◌≡◌, ◌/◌, take, drop};
 ghost use Rattle.ground.specs.Scan.{same_bytes};
 ghost use Rattle.sorting.specs.Repeats.{touches};

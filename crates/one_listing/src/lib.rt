@@ -1,1 +1,2 @@
 // One listing, one object: theorems over the definitions of the layers below, and no code (specs/Demand.antt states them).
+#![tactic(auto)]

@@ -1,4 +1,6 @@
 // A tree of a bundle by its id, and two of them, read strictly (docs/FORMAT.md, "Differences").
+#![tactic(auto)]
+
 ghost use Rattle.std.specs.Prelude.{◌≡◌, ◌≤◌, length};
 ghost use Rattle.frame.specs.declared.Placed.TheVariants.{At};
 ghost use Rattle.opening.specs.Opening.{open_placed, open_in, open_level, open_both};
@@ -11,14 +13,14 @@ use seeking::seek_object;
 use strict::strict_count;
 
 // A tree that was opened, or why it was not.
-#[derive(Drop)]
+#[derive(Clone, Copy)]
 pub enum Opened {
     Shut(Verdict),
     Entries(Rest),
 }
 
 // Two trees that were opened, or why they were not.
-#[derive(Drop)]
+#[derive(Clone, Copy)]
 pub enum Pair {
     Closed(Verdict),
     Both(Rest, Rest),

@@ -1,9 +1,11 @@
 // Git's comparison of the names in a tree (docs/FORMAT.md, "Order"); in the Rust `name_order` of src/tree/mod.rs.
+#![tactic(auto)]
+
 ghost use Rattle.std.specs.Prelude.{◌≡◌, drop};
 ghost use Rattle.order.specs.Order.{name_order, by_number, next, order_number};
 
 // How a name stands to another.
-#[derive(Drop)]
+#[derive(Clone, Copy)]
 pub enum Order {
     Below,
     Same,

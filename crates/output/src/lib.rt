@@ -1,4 +1,6 @@
 // Writing pieces of varying length to a lent output: what stands for the Rust's `io::Write` (docs/FORMAT.md, "Writing").
+#![tactic(auto)]
+
 ghost use Rattle.std.specs.Prelude.{◌≡◌, [], ◌∷◌, ◌++◌, ◌-◌, ◌≤◌, min, length};
 ghost use Rattle.std.proofs.lemmas.List.Edits.{sets};
 ghost use Rattle.output.specs.Output.{fitted};

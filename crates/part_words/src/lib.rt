@@ -1,4 +1,6 @@
 // The words for the part of an entry that cannot be read, as `listing` says them on standard error (docs/FORMAT.md, "Examples").
+#![tactic(auto)]
+
 ghost use Rattle.std.specs.Prelude.{◌≡◌, length};
 ghost use Rattle.std.proofs.lemmas.List.Edits.{sets};
 ghost use Rattle.part_words.specs.Words.{part_words, Stored};

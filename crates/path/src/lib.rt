@@ -1,4 +1,6 @@
 // A path followed through nested trees of a bundle that is opened for it (docs/FORMAT.md, "Paths").
+#![tactic(auto)]
+
 ghost use Rattle.std.specs.Prelude.{◌≡◌, length};
 ghost use Rattle.bundle.specs.Bundle.{open_of};
 ghost use Rattle.component.specs.Component.{components};

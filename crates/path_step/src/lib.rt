@@ -1,4 +1,6 @@
 // One component of a path: the object of an id must be a tree, and have an entry of the name (docs/FORMAT.md, "Paths").
+#![tactic(auto)]
+
 ghost use Rattle.std.specs.Prelude.{◌≡◌};
 ghost use Rattle.path_step.specs.Spot.{spot_in};
 
@@ -7,7 +9,7 @@ use finding::find_object;
 use frame::{Placed, TREE};
 
 // An entry's mode, and where its id stands in the bundle.
-#[derive(Drop)]
+#[derive(Clone, Copy)]
 pub enum Spot {
     At(usize, usize),
     Nowhere,

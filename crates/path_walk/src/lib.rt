@@ -1,5 +1,7 @@
 // A path walked along from an id: one component at a time until none is left, and what it leads to (docs/FORMAT.md, "Paths").
 // In the Rust `lookup_entry` of src/tree/ref_iter.rs.
+#![tactic(auto)]
+
 ghost use Rattle.std.specs.Prelude.{◌≡◌, length};
 ghost use Rattle.component.specs.Component.{pieces, components};
 ghost use Rattle.path_walk.specs.Reach.{spot_along, SpotInside, missed, taken_from, reached_by};
@@ -11,7 +13,7 @@ use path_step::{Spot, step_to};
 use scan::count_to;
 
 // The answer: the mode and the id of the entry that the path leads to, by value; on a refusal mode and size are 0.
-#[derive(Drop)]
+#[derive(Clone, Copy)]
 pub struct Followed {
     pub verdict: Verdict,
     pub mode: usize,

@@ -1,4 +1,6 @@
 // Where whole entries of a piece may be taken at once, and the marks after them (docs/FORMAT.md, "A check in pieces").
+#![tactic(auto)]
+
 ghost use Rattle.std.specs.Prelude.{◌≡◌};
 ghost use Rattle.piece_between.specs.Between.{is_next, is_fine, is_after, is_first, is_between, head_after, ran_of};
 

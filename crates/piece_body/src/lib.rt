@@ -1,4 +1,6 @@
 // The check in pieces with one byte more of an entry's name or id (docs/FORMAT.md, "A check in pieces").
+#![tactic(auto)]
+
 ghost use Rattle.std.specs.Prelude.{◌≡◌, ◌<◌};
 ghost use Rattle.arriving.specs.Feed.{together, moved, name_marks, name_held, id_marks, id_ends};
 ghost use Rattle.piece_body.specs.Within.{body_within};

@@ -1,4 +1,6 @@
 // An entry that is finished in the check in pieces: refused, or placed among the open names (docs/FORMAT.md, "A check in pieces").
+#![tactic(auto)]
+
 ghost use Rattle.std.specs.Prelude.{◌≡◌, ◌+◌, ltb};
 ghost use Rattle.ground.specs.Basics.{pick};
 ghost use Rattle.ground.specs.Verdict.{most_records, verdict};

@@ -1,4 +1,6 @@
 // How a strict check of a tree object in pieces begins and how it ends (docs/FORMAT.md, "A check in pieces").
+#![tactic(auto)]
+
 ghost use Rattle.std.specs.Prelude.{◌≡◌, take};
 ghost use Rattle.mode.specs.Read.{read_mode};
 ghost use Rattle.arriving.specs.Feed.{start_of, head_part, finish_of};

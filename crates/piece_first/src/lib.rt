@@ -1,4 +1,6 @@
 // The check in pieces with one byte more of an entry's first eight: the bytes behind the mode are fed too (docs/FORMAT.md, "A check in pieces").
+#![tactic(auto)]
+
 ghost use Rattle.std.specs.Prelude.{◌≡◌, ◌<◌, drop};
 ghost use Rattle.arriving.specs.Feed.{together, bodies};
 ghost use Rattle.piece_first.specs.Within.{first_within};

@@ -1,4 +1,6 @@
 // The check in pieces with one byte more of the first eight of an entry, which decide its mode (docs/FORMAT.md, "A check in pieces").
+#![tactic(auto)]
+
 ghost use Rattle.std.specs.Prelude.{◌≡◌, ◌-◌, ◌<◌, ◌≤◌};
 ghost use Rattle.mode.specs.Read.{read_mode};
 ghost use Rattle.piece_head.specs.Head.{begun_at, begin_at, head_at};

@@ -1,4 +1,6 @@
 // A name that arrives byte by byte over the one before it, and what the rules say of a finished entry (docs/FORMAT.md, "A check in pieces").
+#![tactic(auto)]
+
 ghost use Rattle.std.specs.Prelude.{◌≡◌};
 ghost use Rattle.arriving.specs.Feed.{meet, sharing, is_over, judged};
 

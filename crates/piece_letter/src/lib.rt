@@ -1,4 +1,6 @@
 // The check in pieces with one byte more of a name, over the byte that the held name has in its place (docs/FORMAT.md, "A check in pieces").
+#![tactic(auto)]
+
 ghost use Rattle.std.specs.Prelude.{◌≡◌};
 ghost use Rattle.piece_letter.specs.Letter.{line_over, letter_of};
 

@@ -1,4 +1,6 @@
 // Marks of the check in pieces that are made anew: a refusal, so many bytes more, and what a byte past the bound settles.
+#![tactic(auto)]
+
 ghost use Rattle.std.specs.Prelude.{◌≡◌, ◌&&◌, eqb, leb, take};
 ghost use Rattle.ground.specs.Verdict.{most_records};
 ghost use Rattle.mode.specs.Read.{read_mode};

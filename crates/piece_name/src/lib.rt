@@ -1,4 +1,6 @@
 // A name that arrives several bytes at a time over the one before it, which is held (docs/FORMAT.md, "A check in pieces").
+#![tactic(auto)]
+
 ghost use Rattle.std.specs.Prelude.{◌≡◌, min};
 ghost use Rattle.std.proofs.lemmas.List.Edits.{sets};
 ghost use Rattle.ground.specs.Scan.{count_to};
@@ -11,7 +13,7 @@ use piece_judge::meet;
 use scan::{common_start, find_nul};
 
 // How a name stands after some bytes, and how many it shares with the held one.
-#[derive(Drop)]
+#[derive(Clone, Copy)]
 pub struct Stood {
     pub stand: Stand,
     pub shared: usize,

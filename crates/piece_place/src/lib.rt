@@ -1,4 +1,6 @@
 // A name over the one before it, which is held (docs/FORMAT.md, "A check in pieces").
+#![tactic(auto)]
+
 ghost use Rattle.std.specs.Prelude.{◌≡◌, take};
 ghost use Rattle.doubles.specs.Stack.{place_of, marks_of};
 ghost use Rattle.piece_place.specs.Place.{held_after};

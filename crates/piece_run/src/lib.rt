@@ -1,4 +1,6 @@
 // Whole entries of a piece, one after the other (docs/FORMAT.md, "A check in pieces").
+#![tactic(auto)]
+
 ghost use Rattle.std.specs.Prelude.{◌≡◌, ◌≤◌, ◌<◌};
 ghost use Rattle.ground.specs.Verdict.{most_records};
 ghost use Rattle.arriving.specs.Feed.{most_held};
@@ -12,7 +14,7 @@ use piece_seen::seen_at;
 
 // Whole entries of a piece, one after the other: the place behind them, how many entries are finished, the last of them, how many names are
 // open, and whether the name of the entry at the place was there before.
-#[derive(Drop)]
+#[derive(Clone, Copy)]
 pub struct Run {
     pub next: usize,
     pub count: usize,

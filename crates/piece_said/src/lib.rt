@@ -1,4 +1,6 @@
 // The marks of a check in pieces that flat numbers say (docs/FORMAT.md, "A check in pieces"). Any numbers are marks.
+#![tactic(auto)]
+
 ghost use Rattle.std.specs.Prelude.{◌≡◌};
 ghost use Rattle.piece_state.specs.State.{is_yes, set_said, stand_said, line_said, phase_said, marks_said};
 

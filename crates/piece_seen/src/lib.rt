@@ -1,4 +1,6 @@
 // A whole entry that lies in a piece (docs/FORMAT.md, "A check in pieces").
+#![tactic(auto)]
+
 ghost use Rattle.std.specs.Prelude.{◌≡◌};
 ghost use Rattle.piece_seen.specs.Whole.{seen_at};
 
@@ -10,7 +12,7 @@ use rules::name_number;
 use scan::find_nul;
 
 // Where the name of a whole entry begins and ends, and whether it is a folder; the end is 0 where there is none.
-#[derive(Drop)]
+#[derive(Clone, Copy)]
 pub struct Seen {
     pub start: usize,
     pub end: usize,

@@ -1,5 +1,7 @@
 // Bytes of a piece that need no step of their own: an entry's first seven, those of its name, those of its id but the last
 // (docs/FORMAT.md, "A check in pieces").
+#![tactic(auto)]
+
 ghost use Rattle.std.specs.Prelude.{◌≡◌, ◌+◌, ◌-◌, ◌≤◌, min, length};
 ghost use Rattle.ground.specs.Basics.{part};
 ghost use Rattle.ground.specs.Verdict.{most_bytes};
@@ -12,7 +14,7 @@ use piece_marks::{is_full, placed_at};
 use piece_name::name_some;
 
 // What is taken of an entry: so many bytes, after which these are its first bytes and this is its phase.
-#[derive(Drop)]
+#[derive(Clone, Copy)]
 struct Got {
     count: usize,
     head: [u8; 8],

@@ -1,4 +1,6 @@
 // The marks of a check in pieces into flat numbers, which a caller can lend who has no enums (docs/FORMAT.md, "A check in pieces").
+#![tactic(auto)]
+
 ghost use Rattle.std.specs.Prelude.{◌≡◌};
 ghost use Rattle.piece_state.specs.State.{stand_number, sort_number, left_number, line_in, marks_numbers};
 

@@ -1,4 +1,6 @@
 // The check in pieces with one byte more (docs/FORMAT.md, "A check in pieces").
+#![tactic(auto)]
+
 ghost use Rattle.std.specs.Prelude.{◌≡◌};
 ghost use Rattle.arriving.specs.Feed.{together, byte_step};
 

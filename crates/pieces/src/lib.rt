@@ -1,5 +1,7 @@
 // A strict check of a tree object that arrives in pieces (docs/FORMAT.md, "A check in pieces"): the marks by value, and two lent rooms, one for a
 // name and one for the lengths of the names that are open.
+#![tactic(auto)]
+
 ghost use Rattle.std.specs.Prelude.{◌≡◌, ◌≤◌, length};
 ghost use Rattle.arriving.specs.Feed.{most_held, together, feed_of};
 ghost use Rattle.arriving.specs.Bulk.{Took};

@@ -1,4 +1,6 @@
 // A lookup among records as a value that is stepped (docs/FORMAT.md, "Lookup"): `start` makes it, `step` compares one record, `answer` reads it off.
+#![tactic(auto)]
+
 ghost use Rattle.std.specs.Prelude.{◌≡◌, ◌<◌};
 ghost use Rattle.ground.specs.Verdict.{most_records};
 ghost use Rattle.lookup.specs.Halving.{met};
@@ -10,14 +12,14 @@ use lookup::Looked;
 use order::Order;
 
 // What is sought beside its name: the length of ids, and whether it is a folder.
-#[derive(Drop)]
+#[derive(Clone, Copy)]
 pub struct Query {
     pub h: usize,
     pub folder: bool,
 }
 
 // A search under way between low and high: while `on`, record `at` is the next to be compared. `looked` is its answer if it ends here.
-#[derive(Drop)]
+#[derive(Clone, Copy)]
 pub struct Probe {
     pub on: bool,
     pub at: usize,

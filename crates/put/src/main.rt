@@ -1,5 +1,7 @@
 // Puts an entry into a strict tree object: `./run put [sha256] [1|2] MODE ID NAME <object >new`, the mode as it is written in an object, the id
 // in hex (docs/FORMAT.md, "Edits"). Without a rule set it is 2. A refusal is one line with its number, place and part.
+#![tactic(auto)]
+
 use edit::put_in_tree;
 use ground::DONE;
 use id_of_hex::id_of_hex;
@@ -24,7 +26,7 @@ fn part(s: &[u8], from: usize, to: usize) -> &[u8] {
 }
 
 // The rule set that the words say: without one it is 2, and the next word is where it would stand.
-#[derive(Drop)]
+#[derive(Clone, Copy)]
 struct Set {
     rules: u16,
     next: usize,

@@ -1,4 +1,6 @@
 // A whole tree object into lent records (docs/FORMAT.md, "Reading"). Follows tree/ref_iter.rs.
+#![tactic(auto)]
+
 ghost use Rattle.std.specs.Prelude.{◌≡◌, ◌≤◌, ◌<◌, length, get_or, take, drop};
 ghost use Rattle.std.proofs.lemmas.List.Edits.{sets};
 ghost use Rattle.ground.specs.Scan.{place_from};
@@ -16,7 +18,7 @@ use mode_code::{code_at, quick_code};
 use scan::find_nul;
 
 // How many entries an object has, or the refusal that reading it met.
-#[derive(Drop)]
+#[derive(Clone, Copy)]
 pub enum Counted {
     Total(usize),
     Stopped(Verdict),

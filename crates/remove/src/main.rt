@@ -1,5 +1,7 @@
 // Removes an entry from a strict tree object: `./run remove [sha256] [1|2] NAME <object >new` (docs/FORMAT.md, "Edits"). Without a rule set it is 2.
 // A refusal is one line with its number, place and part.
+#![tactic(auto)]
+
 use edit_remove::remove_from_tree;
 use libc::STDIN_FILENO;
 use saying::{say_answer, say_too_long};
@@ -20,7 +22,7 @@ fn part(s: &[u8], from: usize, to: usize) -> &[u8] {
 }
 
 // The rule set that the words say: without one it is 2, and the next word is where it would stand. The last word is the name.
-#[derive(Drop)]
+#[derive(Clone, Copy)]
 struct Set {
     rules: u16,
     next: usize,

@@ -56,7 +56,7 @@ pub const ANSWERS: usize = 16;
 
 // A field: the bit that says that a case has it, 0 where each has it; whether it is a list; whether it may begin and end as the bytes a or the list in
 // its place do; where it stands in `s` or in `g`, and for bytes where their length stands.
-#[derive(Drop)]
+#[derive(Clone, Copy)]
 struct Field {
     bit: u8,
     list: bool,
@@ -139,7 +139,7 @@ fn there(s: &[u8], bit: u8) -> bool {
 }
 
 // A number, and the place after it.
-#[derive(Drop)]
+#[derive(Clone, Copy)]
 struct Number {
     value: usize,
     next: usize,
@@ -263,7 +263,7 @@ fn numbers_at(s: &[u8], at: usize, n: usize, g: &mut [usize], to: usize) -> usiz
 
 // What a field is made of: how many are new, where they stand in the case, and where they go; how many of the others stand behind them, where these
 // stand, and where they go; and how many there are in all.
-#[derive(Drop)]
+#[derive(Clone, Copy)]
 struct Made {
     new: usize,
     at: usize,

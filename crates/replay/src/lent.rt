@@ -11,7 +11,7 @@ pub const BYTE: u8 = 165;
 pub const NUMBER: usize = 11936128518282651045;
 
 // What a call answered, and what it was lent, as it was left.
-#[derive(Drop)]
+#[derive(Clone, Copy)]
 pub struct Left {
     pub told: [usize; ANSWERS],
     pub out: [u8; BYTES],

@@ -1,6 +1,8 @@
 // Replays the list of cases that is its standard input, a file: what the Rust, Git's own objects and the paper answered (oracle/README.md),
 // held against what the library answers. It names the cases that differ; the list's last ones are wrong on purpose, one for each number and
 // list that is compared. A line for each call says how many cases there are and how many agree.
+#![tactic(auto)]
+
 mod calls;
 mod cases;
 mod commits;
@@ -72,7 +74,7 @@ fn say_verdict(good: bool, index: usize, call: usize, differ: usize) {
 }
 
 // A case: its call, whether it agrees, and how many bytes it has.
-#[derive(Drop)]
+#[derive(Clone, Copy)]
 struct Replayed {
     call: usize,
     good: bool,

@@ -30,7 +30,7 @@ pub fn mode_text(s: &[u8], g: &[usize]) -> [usize; ANSWERS] {
 }
 
 // A mode's text, or its word, in six bytes, and how long it is.
-#[derive(Drop)]
+#[derive(Clone, Copy)]
 struct Word {
     bytes: [u8; 6],
     long: usize,

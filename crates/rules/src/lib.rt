@@ -1,5 +1,7 @@
 // The rules of strict reading, by rule set: what is said of a mode text, of a name, and before a call begins
 // (docs/FORMAT.md, "Strict reading"). Every layer that has to keep them asks here.
+#![tactic(auto)]
+
 ghost use Rattle.std.specs.Prelude.{◌≡◌};
 ghost use Rattle.rules.specs.Rules.{is_text, modes_of};
 ghost use Rattle.rules.specs.Gate.{rule_gate};

@@ -1,5 +1,7 @@
 // The library that C and Rust link: every call under a C name (include/sarpukten.h). A call's answer stands in an array of fixed
 // length that the caller lends, its number, place and part first; the number is also returned. The work is done behind, in the border_ crates.
+#![tactic(auto)]
+
 ghost use Rattle.std.specs.Prelude.{◌≡◌};
 ghost use Rattle.mode.specs.Mode.{value_of, kind_of, from_number};
 ghost use Rattle.mode.specs.Read.{mode_alone};

@@ -1,5 +1,7 @@
 // What the programs say on standard output: bytes, a number, an answer's bytes or its refusal in one line. Nothing is returned or changed, so
 // there is nothing to promise.
+#![tactic(auto)]
+
 use ground::{Answer, BOUND, DONE, FINE, Verdict};
 use libc::STDOUT_FILENO;
 

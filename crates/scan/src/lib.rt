@@ -1,4 +1,6 @@
 // The scans of bytes: eight, sixteen and thirty-two at a time.
+#![tactic(auto)]
+
 ghost use Rattle.std.specs.Prelude.{◌≡◌, ◌+◌, ◌≤◌, ◌<◌, min, length, take, drop};
 ghost use Rattle.ground.specs.Scan.{count_to, place_from, common_start, same_bytes};
 ghost use Rattle.scan.specs.Word.{WordOf, marks_of, Marked, FirstAt};

@@ -1,5 +1,7 @@
 // The object of an id in a bundle (docs/FORMAT.md, "Differences"): sought by halving in an index of the objects' places.
 // What the index proposes is looked at, and where it is not the object of the id, the bundle is walked: no index is believed.
+#![tactic(auto)]
+
 ghost use Rattle.std.specs.Prelude.{false, ◌≡◌, ◌/◌};
 ghost use Rattle.order.specs.Order.{name_order};
 ghost use Rattle.seeking.specs.Index.{id_at, place_in, seek_in};

@@ -1,4 +1,6 @@
 // A list of elements sorted in place by the bytes that they stand for: heap sort, n log n, no second list.
+#![tactic(auto)]
+
 ghost use Rattle.std.specs.Prelude.{◌≡◌, true, ◌++◌, ◌+◌, ◌/◌, ◌≤◌, ◌<◌, length, take, drop};
 ghost use Rattle.keys.specs.Key.{key_at, below_by};
 ghost use Rattle.sorting.specs.Sort.{Ascends, sort_by};

@@ -1,4 +1,6 @@
 // A whole tree object that keeps the strict rules, into lent records (docs/FORMAT.md, "Strict reading").
+#![tactic(auto)]
+
 ghost use Rattle.std.specs.Prelude.{◌≡◌, true, ◌≤◌, length};
 ghost use Rattle.ground.specs.Scan.{free_of};
 ghost use Rattle.ground.specs.Verdict.{verdict, most_bytes};
@@ -21,14 +23,14 @@ use rules::{mode_permitted, name_number, reserved_number, rule_bounds};
 use scan::find_nul_or_slash;
 
 // The entry before the one that is read.
-#[derive(Drop)]
+#[derive(Clone, Copy)]
 enum Last {
     Nothing,
     After(EntryRecord),
 }
 
 // An entry that keeps the rules by itself, with the cursor past it, or a refusal.
-#[derive(Drop)]
+#[derive(Clone, Copy)]
 enum Seen {
     Kept(EntryRecord, Cursor),
     Refused(Verdict),

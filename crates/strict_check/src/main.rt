@@ -1,5 +1,7 @@
 // Checks a tree object strictly as it arrives: `./run check [sha256] [1|2] <tree` (docs/FORMAT.md, "A check in pieces"). Without a rule set it is
 // 2. Reads pieces of 512 bytes and holds one name; prints how many entries there are, or a refusal with its number, place and part.
+#![tactic(auto)]
+
 use arriving::Marks;
 use asking::ask;
 use ground::{Answer, DONE};
@@ -33,7 +35,7 @@ fn tell(a: Answer) {
 }
 
 // The check with a piece more, and how many bytes that had.
-#[derive(Drop)]
+#[derive(Clone, Copy)]
 struct Fed {
     marks: Marks,
     many: usize,

@@ -1,1 +1,2 @@
 // The worked examples and each number in its case, as computed tables, and no code.
+#![tactic(auto)]

@@ -1,4 +1,6 @@
 // What stands before the name in one record of the text that `git mktree -z` takes (docs/FORMAT.md, "Text").
+#![tactic(auto)]
+
 ghost use Rattle.std.specs.Prelude.{◌≡◌, take};
 ghost use Rattle.text_form.specs.Form.{between, within, all_within, word_len, front_len, name_from};
 

@@ -1,5 +1,7 @@
 // A strict tree object from the text that `git ls-tree -z` prints, its records in any order (docs/FORMAT.md, "Text"). Lent memory holds
 // the places of records, which are put in Git's order to see which name comes again and to write them.
+#![tactic(auto)]
+
 ghost use Rattle.std.specs.Prelude.{◌≡◌, true, ◌∷◌, [], ◌++◌, ◌+◌, ◌*◌, ◌/◌, ◌≤◌, ◌<◌, length, set};
 ghost use Rattle.std.proofs.lemmas.List.Edits.{sets};
 ghost use Rattle.ground.specs.Verdict.{most_bytes, most_records, id_length, stored};

@@ -1,5 +1,7 @@
 // What is said after all records of a text (docs/FORMAT.md, "Text"), by their elements in Git's order: 7, and 17 by a folder whose name a
 // file has. That file is sought where it would stand, so the elements are sorted once, and not at all where they are in order.
+#![tactic(auto)]
+
 ghost use Rattle.std.specs.Prelude.{◌≡◌, ◌+◌, ◌<◌, ◌%◌, length, get_or};
 ghost use Rattle.ground.specs.Basics.{pick};
 ghost use Rattle.keys.specs.Key.{key_at, below_by};

@@ -1,4 +1,6 @@
 // One record of the text that `git ls-tree -z` prints, read: what it says, or the number that refuses it (docs/FORMAT.md, "Text").
+#![tactic(auto)]
+
 ghost use Rattle.std.specs.Prelude.{◌≡◌, take};
 ghost use Rattle.mode_table.specs.Table.{rows};
 ghost use Rattle.rules.specs.Rules.{modes_of};

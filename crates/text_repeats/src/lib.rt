@@ -1,4 +1,6 @@
 // Records of a text by the names past their tabs, and of a list of them in order the first that repeats an earlier one (docs/FORMAT.md, "Text").
+#![tactic(auto)]
+
 ghost use Rattle.std.specs.Prelude.{◌≡◌, ◌/◌, ◌≤◌, length, drop};
 ghost use Rattle.keys.specs.Key.{past_mark, name_at};
 ghost use Rattle.text_repeats.specs.Least.{same_record, least_of, least_next, told};

@@ -1,4 +1,6 @@
 // A strict tree object as the text that `git mktree -z` takes (docs/FORMAT.md, "Text").
+#![tactic(auto)]
+
 ghost use Rattle.std.specs.Prelude.{◌≡◌, true, [], ◌∷◌, ◌++◌, ◌+◌, ◌≤◌, length};
 ghost use Rattle.ground.specs.Verdict.{most_bytes, id_length, stored};
 ghost use Rattle.ground.specs.declared.Gate.{Gate};

@@ -1,5 +1,7 @@
 // A strict tree object from the text that `git ls-tree -z` prints, by rule set 1 or 2 (docs/FORMAT.md, "Text"). The memory for the places of
 // its records is the call's own.
+#![tactic(auto)]
+
 ghost use Rattle.std.specs.Prelude.{◌≡◌, true, ◌≤◌, length};
 ghost use Rattle.ground.specs.Verdict.{most_bytes, id_length, stored};
 ghost use Rattle.output.specs.Output.{fitted};

@@ -1,11 +1,13 @@
 // One record of the text that `git ls-tree -z` prints and `git mktree -z` takes: what stands before its id (docs/FORMAT.md, "Text").
+#![tactic(auto)]
+
 ghost use Rattle.std.specs.Prelude.{◌≡◌, ◌+◌, ◌%◌};
 ghost use Rattle.tree_text.specs.Text.{front_of};
 
 use mode::EntryMode;
 
 // At most fourteen bytes: the first len are the text, the others are 0.
-#[derive(Drop)]
+#[derive(Clone, Copy)]
 pub struct Front {
     pub bytes: [u8; 14],
     pub len: usize,

@@ -1,4 +1,6 @@
 // A tree object written from records, and its size (docs/FORMAT.md, "Tree writing"). Follows tree/write.rs.
+#![tactic(auto)]
+
 ghost use Rattle.std.specs.Prelude.{◌≡◌, true, false, [], ◌∷◌, ◌++◌, ◌+◌, ◌≤◌, length, take};
 ghost use Rattle.std.proofs.lemmas.List.Edits.{sets};
 ghost use Rattle.ground.specs.Verdict.{most_bytes, most_records, stored};

@@ -1,4 +1,6 @@
 // Whether an id stands twice in a bundle, its ids in any order: an index of it is made, and neighbours in the index are compared.
+#![tactic(auto)]
+
 ghost use Rattle.std.specs.Prelude.{◌≡◌, ◌≤◌, length};
 ghost use Rattle.ground.specs.Verdict.{most_bytes, most_records};
 ghost use Rattle.frame.specs.Frame.{frames_by};

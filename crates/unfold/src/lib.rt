@@ -1,4 +1,6 @@
 // A header's value, unfolded into lent bytes (docs/FORMAT.md, "Commits"; Rust: any_header_field_multi_line of src/parse.rs).
+#![tactic(auto)]
+
 ghost use Rattle.std.specs.Prelude.{◌≡◌, ◌≤◌, length};
 ghost use Rattle.std.proofs.lemmas.List.Edits.{sets};
 ghost use Rattle.unfold.specs.Unfold.{has_form, skips, plain_of, unfold_answer, unfold_after};

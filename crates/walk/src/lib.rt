@@ -1,4 +1,6 @@
 // Two trees of a bundle compared (docs/FORMAT.md, "Differences"): one walk, taken twice, first to measure and then to store.
+#![tactic(auto)]
+
 ghost use Rattle.std.specs.Prelude.{◌≡◌, List, ℕ, ◌+◌, ◌≤◌, ◌<◌, length};
 ghost use Rattle.ground.specs.Verdict.{most_bytes, stored};
 ghost use Rattle.merge.specs.Merge.{Within, ChangeWithin};
@@ -18,7 +20,7 @@ use opening::{Pair, open_both};
 pub const LEVELS: usize = 33;
 
 // How far a walk came: its verdict, its items, and the bytes that their paths take.
-#[derive(Drop)]
+#[derive(Clone, Copy)]
 pub struct Mark {
     pub verdict: Verdict,
     pub count: usize,

@@ -1,4 +1,6 @@
 // The words of a command line, which a program is given as lines ahead of its input; an empty line ends them.
+#![tactic(auto)]
+
 ghost use Rattle.std.specs.Prelude.{◌≡◌, min};
 ghost use Rattle.ground.specs.Scan.{same_bytes};
 ghost use Rattle.words.specs.Words.{word_at, text_at, id_length_of, rule_set_at};
@@ -6,7 +8,7 @@ ghost use Rattle.words.specs.Words.{word_at, text_at, id_length_of, rule_set_at}
 use scan::{find_byte, same_bytes};
 
 // A word: where it starts and ends, and where the next line starts. Start, end and next never fall, and none is past the end of the bytes.
-#[derive(Drop)]
+#[derive(Clone, Copy)]
 pub struct Word {
     pub start: usize,
     pub end: usize,
@@ -14,7 +16,7 @@ pub struct Word {
 }
 
 // The length of ids that the first word says, and where the next line starts.
-#[derive(Drop)]
+#[derive(Clone, Copy)]
 pub struct Ids {
     pub h: usize,
     pub next: usize,

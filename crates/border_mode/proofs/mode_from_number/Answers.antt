@@ -1,0 +1,8 @@
+-- `border_mode::mode_from_number` meets its contract. Assumes nothing.
+use Rattle.border_mode.proofs.Laws.{mode-handed}
+use Rattle.border_mode.proofs.mode_from_number.Goals as goal
+
+pub returns : goal.returns
+returns c =
+    let r = mode-handed c.hand_mode.ensures c.from_u32.ensures in
+    record { value = r.0; answer_after = r.1 }

@@ -1,0 +1,9 @@
+-- `border_tree::read_tree_strict` meets its contract. Assumes nothing.
+use Rattle.border.proofs.Laws.{handed_with}
+use Rattle.border_tree.proofs.read_tree_strict.Goals as goal
+
+pub returns : goal.returns
+returns c =
+    let r = (let read_tree_strict = c.read_tree_strict in
+    handed_with c.hand.ensures read_tree_strict.ensures.answer read_tree_strict.ensures.records) in
+    record { value = r.0; answer_after = r.1.0; records_after = r.1.1 }

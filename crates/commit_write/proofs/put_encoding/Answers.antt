@@ -1,0 +1,31 @@
+-- `commit_write::put_encoding` meets its contract. Assumes nothing.
+use Rattle.commit_write.proofs.Laws.{encoding_range, encoding-given, encoding-absent}
+use Rattle.grammar.specs.Grammar.{encoding_bytes}
+use mathlib.Core.Path.{refl, sym}
+use native.Mathlib.Nat.{add-zero}
+use native.Mathlib.Omega.{arith}
+use Rattle.commit_write.proofs.put_encoding.Goals as goal
+
+pub put_line-requires : goal.put_line-requires
+put_line-requires c =
+    let at-if1 = c in
+    let start = c in
+    let args = c.args in
+    let r = encoding_range args.bytes.now args.p c.requires.p_value c.if-p-eq1.true in
+    record { from_le_to = r; from_bound = omega (arith, r, c.requires.bytes_len_bound) }
+
+pub returns-then-p-eq1 : goal.returns-then-p-eq1
+unfolding encoding_bytes
+returns-then-p-eq1 c =
+    let r = (let at-put-line = c in
+    let at-if1 = c in
+    let start = c in
+    rw (encoding-given c.args.bytes.now c.args.p c.if-p-eq1.true) c.put_line.ensures) in
+    record { value = r.0; out_after = r.1 }
+
+pub returns : goal.returns
+unfolding encoding_bytes
+returns c =
+    let r = (let start = c in
+    rw (encoding-absent c.args.bytes.now c.args.p c.if-p-eq1.false) (sym (add-zero c.args.at), refl)) in
+    record { value = r.0; out_after = r.1 }

@@ -1,0 +1,22 @@
+-- `difference::compare_with` meets its contract. Assumes nothing.
+use Rattle.indexing.proofs.Laws.{front_fits}
+use Rattle.seeking.proofs.Made.{front-index}
+use Rattle.walk.proofs.Ending.{ends_same}
+use Rattle.difference.proofs.Folders.{walk_is}
+use Rattle.difference.proofs.compare_with.Goals as goal
+
+pub slice_bounds-walk_trees-end : goal.slice_bounds-walk_trees-end
+slice_bounds-walk_trees-end c =
+    let args = c.args in
+    let make_index = c.make_index-n in
+    front_fits args.bundle.now args.k args.list.now _ _ make_index.ensures
+
+pub returns : goal.returns
+returns c =
+    let r = (let args = c.args in
+    let pre = c.requires in
+    let make_index = c.make_index-n in
+    let walk_trees = c.walk_trees in
+    ends_same _ _ _ _ _ _ _ (walk_is args.k args.bundle.now _ args.left.now args.right.now
+    (front-index args.bundle.now args.k args.list.now _ _ c.requires.index make_index.ensures) c.requires.bundle_len_bound) walk_trees.ensures) in
+    record { value = r.0; after = r.1.0; paths_after = r.1.1 }

@@ -1,0 +1,37 @@
+-- `doubles::place_entry` meets its contract. Assumes nothing.
+use mathlib.Core.Path.{sym, ◌∙◌}
+use Rattle.order.proofs.Laws.{decided_at}
+use Rattle.doubles.proofs.Stacking.{went_same, went_above, went_below}
+use Rattle.doubles.proofs.place_entry.Goals as goal
+
+pub returns-in-Below : goal.returns-in-Below
+returns-in-Below c =
+    let r = (let args = c.args in
+    let common-start = c.common_start-p in
+    let by_next = c.by_next in
+    let enum_told = c.in-Below in
+    let open_entry = c.open_entry in
+    went_below args.marks.now args.n args.last.now args.was args.name.now args.folder
+    (decided_at _ _ _ _ _ common-start.ensures ∙ sym by_next.ensures ∙ enum_told.is) common-start.result common-start.ensures
+    open_entry.ensures) in
+    record { placed = r.0; marks = r.1 }
+
+pub returns-in-Same : goal.returns-in-Same
+returns-in-Same c =
+    let r = (let args = c.args in
+    let common-start = c.common_start-p in
+    let by_next = c.by_next in
+    let enum-told2 = c.in-Same in
+    went_same args.marks.now args.n args.last.now args.was args.name.now args.folder
+    (decided_at _ _ _ _ _ common-start.ensures ∙ sym by_next.ensures ∙ enum-told2.is)) in
+    record { placed = r.0; marks = r.1 }
+
+pub returns-in-Above : goal.returns-in-Above
+returns-in-Above c =
+    let r = (let args = c.args in
+    let common-start = c.common_start-p in
+    let by_next = c.by_next in
+    let enum-told3 = c.in-Above in
+    went_above args.marks.now args.n args.last.now args.was args.name.now args.folder
+    (decided_at _ _ _ _ _ common-start.ensures ∙ sym by_next.ensures ∙ enum-told3.is)) in
+    record { placed = r.0; marks = r.1 }

@@ -1,0 +1,67 @@
+-- `framed::ascending` meets its contract. Assumes nothing.
+use native.Mathlib.Omega.{arith}
+use Prim.Native.Nat.{◌-◌}
+use mathlib.Core.Path.{refl, sym, ◌∙◌}
+use lib.ListN.{length}
+use Rattle.frame.specs.Frame.{frames}
+use Rattle.framed.specs.Ids.{rises}
+use Rattle.frame.proofs.Laws.{frames-end, frames-broken, frames-whole, frame-inside}
+use Rattle.framed.proofs.Laws.{rises_end, rises-fault, rises_on, rises_off}
+use lib.Dec.{eqb}
+use Rattle.framed.proofs.ascending.Goals as goal
+
+pub loop-left-init : goal.loop-left-init
+loop-left-init c = (omega arith, omega arith, refl)
+
+pub returns-in-Broken : goal.returns-in-Broken
+returns-in-Broken c =
+    let loop = c.loop-left in
+    let loop-test = c.loop-left-test in
+    let frame_at = c.frame_at in
+    let enum_told = c.in-Broken in
+    sym (loop.invariant.2 ∙ rises-fault _ _ _ _ (frames-broken _ _ _ _ loop-test.true (sym frame_at.ensures ∙ enum_told.is)))
+
+pub overflow_add-end : goal.overflow_add-end
+overflow_add-end c = omega (arith, frame-inside _ _ _ _ (sym c.frame_at.ensures ∙ c.in-Whole.is))
+
+pub slice_bounds-is_below-count-in-Whole : goal.slice_bounds-is_below-count-in-Whole
+slice_bounds-is_below-count-in-Whole c = omega (arith, frame-inside _ _ _ _ (sym c.frame_at.ensures ∙ c.in-Whole.is))
+
+pub slice_bounds-is_below-start-in-Whole : goal.slice_bounds-is_below-start-in-Whole
+slice_bounds-is_below-start-in-Whole c = omega (arith, frame-inside _ _ _ _ (sym c.frame_at.ensures ∙ c.in-Whole.is))
+
+pub slice_bounds-is_below-end-in-Whole : goal.slice_bounds-is_below-end-in-Whole
+slice_bounds-is_below-end-in-Whole c = omega (arith, frame-inside _ _ _ _ (sym c.frame_at.ensures ∙ c.in-Whole.is))
+
+pub loop-left-preserved : goal.loop-left-preserved
+loop-left-preserved c =
+    let loop = c.loop-left in
+    let loop-test = c.loop-left-test in
+    let frame_at = c.frame_at in
+    let f = c.in-Whole in
+    let is_below = c.is_below in
+    let if1 = c.if-is_below in
+    let i = frame-inside _ _ _ _ (sym frame_at.ensures ∙ f.is) in (
+      omega arith,
+      omega arith,
+      loop.invariant.2 ∙ rises_on _ _ _ _ _ _ (frames-whole _ _ _ _ loop-test.true (sym frame_at.ensures ∙ f.is))
+          (sym is_below.ensures ∙ if1.true),
+    )
+
+pub returns-else-is_below : goal.returns-else-is_below
+returns-else-is_below c =
+    let loop = c.loop-left in
+    let loop-test = c.loop-left-test in
+    let frame_at = c.frame_at in
+    let f = c.in-Whole in
+    let is_below = c.is_below in
+    let if1 = c.if-is_below in
+    sym (loop.invariant.2 ∙ rises_off _ _ _ _ _ _ (frames-whole _ _ _ _ loop-test.true (sym frame_at.ensures ∙ f.is))
+    (sym is_below.ensures ∙ if1.false))
+
+pub returns : goal.returns
+returns c =
+    let args = c.args in
+    let loop = c.loop-left in
+    let loop-test = c.loop-left-test in
+    sym (loop.invariant.2 ∙ rises_end _ _ _ _ (eqb loop.at (length args.s.now)) (frames-end _ _ _ _ loop-test.false))

@@ -1,0 +1,72 @@
+-- `keys::names` meets its contract. Assumes nothing.
+use Prim.Native.Nat.{◌-◌}
+use lib.ListN.{length, drop}
+use Rattle.keys.specs.Key.{cut_to}
+use Rattle.keys.proofs.Keys.{walk_start, walk_more, walk_end, walk_off, cut_le}
+use native.Mathlib.Omega.{arith}
+use mathlib.Core.Path.{◌∙◌}
+use lib.ListN.{length-drop}
+use Rattle.keys.proofs.names.Goals as goal
+
+pub loop-width-init : goal.loop-width-init
+loop-width-init c =
+    let args = c.args in
+    walk_start (cut_to args.width (drop args.a args.text.now)) (cut_to args.width (drop args.b args.text.now))
+
+pub next_at-p-requires : goal.next_at-p-requires
+next_at-p-requires c = record { from_in_bounds = c.requires.0; i_in_bounds = c.loop-width.invariant.left }
+
+pub next_at-q-requires : goal.next_at-q-requires
+next_at-q-requires c = record { from_in_bounds = c.requires.1; i_in_bounds = c.loop-width.invariant.right }
+
+pub returns-then-p-eq0 : goal.returns-then-p-eq0
+returns-then-p-eq0 c =
+    let args = c.args in
+    let loop = c.loop-width in
+    let next-at = c.next_at-p in
+    let next-at2 = c.next_at-q in
+    let if1 = c.if-p-eq0 in
+    let by_next = c.by_next in
+    by_next.ensures ∙ walk_end _ _ loop.i loop.invariant _ _ next-at.ensures next-at2.ensures args.atree args.btree if1.true
+
+pub returns-then-p-q : goal.returns-then-p-q
+returns-then-p-q c =
+    let args = c.args in
+    let loop = c.loop-width in
+    let next-at = c.next_at-p in
+    let next-at2 = c.next_at-q in
+    let if2 = c.if-p-q in
+    let by-next2 = c.by_next-then-p-q in
+    by-next2.ensures ∙ walk_off _ _ loop.i loop.invariant _ _ next-at.ensures next-at2.ensures args.atree args.btree if2.true
+
+pub overflow_add-i : goal.overflow_add-i
+overflow_add-i c =
+    let args = c.args in
+    let good = c.well-formed in
+    let loop = c.loop-width in
+    let next-at = c.next_at-p in
+    let next-at2 = c.next_at-q in
+    let if1 = c.if-p-eq0 in
+    let if2 = c.if-p-q in
+    let w = walk_more _ _ loop.i loop.invariant _ _ next-at.ensures next-at2.ensures if1.false if2.false in
+    omega (arith, w.left, cut_le args.width (drop args.a args.text.now), length-drop args.a args.text.now, good)
+
+pub loop-width-smaller : goal.loop-width-smaller
+loop-width-smaller c =
+    let args = c.args in
+    let loop = c.loop-width in
+    let next-at = c.next_at-p in
+    let next-at2 = c.next_at-q in
+    let if1 = c.if-p-eq0 in
+    let if2 = c.if-p-q in
+    let w = walk_more _ _ loop.i loop.invariant _ _ next-at.ensures next-at2.ensures if1.false if2.false in
+    omega (arith, w.left, cut_le args.width (drop args.a args.text.now), length-drop args.a args.text.now)
+
+pub loop-width-preserved : goal.loop-width-preserved
+loop-width-preserved c =
+    let loop = c.loop-width in
+    let next-at = c.next_at-p in
+    let next-at2 = c.next_at-q in
+    let if1 = c.if-p-eq0 in
+    let if2 = c.if-p-q in
+    walk_more _ _ loop.i loop.invariant _ _ next-at.ensures next-at2.ensures if1.false if2.false

@@ -1,0 +1,23 @@
+-- `lookups::bisect_entries` meets its contract. Assumes nothing.
+use mathlib.Core.Path.{refl, sym, ◌∙◌}
+use Rattle.output.proofs.Laws.{refused-both}
+use Rattle.lookups.proofs.Laws.{first-room, first-number, many-shut, many_ran}
+use Rattle.lookups.proofs.bisect_entries.Goals as goal
+
+pub look_all-requires : goal.look_all-requires
+look_all-requires c = (first-room _ _ _ _ _ (sym c.begins.ensures ∙ c.in-Open.is)).1
+
+pub returns-in-Shut : goal.returns-in-Shut
+returns-in-Shut c =
+    let r = (let begun = c in
+    let g = sym c.begins.ensures ∙ c.in-Shut.is in
+    refused-both _ _ _ (many-shut _ _ _ _ _ _ _ _ c.longer-bytes.ensures refl _ g) (first-number _ _ _ _ _ _ g)) in
+    record { value = r.0; answers_after = r.1 }
+
+pub returns-in-Open : goal.returns-in-Open
+returns-in-Open c =
+    let r = (let begun = c in
+    let g = sym c.begins.ensures ∙ c.in-Open.is in
+    let ends = c.look_all.ensures in
+    many_ran _ _ _ _ _ _ _ _ c.longer-bytes.ensures refl g _ ends.0 _ _ _ ends.1) in
+    record { value = r.0; answers_after = r.1 }

@@ -1,0 +1,13 @@
+-- `mend::choose` meets its contract. Assumes nothing.
+use mathlib.Core.Path.{◌∙◌}
+use Rattle.mend_kept.proofs.Walk.{chosen_in, chosen-out, chosen-first}
+use Rattle.mend.proofs.choose.Goals as goal
+
+pub returns-then-n-fates : goal.returns-then-n-fates
+returns-then-n-fates c = chosen_in _ _ _ _ _ c.if-second.true c.if-n-fates.true
+
+pub returns-then-second : goal.returns-then-second
+returns-then-second c = chosen-out _ _ _ _ _ c.if-second.true c.if-n-fates.false
+
+pub returns : goal.returns
+returns c = c.may_stay.ensures ∙ chosen-first _ _ _ _ _ c.if-second.false

@@ -1,0 +1,105 @@
+-- `merge::next_entry` meets its contract. Assumes nothing.
+use Rattle.merge.proofs.Laws as laws
+use Rattle.merge.proofs.next_entry.Goals as goal
+
+pub returns-then-left-eq0 : goal.returns-then-left-eq0
+returns-then-left-eq0 c = laws.ahead_none c.args.h c.args.bundle.now c.args.c c.if-left-eq0.true
+
+pub returns-then-end-start : goal.returns-then-end-start
+returns-then-end-start c =
+    let args = c.args in
+    let if1 = c.if-left-eq0 in
+    let if2 = c.if-end-start in
+    laws.ahead-crossed args.h args.bundle.now args.c if1.false if2.true
+
+pub returns-then-bundle-end : goal.returns-then-bundle-end
+returns-then-bundle-end c =
+    let args = c.args in
+    let if1 = c.if-left-eq0 in
+    let if2 = c.if-end-start in
+    let if3 = c.if-bundle-end in
+    laws.ahead-outside args.h args.bundle.now args.c if1.false if2.false if3.true
+
+pub slice_bounds-decode-start : goal.slice_bounds-decode-start
+slice_bounds-decode-start c = c.if-end-start.false
+
+pub slice_bounds-decode-end : goal.slice_bounds-decode-end
+slice_bounds-decode-end c = c.if-bundle-end.false
+
+pub overflow_add-name_start : goal.overflow_add-name_start
+overflow_add-name_start c =
+    let args = c.args in
+    let good = c.well-formed in
+    let if1 = c.if-left-eq0 in
+    let if2 = c.if-end-start in
+    let if3 = c.if-bundle-end in
+    let decode = c.decode in
+    let e = c.in-Whole in
+    record {
+      fits = (laws.ahead-fits args.h args.bundle.now args.c if1.false if2.false if3.false decode.result
+          decode.ensures e.e e.next e.is good.0.0).0;
+    }
+
+pub overflow_add-name_end : goal.overflow_add-name_end
+overflow_add-name_end c =
+    let args = c.args in
+    let good = c.well-formed in
+    let if1 = c.if-left-eq0 in
+    let if2 = c.if-end-start in
+    let if3 = c.if-bundle-end in
+    let decode = c.decode in
+    let e = c.in-Whole in
+    record {
+      fits = (laws.ahead-fits args.h args.bundle.now args.c if1.false if2.false if3.false decode.result
+          decode.ensures e.e e.next e.is good.0.0).1;
+    }
+
+pub overflow_add-id_start : goal.overflow_add-id_start
+overflow_add-id_start c =
+    let args = c.args in
+    let good = c.well-formed in
+    let if1 = c.if-left-eq0 in
+    let if2 = c.if-end-start in
+    let if3 = c.if-bundle-end in
+    let decode = c.decode in
+    let e = c.in-Whole in
+    record {
+      fits = (laws.ahead-fits args.h args.bundle.now args.c if1.false if2.false if3.false decode.result
+          decode.ensures e.e e.next e.is good.0.0).2;
+    }
+
+pub overflow_add-text_start : goal.overflow_add-text_start
+overflow_add-text_start c =
+    let args = c.args in
+    let good = c.well-formed in
+    let if1 = c.if-left-eq0 in
+    let if2 = c.if-end-start in
+    let if3 = c.if-bundle-end in
+    let decode = c.decode in
+    let e = c.in-Whole in
+    record {
+      fits = (laws.ahead-fits args.h args.bundle.now args.c if1.false if2.false if3.false decode.result
+          decode.ensures e.e e.next e.is good.0.0).3;
+    }
+
+pub returns-in-Broken : goal.returns-in-Broken
+returns-in-Broken c =
+    let args = c.args in
+    let if1 = c.if-left-eq0 in
+    let if2 = c.if-end-start in
+    let if3 = c.if-bundle-end in
+    let decode = c.decode in
+    let enum_told = c.in-Broken in
+    laws.ahead-broken args.h args.bundle.now args.c if1.false if2.false if3.false decode.result decode.ensures enum_told.field-0
+    enum_told.is
+
+pub returns-in-Whole : goal.returns-in-Whole
+returns-in-Whole c =
+    let args = c.args in
+    let if1 = c.if-left-eq0 in
+    let if2 = c.if-end-start in
+    let if3 = c.if-bundle-end in
+    let decode = c.decode in
+    let e = c.in-Whole in
+    laws.ahead-whole args.h args.bundle.now args.c if1.false if2.false if3.false decode.result decode.ensures e.e
+    e.next e.is

@@ -1,0 +1,25 @@
+-- `mode_text::read` meets its contract: each way out is a law of `read_text`. Assumes nothing.
+use mathlib.Core.Path.{sym, ◌∙◌}
+use native.Mathlib.Omega.{arith}
+use Rattle.mode_text.proofs.Laws.{read_none, read-long, read-other, read_bits, text_le}
+use Rattle.mode_text.proofs.read.Goals as goal
+
+pub returns-then-i-eq0 : goal.returns-then-i-eq0
+returns-then-i-eq0 c = sym (read_none _ c.if-i-eq0.true)
+
+pub returns-then-n-gt7 : goal.returns-then-n-gt7
+returns-then-n-gt7 c = sym (read-long _ c.if-i-eq0.false _ c.text_len-n.ensures (omega arith))
+
+pub returns-in-Number : goal.returns-in-Number
+returns-in-Number c =
+    let v = c.in-Number in
+    let q = c in
+    let p = c in
+    read_bits _ c.if-i-eq0.false _ c.text_len-n.ensures (omega arith) _ (sym c.octal_of.ensures ∙ v.is) _ _
+    c.settled.ensures c.rest_at-next.ensures
+
+pub returns-in-Other : goal.returns-in-Other
+returns-in-Other c =
+    let q = c in
+    let p = c in
+    sym (read-other _ c.if-i-eq0.false _ c.text_len-n.ensures (omega arith) (sym c.octal_of.ensures ∙ c.in-Other.is))

@@ -1,0 +1,16 @@
+-- `output::put` meets its contract. Assumes nothing.
+use Rattle.output.proofs.Laws.{sets_fitting}
+use lib.ListN.{length-take}
+use native.Mathlib.Omega.{arith}
+use mathlib.Core.Path.{◌∙◌}
+use Rattle.output.proofs.put.Goals as goal
+
+pub copy-requires : goal.copy-requires
+copy-requires c = simp length-take (omega arith)
+
+pub returns : goal.returns
+returns c =
+    let at-fitting = c in
+    let at-args = c in
+    let a = c.args in
+    c.copy.ensures ∙ rw c.fitting-n.ensures (sets_fitting a.out.now a.at a.piece.now)

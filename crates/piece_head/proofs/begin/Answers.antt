@@ -1,0 +1,23 @@
+-- `piece_head::begin` meets its contract. Assumes nothing.
+use mathlib.Core.Path.{sym, ◌∙◌}
+use native.Mathlib.Omega.{arith}
+use Rattle.piece_head.proofs.Laws.{mode-within, begin-bad, begin-mode}
+use Rattle.piece_head.proofs.begin.Goals as goal
+
+pub begun-marks-requires : goal.begun-marks-requires
+begun-marks-requires c =
+    let args = c.args in
+    let read = c.extract_at in
+    mode-within args.t3 _ _ (omega arith) (sym read.ensures ∙ c.in-Mode.is)
+
+pub returns-in-Bad : goal.returns-in-Bad
+returns-in-Bad c =
+    let args = c.args in
+    let read = c.extract_at in
+    begin-bad args.m args.at args.t3 (sym read.ensures ∙ c.in-Bad.is) c.fresh-marks.ensures
+
+pub returns-in-Mode : goal.returns-in-Mode
+returns-in-Mode c =
+    let args = c.args in
+    let read = c.extract_at in
+    begin-mode args.m args.at args.t3 _ _ (sym read.ensures ∙ c.in-Mode.is) c.begun-marks.ensures

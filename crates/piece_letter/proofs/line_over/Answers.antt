@@ -1,0 +1,5 @@
+-- `piece_letter::line_over` meets its contract. Assumes nothing.
+use Rattle.piece_letter.proofs.line_over.Goals as goal
+
+pub returns : goal.returns
+returns c = rw (c.sharing-shared.ensures, c.meet-stand.ensures)

@@ -1,0 +1,11 @@
+-- `piece_marks::read_head` meets its contract. Assumes nothing.
+use native.Mathlib.Omega.{arith}
+use Rattle.arriving.proofs.Laws.{read-cut}
+use Rattle.piece_marks.proofs.read_head.Goals as goal
+
+pub returns : goal.returns
+returns c =
+    let args = c.args in
+    let shorter = c.shorter-n in
+    let extract-at = c.extract_at in
+    read-cut args.t1 args.k _ _ shorter.ensures (omega arith) extract-at.ensures

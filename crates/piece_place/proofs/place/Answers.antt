@@ -1,0 +1,41 @@
+-- `piece_place::place` meets its contract. Assumes nothing.
+use native.Mathlib.Omega.{arith}
+use Rattle.piece_place.proofs.Placing.{up_to, put_all, put_same, put_above, put-below}
+use Rattle.piece_place.proofs.place.Goals as goal
+
+pub returns-in-Below : goal.returns-in-Below
+returns-in-Below c =
+    let r = (let args = c.args in
+    let shorter = c.shorter-size in
+    let common-start = c.common_start-shared in
+    let by_next = c.by_next in
+    let enum_told = c.in-Below in
+    let open_entry = c.open_entry-r in
+    let put = c.put in
+    put_all args.held.now args.ends.now args.last args.ended args.name.now args.folder shorter.result shorter.ensures
+    (put-below args.held.now args.ends.now (up_to args.last shorter.result) args.ended args.name.now args.folder
+    common-start.result common-start.ensures by_next.result by_next.ensures (omega (arith, shorter.ensures)) enum_told.is
+    open_entry.result _ _ open_entry.ensures put.ensures)) in
+    record { placed = r.0; ends = r.1.0; held = r.1.1 }
+
+pub returns-in-Same : goal.returns-in-Same
+returns-in-Same c =
+    let r = (let args = c.args in
+    let shorter = c.shorter-size in
+    let common-start = c.common_start-shared in
+    let by_next = c.by_next in
+    put_all args.held.now args.ends.now args.last args.ended args.name.now args.folder shorter.result shorter.ensures
+    (put_same args.held.now args.ends.now (up_to args.last shorter.result) args.ended args.name.now args.folder
+    common-start.result common-start.ensures by_next.result by_next.ensures c.in-Same.is)) in
+    record { placed = r.0; ends = r.1.0; held = r.1.1 }
+
+pub returns-in-Above : goal.returns-in-Above
+returns-in-Above c =
+    let r = (let args = c.args in
+    let shorter = c.shorter-size in
+    let common-start = c.common_start-shared in
+    let by_next = c.by_next in
+    put_all args.held.now args.ends.now args.last args.ended args.name.now args.folder shorter.result shorter.ensures
+    (put_above args.held.now args.ends.now (up_to args.last shorter.result) args.ended args.name.now args.folder
+    common-start.result common-start.ensures by_next.result by_next.ensures c.in-Above.is)) in
+    record { placed = r.0; ends = r.1.0; held = r.1.1 }

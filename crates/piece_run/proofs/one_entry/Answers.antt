@@ -1,0 +1,84 @@
+-- `piece_run::one_entry` meets its contract. Assumes nothing.
+use native.Mathlib.Omega.{arith}
+use Rattle.piece_run.proofs.Runs.{seen-inside, more-none, more-fine, more-not, more_double}
+use Rattle.piece_run.proofs.one_entry.Goals as goal
+
+pub returns-then-end-eq0 : goal.returns-then-end-eq0
+returns-then-end-eq0 c =
+    let r = (let args = c.args in
+    let seen_at = c.seen_at-e in
+    more-none args.piece.now args.h args.r args.held.now args.ends.now seen_at.result seen_at.ensures c.if-end-eq0.true) in
+    record { run = r.0; held = r.1.0; ends = r.1.1 }
+
+pub slice_bounds-place-count : goal.slice_bounds-place-count
+slice_bounds-place-count c =
+    let args = c.args in
+    let seen_at = c.seen_at-e in
+    let if1 = c.if-end-eq0 in
+    omega (arith, seen-inside args.piece.now args.r.next args.h seen_at.result seen_at.ensures if1.false)
+
+pub slice_bounds-place-start : goal.slice_bounds-place-start
+slice_bounds-place-start c =
+    let args = c.args in
+    let seen_at = c.seen_at-e in
+    let if1 = c.if-end-eq0 in
+    omega (arith, seen-inside args.piece.now args.r.next args.h seen_at.result seen_at.ensures if1.false)
+
+pub slice_bounds-place-end-3 : goal.slice_bounds-place-end-3
+slice_bounds-place-end-3 c =
+    let args = c.args in
+    let seen_at = c.seen_at-e in
+    let if1 = c.if-end-eq0 in
+    omega (arith, seen-inside args.piece.now args.r.next args.h seen_at.result seen_at.ensures if1.false)
+
+pub overflow_add-result : goal.overflow_add-result
+overflow_add-result c =
+    let args = c.args in
+    let seen_at = c.seen_at-e in
+    let if1 = c.if-end-eq0 in
+    omega (arith, seen-inside args.piece.now args.r.next args.h seen_at.result seen_at.ensures if1.false)
+
+pub overflow_add-result-in-Fine : goal.overflow_add-result-in-Fine
+overflow_add-result-in-Fine c =
+    let args = c.args in
+    let seen_at = c.seen_at-e in
+    let if1 = c.if-end-eq0 in
+    omega (arith, seen-inside args.piece.now args.r.next args.h seen_at.result seen_at.ensures if1.false)
+
+pub overflow_sub-result : goal.overflow_sub-result
+overflow_sub-result c =
+    let args = c.args in
+    let seen_at = c.seen_at-e in
+    let if1 = c.if-end-eq0 in
+    omega (arith, seen-inside args.piece.now args.r.next args.h seen_at.result seen_at.ensures if1.false)
+
+pub returns-in-Fine : goal.returns-in-Fine
+returns-in-Fine c =
+    let r = (let args = c.args in
+    let seen_at = c.seen_at-e in
+    let if1 = c.if-end-eq0 in
+    let place = c.place in
+    let k = c.in-Fine in
+    more-fine args.piece.now args.h args.r args.held.now args.ends.now seen_at.result seen_at.ensures if1.false
+    place.result _ _ place.ensures k.k k.is) in
+    record { run = r.0; held = r.1.0; ends = r.1.1 }
+
+pub returns-in-NotAfter : goal.returns-in-NotAfter
+returns-in-NotAfter c =
+    let r = (let args = c.args in
+    let seen_at = c.seen_at-e in
+    let if1 = c.if-end-eq0 in
+    let place = c.place in
+    more-not args.piece.now args.h args.r args.held.now args.ends.now seen_at.result seen_at.ensures if1.false
+    place.result _ _ place.ensures c.in-NotAfter.is) in
+    record { run = r.0; held = r.1.0; ends = r.1.1 }
+
+pub returns-in-Double : goal.returns-in-Double
+returns-in-Double c =
+    let r = (let args = c.args in
+    let seen_at = c.seen_at-e in
+    let if1 = c.if-end-eq0 in
+    let place = c.place in
+    more_double args.piece.now args.h args.r args.held.now args.ends.now seen_at.result seen_at.ensures if1.false
+    place.result _ _ place.ensures c.in-Double.is) in
+    record { run = r.0; held = r.1.0; ends = r.1.1 }

@@ -1,0 +1,17 @@
+-- `piece_some::head_some` meets its contract. Assumes nothing.
+use native.Mathlib.Omega.{arith}
+use Rattle.piece_some.proofs.Bytes.{head-within, head-is}
+use Rattle.piece_some.proofs.head_some.Goals as goal
+
+pub overflow_add-result : goal.overflow_add-result
+overflow_add-result c =
+    let args = c.args in
+    let fits = c.ranges in
+    let head-most = c.head_most-n in
+    record { fits = omega (arith, fits.k.fits, head-within args.k args.count _ _ head-most.ensures) }
+
+pub returns : goal.returns
+returns c =
+    let args = c.args in
+    let head-most = c.head_most-n in
+    head-is args.t1 args.k args.bytes.now _ _ head-most.ensures _ c.put.ensures

@@ -1,0 +1,13 @@
+-- `pieces::feed` meets its contract. Assumes nothing.
+use mathlib.Core.Path.{◌≡◌}
+use Prim.Native.Nat.{◌-◌, ◌≤◌}
+use lib.ListN.{length, drop}
+use Rattle.arriving.specs.Feed.{together, feed_of}
+use Rattle.pieces.proofs.feed.Given as goal
+
+abbrev pub invariant-loop-t : goal.invariant-loop-t
+invariant-loop-t l =
+    (feed_of (together l.initial.held l.initial.ends l.initial.t.marks) l.piece ≡ feed_of (together l.held l.ends l.t.marks) (drop l.t.next l.piece)) × (l.t.next ≤ length l.piece)
+
+abbrev pub decreases-loop-t : goal.decreases-loop-t
+decreases-loop-t l = length l.piece - l.t.next

@@ -1,0 +1,23 @@
+-- `reading::read_tree` meets its contract. Assumes nothing.
+use mathlib.Core.Path.{refl, sym, ◌∙◌}
+use Rattle.reading.specs.Listing.{listing}
+use Rattle.reading.proofs.Laws.{answer-shut, refused-both, plain-refuses, gate_refuses, read-both}
+use Rattle.reading.proofs.read_tree.Goals as goal
+
+pub returns-in-Shut : goal.returns-in-Shut
+returns-in-Shut c =
+    let r = (let bounds = c.bounds in
+    let shut = sym bounds.ensures ∙ c.in-Shut.is in
+    refused-both _ _ _ (answer-shut _ _ _ _ shut) (gate_refuses _ _ _ _ shut)) in
+    record { answer = r.0; records = r.1 }
+
+pub returns-in-Open : goal.returns-in-Open
+returns-in-Open c =
+    let r = (let read_plain = c.read_plain in
+    let enum_told = c.in-Open in
+    let bounds = c.bounds in
+    let args = c.args in
+    let plain = listing args.h args.bytes.now in
+    read-both args.h args.bytes.now args.records.now plain (plain-refuses _ _) (λ n t. refl) (sym bounds.ensures ∙ enum_told.is)
+    refl read_plain.ensures) in
+    record { answer = r.0; records = r.1 }

@@ -1,0 +1,9 @@
+-- `replay::lines` is safe and ends. Assumes nothing.
+use Rattle.std.proofs.Common.{◌-◌}
+use Rattle.replay.proofs.lines.Given as goal
+
+abbrev pub invariant-loop-call : goal.invariant-loop-call
+invariant-loop-call l = Unit {0}
+
+abbrev pub decreases-loop-call : goal.decreases-loop-call
+decreases-loop-call l = 32 - l.call

@@ -1,0 +1,30 @@
+-- `text_import::import_lent` meets its contract. Assumes nothing.
+use borrow.Author.Rules.{rules}
+use mathlib.Core.Path.{sym, ◌∙◌}
+use Rattle.text_import.proofs.Lent.{lent-shut, lent-whole, lent_began}
+use Rattle.text_import.proofs.import_lent.Goals as goal
+
+pub import_open-requires : goal.import_open-requires
+import_open-requires c =
+    let args = c.args in
+    let bounds = c.bounds in
+    let enum_told = c.in-Open in
+    lent_began args.rules args.h args.text.now (sym bounds.ensures ∙ enum_told.is)
+
+pub returns-in-Shut : goal.returns-in-Shut
+returns-in-Shut c =
+    let r = (let args = c.args in
+    let bounds = c.bounds in
+    let v = c.in-Shut in
+    lent-shut args.rules args.h args.text.now args.out.now args.list.now _ (sym bounds.ensures ∙ v.is)) in
+    record { answer = r.0; out = r.1.0; list = r.1.1 }
+
+pub returns-in-Open : goal.returns-in-Open
+returns-in-Open c =
+    let r = (let args = c.args in
+    let bounds = c.bounds in
+    let enum_told = c.in-Open in
+    let import-open = c.import_open in
+    lent-whole args.rules args.h args.text.now args.out.now args.list.now (sym bounds.ensures ∙ enum_told.is) _ _ _
+    import-open.ensures) in
+    record { answer = r.0; out = r.1.0; list = r.1.1 }

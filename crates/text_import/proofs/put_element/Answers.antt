@@ -1,0 +1,7 @@
+-- `text_import::put_element` meets its contract. Assumes nothing.
+use mathlib.Core.Path.{sym}
+use lib.Seq.{set_out}
+use Rattle.text_import.proofs.put_element.Goals as goal
+
+pub returns-else-n-list : goal.returns-else-n-list
+returns-else-n-list c = sym (set_out _ _ _ c.if-n-list.false)

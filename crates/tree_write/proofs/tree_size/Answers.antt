@@ -1,0 +1,17 @@
+-- `tree_write::tree_size` meets its contract. Assumes nothing.
+use Rattle.tree_write.proofs.Laws.{size-shut, size_open, within}
+use native.Mathlib.Omega.{arith}
+use mathlib.Core.Path.{sym, ◌∙◌}
+use Rattle.tree_write.proofs.tree_size.Goals as goal
+
+pub measure-requires : goal.measure-requires
+measure-requires c =
+    let at-args = c in
+    let a = c.args in
+    within a.h a.bytes.now a.records.now _ (omega arith) (sym c.bounds.ensures ∙ c.in-Open.is)
+
+pub returns-in-Shut : goal.returns-in-Shut
+returns-in-Shut c = sym (size-shut _ _ _ _ (sym c.bounds.ensures ∙ c.in-Shut.is))
+
+pub returns-in-Open : goal.returns-in-Open
+returns-in-Open c = c.measure.ensures ∙ sym (size_open _ _ _ (sym c.bounds.ensures ∙ c.in-Open.is))
