@@ -16,7 +16,7 @@ loop-column-init c = let loop = c.loop-row in (omega arith, loop.invariant.1, λ
 pub loop-column-preserved : goal.loop-column-preserved
 loop-column-preserved c =
     let loop = c.loop-row in
-    let rows = c.args.t1 in
+    let rows = c.args.rows in
     let loop2 = c.loop-column in (
       omega arith,
       length-set loop2.flat (loop.row * 16 + loop2.column) _ ∙ loop2.invariant.1,

@@ -1,6 +1,8 @@
 -- `scan::find_nul_or_slash` meets its contract. Assumes nothing.
 use Prim.Native.Nat.{◌+◌, ◌-◌}
-use mathlib.Core.Path.{refl, ◌∙◌}
+use mathlib.Core.Path.{refl, ap, ◌∙◌}
+use mathlib.Core.Bool.{not}
+use borrow.Author.Tests.{eq-eqb}
 use native.Mathlib.Omega.{arith}
 use Rattle.ground.proofs.Laws.{place_end, place-from}
 use Rattle.scan.proofs.Laws.{only-second, neither-some}
@@ -24,7 +26,7 @@ pub first_of_16-requires : goal.first_of_16-requires
 first_of_16-requires c =
     let slash = c.among-slash.result in
     let nul = c.among in
-    record { j_in_bounds = omega arith; j_bound = nul.ensures.some (only-second slash nul.result c.if-slash-among.true c.if-slash.false).1 }
+    record { j_in_bounds = omega arith; j_bound = nul.ensures.some (only-second slash nul.result c.if-slash-among.true (ap not (eq-eqb _ 0 c.if-slash.false))).1 }
 
 pub returns-then-slash-among : goal.returns-then-slash-among
 returns-then-slash-among c =
@@ -32,7 +34,7 @@ returns-then-slash-among c =
     let loop = c.loop-i in
     let slash = c.among-slash in
     let nul = c.among in
-    let only = only-second slash.result nul.result c.if-slash-among.true c.if-slash.false in
+    let only = only-second slash.result nul.result c.if-slash-among.true (ap not (eq-eqb _ 0 c.if-slash.false)) in
     omega (
       arith,
       c.first_of_16.ensures,
