@@ -209,10 +209,10 @@ module _ (k h : ℕ) (s : List ℕ) (n : ℕ) (big : 6 < h) (t : tally 0 (strict
       kept-is placed w e = ap (λ (x : Walked). x.kept) e ∙ walk.walk_kept h s n new placed a b c counted-few ∙ walk_kept
 
       used_is : (placed : Bool) (w : Walked) → w ≡ walk_of h s n new placed → w.used ≡ length (as_written (edited placed new (entries_in h s)))
-      used_is placed w e = ap (λ (x : Walked). x.used) e ∙ walk.walk-used h s n new placed a b c counted-few ∙ ap length (walk-bytes placed)
+      used_is placed w e = ap (λ (x : Walked). x.used) e ∙ walk.walk_used h s n new placed a b c counted-few ∙ ap length (walk-bytes placed)
 
       bytes-are : (placed : Bool) → walk_bytes h s n new placed ≡ as_written (edited placed new (entries_in h s))
-      bytes-are placed = walk.walk-bytes-are h s n new placed a b c counted-few ∙ walk-bytes placed
+      bytes-are placed = walk.walk_bytes_are h s n new placed a b c counted-few ∙ walk-bytes placed
 
       pub put_used : (w : Walked) → w ≡ walk_of h s n new false → w.used ≡ length (as_written (put_in new (entries_in h s)))
       put_used w e = used_is false w e ∙ ap (λ (l : List Entry). length (as_written l)) (edited_puts new (entries_in h s))

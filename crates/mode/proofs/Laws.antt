@@ -120,7 +120,7 @@ module _ (b : List ℕ) (m n : ℕ) (e : read_mode b ≡ Mode (record { internal
 -- The first eight bytes decide a mode.
 pub eight_decide : (i : List ℕ) → read_mode (take 8 i) ≡ read_mode i
 unfolding read_mode
-eight_decide i = ap made (texts.eight-decide i)
+eight_decide i = ap made (texts.eight_decide i)
 
 -- ---- from a place on, and alone
 

@@ -57,7 +57,7 @@ returns-in-Stopped c =
     let begun = sym rule_bounds.ensures ∙ enum_told.is in
     let b = answers.put-bounds args.rules args.h args.bytes.now new _ _ m begun in
     let t = answers.counted_is _ _ _ b.1 strict-count.ensures ∙ w.is in
-    refused-both _ _ _ (answers.put-stopped args.rules args.h args.bytes.now new _ _ m begun _ t) (answers.stopped-refuses _ _ _ _ t)) in
+    refused-both _ _ _ (answers.put_stopped args.rules args.h args.bytes.now new _ _ m begun _ t) (answers.stopped_refuses _ _ _ _ t)) in
     record { answer = r.0; out = r.1 }
 
 pub returns-in-Total : goal.returns-in-Total
@@ -77,6 +77,6 @@ returns-in-Total c =
     let begun = sym rule_bounds.ensures ∙ enum_told.is in
     let b = answers.put-bounds args.rules args.h args.bytes.now new _ _ m begun in
     let t = answers.counted_is _ _ _ b.1 strict-count.ensures ∙ n.is in
-    answers.finish _ _ args.out.now _ (answers.put-total args.rules args.h args.bytes.now new _ _ m begun _ t) put-counted.ensures.answer
+    answers.finish _ _ args.out.now _ (answers.put_total args.rules args.h args.bytes.now new _ _ m begun _ t) put-counted.ensures.answer
     put-counted.ensures.out) in
     record { answer = r.0; out = r.1 }

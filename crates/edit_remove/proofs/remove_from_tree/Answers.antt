@@ -46,7 +46,7 @@ returns-in-Stopped c =
     let begun = sym rule_bounds.ensures ∙ enum_told.is in
     let b = answers.remove-bounds args.rules args.h args.bytes.now args.name.now _ _ m begun in
     let t = answers.counted_is _ _ _ b.1 strict-count.ensures ∙ c.in-Stopped.is in
-    refused-both _ _ _ (answers.remove-stopped args.rules args.h args.bytes.now args.name.now _ _ m begun _ t) (answers.stopped-refuses _ _ _ _ t)) in
+    refused-both _ _ _ (answers.remove_stopped args.rules args.h args.bytes.now args.name.now _ _ m begun _ t) (answers.stopped_refuses _ _ _ _ t)) in
     record { answer = r.0; out = r.1 }
 
 pub returns-in-Total : goal.returns-in-Total
@@ -63,7 +63,7 @@ returns-in-Total c =
     let begun = sym rule_bounds.ensures ∙ enum_told.is in
     let b = answers.remove-bounds args.rules args.h args.bytes.now args.name.now _ _ m begun in
     let t = answers.counted_is _ _ _ b.1 strict-count.ensures ∙ n.is in
-    answers.finish _ _ args.out.now _ (answers.remove-total args.rules args.h args.bytes.now args.name.now _ _ m begun _ t)
+    answers.finish _ _ args.out.now _ (answers.remove_total args.rules args.h args.bytes.now args.name.now _ _ m begun _ t)
     remove-counted.ensures.answer
     remove-counted.ensures.out) in
     record { answer = r.0; out = r.1 }

@@ -109,7 +109,7 @@ compare-entries-loop-less t c =
     let next = c.before.next in
     omega (
       arith,
-      (merging.same-leads args.k.h args.bundle.now loop.l loop.r loop.invariant.left_in loop.invariant.right_in merge_step.result
+      (merging.same_leads args.k.h args.bundle.now loop.l loop.r loop.invariant.left_in loop.invariant.right_in merge_step.result
           merge_step.ensures next.given.0.0 next.given.0.1.0 next.given.1).2,
     )
 
@@ -137,7 +137,7 @@ compare-entries-add-requires t c κs =
           turning.short-path args.pl args.depth pre.1.1.1.0,
           (
             loop.invariant.small,
-            (merging.differs-leads args.k.h args.bundle.now loop.l loop.r loop.invariant.left_in loop.invariant.right_in
+            (merging.differs_leads args.k.h args.bundle.now loop.l loop.r loop.invariant.left_in loop.invariant.right_in
                 merge_step.result merge_step.ensures change.given.0.0 change.given.0.1.0 change.given.0.1.1.0 change.given.1).0,
           ),
         ),
@@ -164,7 +164,7 @@ compare-entries-returns-2 t c =
     let change = c.before.before.before.before.before.before.before.before.before.before.c in
     let add = c.before.before.before.before.before.before.add in
     let if1 = c.if1 in (
-      turning.going-full loop.invariant merge_step.result merge_step.ensures change.given.0.0 change.given.0.1.0 change.given.0.1.1.0
+      turning.going_full loop.invariant merge_step.result merge_step.ensures change.given.0.0 change.given.0.1.0 change.given.0.1.1.0
           change.given.1 pre.1.1.0 add.result add.new.1.0 add.new.1.1.0 add.ensures.0 if1.true,
       add.ensures.1.0,
     )
@@ -186,10 +186,10 @@ compare-entries-compare-inside-requires t c κs =
         (
           omega (arith, add.ensures.1.1),
           (
-            turning.child-short loop.m add.result args.pl args.depth add.ensures.1 pre.1.1.1.0,
+            turning.child_short loop.m add.result args.pl args.depth add.ensures.1 pre.1.1.1.0,
             (
               add.ensures.1.0,
-              (merging.differs-leads args.k.h args.bundle.now loop.l loop.r loop.invariant.left_in loop.invariant.right_in
+              (merging.differs_leads args.k.h args.bundle.now loop.l loop.r loop.invariant.left_in loop.invariant.right_in
                   merge_step.result merge_step.ensures change.given.0.0 change.given.0.1.0 change.given.0.1.1.0 change.given.1).0,
             ),
           ),
@@ -236,7 +236,7 @@ compare-entries-loop-less-2 t c =
     let change = c.before.before.before.before.before.before.before.before.before.before.before.before.before.before.before.before.before.before.before.before.c in
     omega (
       arith,
-      (merging.differs-leads args.k.h args.bundle.now loop.l loop.r loop.inv.left_in loop.inv.right_in merge_step.result
+      (merging.differs_leads args.k.h args.bundle.now loop.l loop.r loop.inv.left_in loop.inv.right_in merge_step.result
           merge_step.ensures change.given.0.0 change.given.0.1.0 change.given.0.1.1.0 change.given.1).1.2,
     )
 
@@ -372,7 +372,7 @@ compare-inside-returns t c =
     let args = c.before.before.before.before.before.before.before.before.before.before.before.before.before.before.before.before.args in
     let if1 = c.before.before.before.before.before.before.before.before.before.before.before.if1 in
     let compare-folders = c.before.before.before.before.compare-folders in (
-      λ prefix e. turning.inside-deep (compare_folders (folders_in args.k args.bundle.now args.index.now) args.depth) prefix args.bundle.now
+      λ prefix e. turning.inside_deep (compare_folders (folders_in args.k args.bundle.now args.index.now) args.depth) prefix args.bundle.now
           args.c args.m _ args.items.now args.paths.now if1.true compare-folders.result compare-folders.new.1.1.1.1.1.0
           compare-folders.new.1.1.1.1.1.1.0 (compare-folders.ensures.0 prefix e),
       compare-folders.ensures.1,

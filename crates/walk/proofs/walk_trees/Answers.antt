@@ -34,7 +34,7 @@ returns c =
     let if1 = c.if-a-ne-DONE in
     let levels = c.levels in
     let compare-folders = c.compare_folders in
-    ending.walk-stored args.k args.bundle.now args.index.now args.left.now args.right.now levels.result levels.ensures
+    ending.walk_stored args.k args.bundle.now args.index.now args.left.now args.right.now levels.result levels.ensures
     (ending.bounded args.k args.bundle.now args.index.now args.left.now args.right.now _ _ measured.result measured.ensures
     if1.false)
     args.items.now args.paths.now measured.result measured.ensures if1.false compare-folders.result
