@@ -17,7 +17,7 @@ slice_bounds-is_folded-end c = omega (arith, well_parts _ _ (sym c.well_formed-2
 pub returns-then-x-eq1 : goal.returns-then-x-eq1
 returns-then-x-eq1 c =
     let if1 = c.if-well_formed in
-    let well-formed = c.well-formed in
+    let well-formed = c.well_formed-2 in
     let args = c.args in
     c.is_folded.ensures ∙ sym (header-one args.bytes.now args.x (sym well-formed.ensures ∙ if1.true) c.if-x-eq1.true)
 

@@ -14,7 +14,7 @@ overflow_mul-end c =
     record { fits = (line-places a.at (length a.word.now) (2 * a.h) c.requires.h_bound.1).0 }
 
 pub overflow_add-end : goal.overflow_add-end
-overflow_add-end c = record { fits = lt_of_le_of_lt c.requires.h_in_bounds c.well-formed.1.1.1.0.0 }
+overflow_add-end c = record { fits = lt_of_le_of_lt c.requires.h_in_bounds c.well_formed.1.1.1.0.0 }
 
 pub overflow_add-digits : goal.overflow_add-digits
 overflow_add-digits c =

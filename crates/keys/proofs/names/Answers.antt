@@ -42,7 +42,7 @@ returns-then-p-q c =
 pub overflow_add-i : goal.overflow_add-i
 overflow_add-i c =
     let args = c.args in
-    let good = c.well-formed in
+    let good = c.well_formed in
     let loop = c.loop-width in
     let next-at = c.next_at-p in
     let next-at2 = c.next_at-q in

@@ -6,7 +6,7 @@ use Rattle.merge.proofs.merge_step.Goals as goal
 pub only_right-requires : goal.only_right-requires
 only_right-requires c =
     let args = c.args in
-    let good = c.well-formed in
+    let good = c.well_formed in
     let next-entry2 = c.next_entry-y in
     let y = c.in-Entry-y in
     let f = laws.entry_in args.h args.bundle.now args.r next-entry2.result y.b y.next next-entry2.ensures
@@ -16,7 +16,7 @@ only_right-requires c =
 pub only_left-requires : goal.only_left-requires
 only_left-requires c =
     let args = c.args in
-    let good = c.well-formed in
+    let good = c.well_formed in
     let next-entry = c.next_entry-x in
     let x = c.in-Entry in
     let f = laws.entry_in args.h args.bundle.now args.l next-entry.result x.a x.next next-entry.ensures
@@ -39,7 +39,7 @@ order_of-requires c =
 pub only_left-requires-in-Below : goal.only_left-requires-in-Below
 only_left-requires-in-Below c =
     let args = c.args in
-    let good = c.well-formed in
+    let good = c.well_formed in
     let next-entry = c.next_entry-x in
     let x = c.in-Entry in
     let f = laws.entry_in args.h args.bundle.now args.l next-entry.result x.a x.next next-entry.ensures
@@ -57,7 +57,7 @@ in_both-requires c =
 pub only_right-requires-in-Above : goal.only_right-requires-in-Above
 only_right-requires-in-Above c =
     let args = c.args in
-    let good = c.well-formed in
+    let good = c.well_formed in
     let next-entry2 = c.next_entry-y in
     let y2 = c.in-Entry-y-2 in
     let f = laws.entry_in args.h args.bundle.now args.r next-entry2.result y2.b y2.other next-entry2.ensures
@@ -82,7 +82,7 @@ returns-in-Entry-y c =
     let enum_told = c.in-End in
     let y = c.in-Entry-y in
     let only-right = c.only_right in
-    laws.step-right_end args.h args.bundle.now args.l args.r next-entry.result next-entry2.result next-entry.ensures
+    laws.step-right-end args.h args.bundle.now args.l args.r next-entry.result next-entry2.result next-entry.ensures
     next-entry2.ensures enum_told.is y.b y.next y.is only-right.result only-right.ensures
 
 pub returns-in-End-y-2 : goal.returns-in-End-y-2
@@ -93,7 +93,7 @@ returns-in-End-y-2 c =
     let x = c.in-Entry in
     let enum-told3 = c.in-End-y-2 in
     let only-left = c.only_left in
-    laws.step-left_end args.h args.bundle.now args.l args.r next-entry.result next-entry2.result next-entry.ensures
+    laws.step-left-end args.h args.bundle.now args.l args.r next-entry.result next-entry2.result next-entry.ensures
     next-entry2.ensures enum-told3.is x.a x.next x.is only-left.result only-left.ensures
 
 pub returns-in-Below : goal.returns-in-Below

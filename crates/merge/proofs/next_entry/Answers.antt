@@ -10,7 +10,7 @@ returns-then-end-start c =
     let args = c.args in
     let if1 = c.if-left-eq0 in
     let if2 = c.if-end-start in
-    laws.ahead_crossed args.h args.bundle.now args.c if1.false if2.true
+    laws.ahead-crossed args.h args.bundle.now args.c if1.false if2.true
 
 pub returns-then-bundle-end : goal.returns-then-bundle-end
 returns-then-bundle-end c =
@@ -18,7 +18,7 @@ returns-then-bundle-end c =
     let if1 = c.if-left-eq0 in
     let if2 = c.if-end-start in
     let if3 = c.if-bundle-end in
-    laws.ahead_outside args.h args.bundle.now args.c if1.false if2.false if3.true
+    laws.ahead-outside args.h args.bundle.now args.c if1.false if2.false if3.true
 
 pub slice_bounds-decode-start : goal.slice_bounds-decode-start
 slice_bounds-decode-start c = c.if-end-start.false
@@ -29,7 +29,7 @@ slice_bounds-decode-end c = c.if-bundle-end.false
 pub overflow_add-name_start : goal.overflow_add-name_start
 overflow_add-name_start c =
     let args = c.args in
-    let good = c.well-formed in
+    let good = c.well_formed in
     let if1 = c.if-left-eq0 in
     let if2 = c.if-end-start in
     let if3 = c.if-bundle-end in
@@ -43,7 +43,7 @@ overflow_add-name_start c =
 pub overflow_add-name_end : goal.overflow_add-name_end
 overflow_add-name_end c =
     let args = c.args in
-    let good = c.well-formed in
+    let good = c.well_formed in
     let if1 = c.if-left-eq0 in
     let if2 = c.if-end-start in
     let if3 = c.if-bundle-end in
@@ -57,7 +57,7 @@ overflow_add-name_end c =
 pub overflow_add-id_start : goal.overflow_add-id_start
 overflow_add-id_start c =
     let args = c.args in
-    let good = c.well-formed in
+    let good = c.well_formed in
     let if1 = c.if-left-eq0 in
     let if2 = c.if-end-start in
     let if3 = c.if-bundle-end in
@@ -71,7 +71,7 @@ overflow_add-id_start c =
 pub overflow_add-text_start : goal.overflow_add-text_start
 overflow_add-text_start c =
     let args = c.args in
-    let good = c.well-formed in
+    let good = c.well_formed in
     let if1 = c.if-left-eq0 in
     let if2 = c.if-end-start in
     let if3 = c.if-bundle-end in

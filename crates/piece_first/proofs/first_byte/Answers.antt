@@ -17,7 +17,7 @@ bodies-requires c =
     let if1 = c.if-m-ge-MOST_BYTES in
     let first = c.head_byte-t in
     let m = c.args.m in
-    let eight = head-long m _ c.well-formed.1.1.0 in
+    let eight = head-long m _ c.well_formed.1.1.0 in
     omega (arith, if1.false, head_near m (m.at + 1) c.args.k c.args.b eight first.ensures)
 
 pub returns : goal.returns
@@ -26,6 +26,6 @@ returns c =
     let if1 = c.if-m-ge-MOST_BYTES in
     let first = c.head_byte-t in
     let args = c.args in
-    let eight = head-long args.m _ c.well-formed.1.1.0 in
+    let eight = head-long args.m _ c.well_formed.1.1.0 in
     inside (together args.held.now args.ends.now args.m) args.k args.b if1.false
     (head_led args.held.now args.ends.now args.m args.k args.b eight first.ensures c.bodies.ensures)

@@ -19,7 +19,7 @@ overflow_add-result c =
     let args = c.args in
     let pre = c.requires in
     let some_in = c.some_in-g in
-    let good = c.well-formed in
+    let good = c.well_formed in
     omega (
       arith,
       pre,

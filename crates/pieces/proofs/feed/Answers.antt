@@ -28,7 +28,7 @@ step-t-requires c = tt
 
 pub overflow_add-t : goal.overflow_add-t
 overflow_add-t c =
-    let good = c.well-formed in
+    let good = c.well_formed in
     record { fits = omega (arith, good.1.1.1.0.0, c.if-piece-at.false) }
 
 pub loop-t-smaller : goal.loop-t-smaller

@@ -51,7 +51,7 @@ pub returns-then-is_between : goal.returns-then-is_between
 returns-then-is_between c =
     let r = (let args = c.args in
     let pre = c.requires in
-    let good = c.well-formed in
+    let good = c.well_formed in
     let if1 = c.if-is_between in
     let is-between = c.is_between in
     let lent2 = c.lent-2-1 in

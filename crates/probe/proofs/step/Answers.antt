@@ -26,7 +26,7 @@ unfolding name_of
 returns-then-well_formed c =
     let if1 = c.if-p-at in
     let if2 = c.if-p-ge-MOST_RECORDS in
-    let well-formed = c.well-formed in
+    let well-formed = c.well_formed-2 in
     let good = sym well-formed.ensures ∙ c.if-well_formed.true in
     let folder = c.is_folder-tree.ensures in
     let ordered = c.name_order-o.ensures in

@@ -19,7 +19,7 @@ pub bounds-list-0 : goal.bounds-list-0
 bounds-list-0 c = omega (arith, c.loop-m.invariant.0.size)
 
 pub offset_bounds-list-m : goal.offset_bounds-list-m
-offset_bounds-list-m c = omega (arith, c.well-formed)
+offset_bounds-list-m c = omega (arith, c.well_formed)
 
 pub bounds-list-m : goal.bounds-list-m
 bounds-list-m c = omega (arith, c.loop-m.invariant.0.size)
@@ -28,7 +28,7 @@ pub bounds-list-0-in-loop-m : goal.bounds-list-0-in-loop-m
 bounds-list-0-in-loop-m c = omega (arith, c.loop-m.invariant.0.size)
 
 pub offset_bounds-list-m-in-loop-m : goal.offset_bounds-list-m-in-loop-m
-offset_bounds-list-m-in-loop-m c = omega (arith, c.well-formed)
+offset_bounds-list-m-in-loop-m c = omega (arith, c.well_formed)
 
 pub bounds-list-m-in-loop-m : goal.bounds-list-m-in-loop-m
 bounds-list-m-in-loop-m c = simp length-set (omega (arith, c.loop-m.invariant.0.size))
@@ -37,11 +37,8 @@ pub sift-requires : goal.sift-requires
 sift-requires c =
     let args = c.args in
     let loop = c.loop-m in
-    let key = key_at args.text.now args.mark args.width in record {
-      n_in_bounds = simp length-set (omega (arith, loop.invariant.0.size));
-      heap = settle-rest (below_by key) (key_strict key) args.list.now loop.list loop.m loop.invariant.0
-          (omega arith) (omega (arith, loop.invariant.0.size));
-    }
+    let key = key_at args.text.now args.mark args.width in record { n_in_bounds = simp length-set (omega (arith, loop.invariant.0.size)); heap = settle-rest (below_by key) (key_strict key) args.list.now loop.list loop.m loop.invariant.0
+          (omega arith) (omega (arith, loop.invariant.0.size)) }
 
 pub loop-m-smaller : goal.loop-m-smaller
 loop-m-smaller c = omega arith

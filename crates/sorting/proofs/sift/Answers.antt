@@ -18,26 +18,26 @@ pub larger-c-requires : goal.larger-c-requires
 larger-c-requires c = record { n_in_bounds = omega (arith, c.loop-i.invariant.moved.size); i_bound = c.loop-i-test.true }
 
 pub offset_bounds-list-i : goal.offset_bounds-list-i
-offset_bounds-list-i c = omega (arith, c.well-formed)
+offset_bounds-list-i c = omega (arith, c.well_formed)
 
 pub bounds-list-i : goal.bounds-list-i
 bounds-list-i c = omega (arith, c.loop-i.invariant.moved.size)
 
 pub offset_bounds-list-c : goal.offset_bounds-list-c
-offset_bounds-list-c c = omega (arith, c.larger-c.ensures.within, c.well-formed)
+offset_bounds-list-c c = omega (arith, c.larger-c.ensures.within, c.well_formed)
 
 pub bounds-list-c : goal.bounds-list-c
 bounds-list-c c = omega (arith, c.loop-i.invariant.moved.size, c.larger-c.ensures.within)
 
 pub offset_bounds-list-i-then-below : goal.offset_bounds-list-i-then-below
-offset_bounds-list-i-then-below c = omega (arith, c.well-formed)
+offset_bounds-list-i-then-below c = omega (arith, c.well_formed)
 
 pub bounds-list-i-then-below : goal.bounds-list-i-then-below
 bounds-list-i-then-below c = omega (arith, c.loop-i.invariant.moved.size)
 
 pub offset_bounds-list-c-then-below : goal.offset_bounds-list-c-then-below
 offset_bounds-list-c-then-below c =
-    let good = c.well-formed in
+    let good = c.well_formed in
     let larger = c.larger-c in
     omega (arith, larger.ensures.within, good)
 
@@ -74,11 +74,8 @@ returns-else-below c =
     let larger = c.larger-c in
     let below = c.below in
     let if1 = c.if-below in
-    let key = key_at args.text.now args.mark args.width in record {
-      moved = loop.invariant.moved;
-      heap_2 = sift_stop (below_by key) (key_strict key) args.list.now loop.list args.from args.n loop.i _ larger.ensures
-          (sym below.ensures ∙ if1.false) loop.invariant;
-    }
+    let key = key_at args.text.now args.mark args.width in record { moved = loop.invariant.moved; heap_2 = sift_stop (below_by key) (key_strict key) args.list.now loop.list args.from args.n loop.i _ larger.ensures
+          (sym below.ensures ∙ if1.false) loop.invariant }
 
 pub shape_of-list : goal.shape_of-list
 shape_of-list c = c.loop-i.invariant.moved.size

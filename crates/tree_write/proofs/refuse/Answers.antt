@@ -18,7 +18,7 @@ slice_bounds-find_nul-end c = omega (arith, well_parts _ _ _ (sym c.well_formed-
 
 pub overflow_sub-end : goal.overflow_sub-end
 overflow_sub-end c =
-    let well-formed = c.well-formed in
+    let well-formed = c.well_formed-2 in
     omega (arith, well_parts _ _ _ (sym well-formed.ensures ∙ c.if-well_formed.true))
 
 pub returns-then-find_nul-end : goal.returns-then-find_nul-end

@@ -19,7 +19,7 @@ put_mode-n-requires c =
 pub overflow_add-last : goal.overflow_add-last
 overflow_add-last c =
     let at-args = c in
-    record { fits = lt_of_le_of_lt c.requires.mode_bound.3 c.well-formed.1.1.0.0 }
+    record { fits = lt_of_le_of_lt c.requires.mode_bound.3 c.well_formed.1.1.0.0 }
 
 pub overflow_add-name : goal.overflow_add-name
 overflow_add-name c =
@@ -28,7 +28,7 @@ overflow_add-name c =
     let a = c.args in
     record {
       fits = (entry-places a.h a.e a.at put-mode.result (length a.out.now)
-          put-mode.ensures.size c.requires.e_in_bounds c.well-formed.0.0).0;
+          put-mode.ensures.size c.requires.e_in_bounds c.well_formed.0.0).0;
     }
 
 pub overflow_add-name-2 : goal.overflow_add-name-2
@@ -38,7 +38,7 @@ overflow_add-name-2 c =
     let a = c.args in
     record {
       fits = (entry-places a.h a.e a.at put-mode.result (length a.out.now)
-          put-mode.ensures.size c.requires.e_in_bounds c.well-formed.0.0).1;
+          put-mode.ensures.size c.requires.e_in_bounds c.well_formed.0.0).1;
     }
 
 pub overflow_sub-next : goal.overflow_sub-next
@@ -51,7 +51,7 @@ overflow_add-next c =
     let a = c.args in
     record {
       fits = (entry-places a.h a.e a.at put-mode.result (length a.out.now)
-          put-mode.ensures.size c.requires.e_in_bounds c.well-formed.0.0).2;
+          put-mode.ensures.size c.requires.e_in_bounds c.well_formed.0.0).2;
     }
 
 pub overflow_add-next-2 : goal.overflow_add-next-2
@@ -61,7 +61,7 @@ overflow_add-next-2 c =
     let a = c.args in
     record {
       fits = (entry-places a.h a.e a.at put-mode.result (length a.out.now)
-          put-mode.ensures.size c.requires.e_in_bounds c.well-formed.0.0).3;
+          put-mode.ensures.size c.requires.e_in_bounds c.well_formed.0.0).3;
     }
 
 pub slice_bounds-put_ended-count : goal.slice_bounds-put_ended-count
@@ -89,7 +89,7 @@ overflow_add-result c =
     let a = c.args in
     record {
       fits = (entry-places a.h a.e a.at put-mode.result (length a.out.now)
-          put-mode.ensures.size c.requires.e_in_bounds c.well-formed.0.0).4;
+          put-mode.ensures.size c.requires.e_in_bounds c.well_formed.0.0).4;
     }
 
 pub returns : goal.returns
@@ -101,8 +101,5 @@ returns c =
     let at-args = c in
     let a = c.args in
     let p = c.requires.mode_bound in
-    let m = c.put_mode-n.ensures in record {
-      value = entry_end a.h a.e a.at c.put_mode-n.result m.0;
-      out_after = entry-stored a.h a.bytes.now a.e (well_made _ _ _ p.0 p.1 p.2 p.3 p.4) _ _ _ _ _ _ _ _ refl
-          (ap (λ (n : ℕ). a.at + n + 1) m.0) refl m.1.1 c.put_ended.ensures put.ensures;
-    }
+    let m = c.put_mode-n.ensures in record { value = entry_end a.h a.e a.at c.put_mode-n.result m.0; out_after = entry-stored a.h a.bytes.now a.e (well_made _ _ _ p.0 p.1 p.2 p.3 p.4) _ _ _ _ _ _ _ _ refl
+          (ap (λ (n : ℕ). a.at + n + 1) m.0) refl m.1.1 c.put_ended.ensures put.ensures }

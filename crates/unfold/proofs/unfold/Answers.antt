@@ -21,7 +21,7 @@ pub returns-then-out-need : goal.returns-then-out-need
 returns-then-out-need c =
     let has-form = c.has_form in
     let if1 = c.if-well_formed in
-    let well-formed = c.well-formed in
+    let well-formed = c.well_formed-in-Open in
     let enum_told = c.in-Open in
     let sizes = c.sizes in
     let longer = c.longer in
@@ -40,7 +40,7 @@ returns-then-has_form c =
     let longer = c.longer in
     let sizes = c.sizes in
     let enum_told = c.in-Open in
-    let well-formed = c.well-formed in
+    let well-formed = c.well_formed-in-Open in
     let if1 = c.if-well_formed in
     let has-form = c.has_form in
     let if2 = c.if-has_form in
@@ -49,16 +49,13 @@ returns-then-has_form c =
     let plain-into = c.plain_into in
     let g = told (λ (k : ℕ). size_gate k 0) longer.ensures sizes.ensures enum_told.is in
     let p = plan_stores args.bytes.now args.x (length args.out.now) g (sym well-formed.ensures ∙ if1.true)
-    (sym has-form.ensures ∙ if2.true) _ plain-len.ensures if3.false in record {
-      answer = sym (answer-stores _ args.out.now _ p _ plain-len.ensures);
-      out = plain-into.ensures ∙ sym
-          (after-stores _ args.out.now _ p (omega (arith, plain-len.ensures, if3.false)));
-    }
+    (sym has-form.ensures ∙ if2.true) _ plain-len.ensures if3.false in record { answer = sym (answer-stores _ args.out.now _ p _ plain-len.ensures); out = plain-into.ensures ∙ sym
+          (after-stores _ args.out.now _ p (omega (arith, plain-len.ensures, if3.false))) }
 
 pub returns-then-well_formed : goal.returns-then-well_formed
 returns-then-well_formed c =
     let if1 = c.if-well_formed in
-    let well-formed = c.well-formed in
+    let well-formed = c.well_formed-in-Open in
     let enum_told = c.in-Open in
     let sizes = c.sizes in
     let longer = c.longer in
