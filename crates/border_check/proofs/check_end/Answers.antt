@@ -6,5 +6,5 @@ use Rattle.border_check.proofs.check_end.Goals as goal
 
 pub returns : goal.returns
 returns c =
-    let r = handed c.hand.ensures (c.finish.ensures ∙ ap finish_of c.marks_said.ensures) in
+    let r = handed (c.hand.ensures.value, c.hand.ensures.answer_after) (c.finish.ensures ∙ ap finish_of c.marks_said.ensures) in
     record { value = r.0; answer_after = r.1 }

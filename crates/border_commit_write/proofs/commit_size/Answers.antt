@@ -12,5 +12,5 @@ returns c =
     let x = c.parts_in-p.ensures in
     let a = c.args in
     let answer : CommitParts → Answer = λ p. commit_size a.h a.bytes.now p a.parents.now a.headers.now in
-    handed c.hand.ensures (c.commit_size.ensures ∙ ap answer x)) in
+    handed (c.hand.ensures.value, c.hand.ensures.answer_after) (c.commit_size.ensures ∙ ap answer x)) in
     record { value = r.0; answer_after = r.1 }

@@ -5,5 +5,5 @@ use Rattle.border_hex.proofs.id_of_hex.Goals as goal
 pub returns : goal.returns
 returns c =
     let r = (let work = c.id_of_hex in
-    handed_with c.hand.ensures work.ensures.value work.ensures.out_after) in
+    handed_with (c.hand.ensures.value, c.hand.ensures.answer_after) work.ensures.value work.ensures.out_after) in
     record { value = r.0; answer_after = r.1.0; out_after = r.1.1 }

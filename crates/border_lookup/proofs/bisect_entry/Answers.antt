@@ -4,5 +4,5 @@ use Rattle.border_lookup.proofs.bisect_entry.Goals as goal
 
 pub returns : goal.returns
 returns c =
-    let r = looked-handed c.hand_looked.ensures c.bisect_entry.ensures in
+    let r = looked-handed (c.hand_looked.ensures.value, c.hand_looked.ensures.answer_after) c.bisect_entry.ensures in
     record { value = r.0; answer_after = r.1 }

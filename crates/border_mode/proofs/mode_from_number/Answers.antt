@@ -4,5 +4,5 @@ use Rattle.border_mode.proofs.mode_from_number.Goals as goal
 
 pub returns : goal.returns
 returns c =
-    let r = mode-handed c.hand_mode.ensures c.from_u32.ensures in
+    let r = mode-handed (c.hand_mode.ensures.value, c.hand_mode.ensures.answer_after) c.from_u32.ensures in
     record { value = r.0; answer_after = r.1 }

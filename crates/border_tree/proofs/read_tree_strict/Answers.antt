@@ -5,5 +5,5 @@ use Rattle.border_tree.proofs.read_tree_strict.Goals as goal
 pub returns : goal.returns
 returns c =
     let r = (let read_tree_strict = c.read_tree_strict in
-    handed_with c.hand.ensures read_tree_strict.ensures.answer read_tree_strict.ensures.records) in
+    handed_with (c.hand.ensures.value, c.hand.ensures.answer_after) read_tree_strict.ensures.answer read_tree_strict.ensures.records) in
     record { value = r.0; answer_after = r.1.0; records_after = r.1.1 }

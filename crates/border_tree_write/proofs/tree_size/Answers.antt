@@ -4,5 +4,5 @@ use Rattle.border_tree_write.proofs.tree_size.Goals as goal
 
 pub returns : goal.returns
 returns c =
-    let r = handed c.hand.ensures c.tree_size.ensures in
+    let r = handed (c.hand.ensures.value, c.hand.ensures.answer_after) c.tree_size.ensures in
     record { value = r.0; answer_after = r.1 }

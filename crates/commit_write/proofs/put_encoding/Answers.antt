@@ -20,7 +20,7 @@ returns-then-p-eq1 c =
     let r = (let at-put-line = c in
     let at-if1 = c in
     let start = c in
-    rw (encoding-given c.args.bytes.now c.args.p c.if-p-eq1.true) c.put_line.ensures) in
+    rw (encoding-given c.args.bytes.now c.args.p c.if-p-eq1.true) (c.put_line.ensures.value, c.put_line.ensures.out_after)) in
     record { value = r.0; out_after = r.1 }
 
 pub returns : goal.returns

@@ -20,7 +20,7 @@ returns-then-is_double c =
     let is-double = c.is_double in
     let if1 = c.if-is_double in
     opened_double args.marks.now args.n args.p args.len args.was args.size args.folder shorter.result Open-next.result
-    Open-next.new.marks shorter.ensures Open-next.ensures (sym is-double.ensures ∙ if1.true)) in
+    Open-next.new.marks shorter.ensures (c.open_next-k.ensures.count, c.open_next-k.ensures.marks) (sym is-double.ensures ∙ if1.true)) in
     record { placed = r.0; marks = r.1 }
 
 pub returns : goal.returns
@@ -31,5 +31,5 @@ returns c =
     let is-double = c.is_double in
     let if1 = c.if-is_double in
     opened-fine args.marks.now args.n args.p args.len args.was args.size args.folder shorter.result Open-next.result
-    Open-next.new.marks shorter.ensures Open-next.ensures (sym is-double.ensures ∙ if1.false)) in
+    Open-next.new.marks shorter.ensures (c.open_next-k.ensures.count, c.open_next-k.ensures.marks) (sym is-double.ensures ∙ if1.false)) in
     record { placed = r.0; marks = r.1 }

@@ -13,7 +13,7 @@ returns-in-Below c =
     let open_entry = c.open_entry in
     went_below args.marks.now args.n args.last.now args.was args.name.now args.folder
     (decided_at _ _ _ _ _ common-start.ensures ∙ sym by_next.ensures ∙ enum_told.is) common-start.result common-start.ensures
-    open_entry.ensures) in
+    (c.open_entry.ensures.placed, c.open_entry.ensures.marks)) in
     record { placed = r.0; marks = r.1 }
 
 pub returns-in-Same : goal.returns-in-Same

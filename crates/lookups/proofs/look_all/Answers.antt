@@ -18,9 +18,9 @@ returns c =
     let each2 = c.each in
     let start = c in
     let args = c.args in
-    let first = each.ensures in
+    let first = (c.each-v.ensures.value, c.each-v.ensures.answers_after) in
     let copied = copy.ensures in
-    let last = each2.ensures in
+    let last = (c.each.ensures.value, c.each.ensures.answers_after) in
     let z = if1.false in
     let f = one_answer args.h args.object.now args.records.now args.names.now in
     ran_done _ _ _ _ args.answers.now _ first.0 z

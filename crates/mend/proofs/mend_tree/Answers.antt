@@ -38,5 +38,5 @@ returns-in-Open c =
     let mend-read = c.mend_read in
     let g = sym bounds.ensures ∙ enum_told.is in
     answer_all _ _ _ _ _ _ _ _ _ (gate_answer args.h args.bytes.now (length args.fates.now) (length args.out.now) _ longer.ensures g)
-    mend-read.ensures) in
+    (c.mend_read.ensures.answer, (c.mend_read.ensures.fates, c.mend_read.ensures.out))) in
     record { answer = r.0; fates = r.1.0; out = r.1.1 }

@@ -30,4 +30,4 @@ returns-in-Id c =
     let if1 = c.if-m-ge4294967296 in
     let phase2 = c.in-Id in
     inside (together args.held.now args.ends.now args.m) args.b if1.false
-    (body-id args.held.now args.ends.now args.m args.b _ _ _ _ phase2.is c.id_byte.ensures)
+    (body-id args.held.now args.ends.now args.m args.b _ _ _ _ phase2.is (c.id_byte.ensures.marks, c.id_byte.ensures.ends))

@@ -16,5 +16,5 @@ returns c =
     let r = (let args = c.args in
     let if1 = c.if-left-gt1 in
     id-last args.held.now args.ends.now args.m args.l args.left (judged args.held.now args.m.last args.l) if1.false refl _ _
-    (closes args.ends.now args.m args.l (judged args.held.now args.m.last args.l) c.close_entry.ensures)) in
+    (closes args.ends.now args.m args.l (judged args.held.now args.m.last args.l) (c.close_entry.ensures.marks, c.close_entry.ensures.ends))) in
     record { marks = r.0; ends = r.1 }

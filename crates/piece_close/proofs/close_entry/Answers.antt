@@ -20,5 +20,5 @@ returns c =
     let open_entry = c.open_entry-p in
     let Leaves-none = c.leaves_none-none in
     closed-placed args.ends.now args.m args.at args.l judge.result (judged args.held.now args.m.last args.l) judge.ensures
-    if1.false _ Leaves-none.ensures _ _ open_entry.ensures c.placed.ensures) in
+    if1.false _ Leaves-none.ensures _ _ (c.open_entry-p.ensures.placed, c.open_entry-p.ensures.marks) c.placed.ensures) in
     record { marks = r.0; ends = r.1 }

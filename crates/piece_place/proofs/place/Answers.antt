@@ -15,7 +15,7 @@ returns-in-Below c =
     put_all args.held.now args.ends.now args.last args.ended args.name.now args.folder shorter.result shorter.ensures
     (put-below args.held.now args.ends.now (up_to args.last shorter.result) args.ended args.name.now args.folder
     common-start.result common-start.ensures by_next.result by_next.ensures (omega (arith, shorter.ensures)) enum_told.is
-    open_entry.result _ _ open_entry.ensures put.ensures)) in
+    open_entry.result _ _ (c.open_entry-r.ensures.placed, c.open_entry-r.ensures.marks) put.ensures)) in
     record { placed = r.0; ends = r.1.0; held = r.1.1 }
 
 pub returns-in-Same : goal.returns-in-Same

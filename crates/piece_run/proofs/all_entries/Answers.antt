@@ -25,7 +25,7 @@ returns-then-t-r c =
     let if2 = c.loop-r-test in
     let one_entry = c.one_entry-t in
     all_stops args.piece.now args.h loop.r loop.held loop.ends _ loop.invariant.1 one_entry.result _ _ if2.true
-    one_entry.ensures c.if-t-r.true) in
+    (c.one_entry-t.ensures.run, (c.one_entry-t.ensures.held, c.one_entry-t.ensures.ends)) c.if-t-r.true) in
     record { run = r.0; held = r.1.0; ends = r.1.1 }
 
 pub loop-r-smaller : goal.loop-r-smaller
@@ -38,7 +38,7 @@ loop-r-smaller c =
       arith,
       if2.true,
       one-counted args.piece.now args.h loop.r loop.held loop.ends _ loop.invariant.1 one_entry.result _ _
-          if2.true one_entry.ensures c.if-t-r.false,
+          if2.true (c.one_entry-t.ensures.run, (c.one_entry-t.ensures.held, c.one_entry-t.ensures.ends)) c.if-t-r.false,
     )
 
 pub loop-r-preserved : goal.loop-r-preserved
@@ -48,9 +48,9 @@ loop-r-preserved c =
     let if2 = c.loop-r-test in
     let one_entry = c.one_entry-t in (
       all_fits args.piece.now args.h loop.r loop.held loop.ends _ loop.invariant.1 one_entry.result _ _ if2.true
-          one_entry.ensures loop.invariant.0,
+          (c.one_entry-t.ensures.run, (c.one_entry-t.ensures.held, c.one_entry-t.ensures.ends)) loop.invariant.0,
       all_goes args.piece.now args.h loop.r loop.held loop.ends _ loop.invariant.1
-          one_entry.result _ _ if2.true one_entry.ensures c.if-t-r.false,
+          one_entry.result _ _ if2.true (c.one_entry-t.ensures.run, (c.one_entry-t.ensures.held, c.one_entry-t.ensures.ends)) c.if-t-r.false,
     )
 
 pub returns : goal.returns

@@ -60,7 +60,7 @@ returns-in-Fine c =
     let place = c.place in
     let k = c.in-Fine in
     more-fine args.piece.now args.h args.r args.held.now args.ends.now seen_at.result seen_at.ensures if1.false
-    place.result _ _ place.ensures k.k k.is) in
+    place.result _ _ (c.place.ensures.placed, (c.place.ensures.ends, c.place.ensures.held)) k.k k.is) in
     record { run = r.0; held = r.1.0; ends = r.1.1 }
 
 pub returns-in-NotAfter : goal.returns-in-NotAfter
@@ -70,7 +70,7 @@ returns-in-NotAfter c =
     let if1 = c.if-end-eq0 in
     let place = c.place in
     more-not args.piece.now args.h args.r args.held.now args.ends.now seen_at.result seen_at.ensures if1.false
-    place.result _ _ place.ensures c.in-NotAfter.is) in
+    place.result _ _ (c.place.ensures.placed, (c.place.ensures.ends, c.place.ensures.held)) c.in-NotAfter.is) in
     record { run = r.0; held = r.1.0; ends = r.1.1 }
 
 pub returns-in-Double : goal.returns-in-Double
@@ -80,5 +80,5 @@ returns-in-Double c =
     let if1 = c.if-end-eq0 in
     let place = c.place in
     more_double args.piece.now args.h args.r args.held.now args.ends.now seen_at.result seen_at.ensures if1.false
-    place.result _ _ place.ensures c.in-Double.is) in
+    place.result _ _ (c.place.ensures.placed, (c.place.ensures.ends, c.place.ensures.held)) c.in-Double.is) in
     record { run = r.0; held = r.1.0; ends = r.1.1 }

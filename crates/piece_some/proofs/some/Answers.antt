@@ -25,5 +25,5 @@ returns c =
     let least2 = c.least-most in
     let if2 = c.if-most-eq0 in
     some-some args.held.now args.m args.piece.now args.i if1.false _ _ least.ensures least2.ensures if2.false _ _
-    c.some_at.ensures) in
+    (c.some_at.ensures.taken, c.some_at.ensures.held)) in
     record { taken = r.0; held = r.1 }

@@ -21,7 +21,7 @@ returns-in-Name c =
     let r = (let args = c.args in
     let phase2 = c.in-Name in
     let name-some = c.name_some-line in
-    in_name args.held.now args.m args.bytes.now _ phase2.is name-some.result _ name-some.ensures) in
+    in_name args.held.now args.m args.bytes.now _ phase2.is name-some.result _ (c.name_some-line.ensures.line, c.name_some-line.ensures.held)) in
     record { taken = r.0; held = r.1 }
 
 pub returns-in-Id : goal.returns-in-Id

@@ -21,7 +21,7 @@ returns-then-piece-at c =
     let whole = c.whole-t in
     let some = c.some-t in
     sym (loop.invariant.0 ∙ turn_end loop.held loop.ends loop.t.marks args.piece.now loop.t.next whole.new.held whole.new.ends.0
-    whole.result whole.ensures some.new.held some.result some.ensures c.if-piece-at.true)
+    whole.result (c.whole-t.ensures.took, c.whole-t.ensures.room) some.new.held some.result (c.some-t.ensures.taken, c.some-t.ensures.held) c.if-piece-at.true)
 
 pub step-t-requires : goal.step-t-requires
 step-t-requires c = tt
@@ -40,7 +40,7 @@ loop-t-smaller c =
     omega (
       arith,
       turn-from loop.held loop.ends loop.t.marks args.piece.now loop.t.next whole.new.held whole.new.ends.0
-          whole.result whole.ensures some.new.held some.result some.ensures,
+          whole.result (c.whole-t.ensures.took, c.whole-t.ensures.room) some.new.held some.result (c.some-t.ensures.taken, c.some-t.ensures.held),
       c.if-piece-at.false,
     )
 
@@ -52,7 +52,7 @@ loop-t-preserved c =
     let some = c.some-t in
     let if1 = c.if-piece-at in (
       loop.invariant.0 ∙ turn_step loop.held loop.ends loop.t.marks args.piece.now loop.t.next whole.new.held whole.new.ends.0
-          whole.result whole.ensures some.new.held some.result some.ensures if1.false
+          whole.result (c.whole-t.ensures.took, c.whole-t.ensures.room) some.new.held some.result (c.some-t.ensures.taken, c.some-t.ensures.held) if1.false
           c.step-t.new.held c.step-t.new.ends.0 c.step-t.result c.step-t.ensures,
       omega (arith, if1.false),
     )

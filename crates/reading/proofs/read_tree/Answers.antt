@@ -19,5 +19,5 @@ returns-in-Open c =
     let args = c.args in
     let plain = listing args.h args.bytes.now in
     read-both args.h args.bytes.now args.records.now plain (plain-refuses _ _) (λ n t. refl) (sym bounds.ensures ∙ enum_told.is)
-    refl read_plain.ensures) in
+    refl (c.read_plain.ensures.answer, c.read_plain.ensures.records)) in
     record { answer = r.0; records = r.1 }

@@ -41,5 +41,5 @@ returns-in-After c =
     let last = c.in-After in
     let args = c.args in
     stood-by args.s.now args.marks.now args.n args.e last.p last.is is-folder.ensures is-folder2.ensures
-    place_entry.ensures) in
+    (c.place_entry.ensures.placed, c.place_entry.ensures.marks)) in
     record { placed = r.0; marks = r.1 }

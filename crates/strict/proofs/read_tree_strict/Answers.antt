@@ -29,5 +29,5 @@ returns-in-Open c =
     let args = c.args in
     let R = git_rules args.rules in
     read-both args.h args.bytes.now args.records.now (strictly R args.h args.bytes.now) (cut-refuses R _ _) (λ n t. strict-plain R _ _ n t)
-    (sym rule_bounds.ensures ∙ enum_told.is) count_strict.ensures finish.ensures) in
+    (sym rule_bounds.ensures ∙ enum_told.is) count_strict.ensures (c.finish.ensures.answer, c.finish.ensures.records)) in
     record { answer = r.0; records = r.1 }

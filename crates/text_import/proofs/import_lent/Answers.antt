@@ -26,5 +26,5 @@ returns-in-Open c =
     let enum_told = c.in-Open in
     let import-open = c.import_open in
     lent-whole args.rules args.h args.text.now args.out.now args.list.now (sym bounds.ensures ∙ enum_told.is) _ _ _
-    import-open.ensures) in
+    (c.import_open.ensures.answer, (c.import_open.ensures.out, c.import_open.ensures.list))) in
     record { answer = r.0; out = r.1.0; list = r.1.1 }

@@ -22,5 +22,5 @@ returns c =
     let if1 = c.if-number-ne-FEW_RECORDS in
     let import-large = c.import_large in
     both-after args.rules args.h args.text.now (left_alone args.rules args.h args.text.now pre.0 pre.1 args.out.now 1024 _ _
-    import-small.ensures.answer import-small.ensures.out if1.false) _ _ import-large.ensures) in
+    import-small.ensures.answer import-small.ensures.out if1.false) _ _ (c.import_large.ensures.answer, c.import_large.ensures.out)) in
     record { answer = r.0; out = r.1 }

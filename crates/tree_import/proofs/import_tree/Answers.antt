@@ -34,5 +34,5 @@ returns-in-Open c =
     let opened = c.import_open in
     both-whole args.rules args.h args.text.now args.out.now _ _
     (import-open args.rules args.h args.text.now (length args.out.now) _ longer.ensures (sym rule_bounds.ensures ∙ enum_told.is))
-    opened.ensures) in
+    (c.import_open.ensures.answer, c.import_open.ensures.out)) in
     record { answer = r.0; out = r.1 }
