@@ -5,7 +5,6 @@ use Rattle.border_commit.proofs.read_commit.Goals as goal
 
 pub returns : goal.returns
 returns c =
-    let r = (let p = (c.hand_commit.ensures.value, c.hand_commit.ensures.answer_after) in
+    let p = (c.hand_commit.ensures.value, c.hand_commit.ensures.answer_after) in
     let e = (c.read_commit.ensures.answer, (c.read_commit.ensures.parents, c.read_commit.ensures.headers)) in
-    (p.0 ∙ ap (λ a. a.verdict.number) e.0, (p.1 ∙ ap commit_numbers e.0, e.1))) in
-    record { value = r.0; answer_after = r.1.0; parents_after = r.1.1.0; headers_after = r.1.1.1 }
+    record { value = p.0 ∙ ap (λ a. a.verdict.number) e.0; answer_after = p.1 ∙ ap commit_numbers e.0; parents_after = e.1.0; headers_after = e.1.1 }

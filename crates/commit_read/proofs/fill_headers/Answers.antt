@@ -42,7 +42,7 @@ loop-x-preserved c =
     let g = sym extra-at.ensures ∙ x-at.is in
     let x = extra_next _ _ g in (
       omega (arith, x, loop.invariant.0),
-      put_header.auto.0 ∙ loop.invariant.1,
+      put_header.auto.headers ∙ loop.invariant.1,
       loop.invariant.2 ∙ written-more _ _ loop.n _ _
           (heads-more _ _ _ (omega (arith, x, loop.invariant.0)) g) put_header.ensures,
     )

@@ -48,7 +48,7 @@ loop-i-preserved-then-prev-eq10 c =
     let loop = loop1 in
     let args = args1 in (
       omega arith,
-      put-byte2.auto.0 ∙ put_byte.auto.0 ∙ loop.invariant.1,
+      put-byte2.auto.out ∙ put_byte.auto.out ∙ loop.invariant.1,
       omega (arith, loop.invariant.2),
       left-next (32 ∷ get_or args.v.now loop.i 0 ∷ []) _ _
           _ loop.invariant.3 (fold_space loop.prev args.v.now loop.i loop-test.true if1.true)
@@ -80,7 +80,7 @@ loop-i-preserved c =
     let loop = loop1 in
     let args = args1 in (
       omega arith,
-      put-byte3.auto.0 ∙ loop.invariant.1,
+      put-byte3.auto.out ∙ loop.invariant.1,
       omega (arith, loop.invariant.2),
       left-next (get_or args.v.now loop.i 0 ∷ []) _ _ _ loop.invariant.3
           (fold_on loop.prev args.v.now loop.i loop-test.true if1.false) put-byte3.ensures (omega arith),
@@ -107,7 +107,7 @@ overflow_add-result c =
 pub shape_of-out : goal.shape_of-out
 shape_of-out c =
     let loop = c.loop-i in
-    c.put_byte-2.auto.0 ∙ loop.invariant.1
+    c.put_byte-2.auto.out ∙ loop.invariant.1
 
 pub returns : goal.returns
 returns c =

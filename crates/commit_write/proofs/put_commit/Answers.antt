@@ -92,8 +92,8 @@ shape_of-out c =
     let at-put-line = c in
     let at-put-parents = c in
     let at-put-id-line = c in
-    c.put_message.auto.0 ∙ c.put_headers-f.auto.0 ∙ c.put_encoding-e.auto.0
-    ∙ c.put_line-d.auto.0 ∙ c.put_line-c.auto.0 ∙ c.put_parents-b.auto.0 ∙ c.put_id_line-a.auto.0
+    c.put_message.auto.out ∙ c.put_headers-f.auto.out ∙ c.put_encoding-e.auto.out
+    ∙ c.put_line-d.auto.out ∙ c.put_line-c.auto.out ∙ c.put_parents-b.auto.out ∙ c.put_id_line-a.auto.out
 
 pub returns : goal.returns
 returns c =

@@ -30,7 +30,7 @@ loop-i-preserved c =
     let loop = loop1 in
     let args = args1 in (
       omega arith,
-      put_byte.auto.0 ∙ loop.invariant.1,
+      put_byte.auto.out ∙ loop.invariant.1,
       left-next (lower_digit (get_or args.digits.now loop.i 0) ∷ []) _ _ _ loop.invariant.2
           (digits_more args.digits.now loop.i loop-test.true) (put_byte.ensures ∙ rw lower.ensures) (omega arith),
     )

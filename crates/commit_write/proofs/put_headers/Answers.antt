@@ -44,7 +44,7 @@ loop-i-preserved c =
     in
     let f : header_fits args.bytes.now header_at.result ≡ true = rw header_at.ensures s.0 in (
       omega arith,
-      put_header.auto.0 ∙ loop.invariant.1,
+      put_header.auto.out ∙ loop.invariant.1,
       s.1,
       omega (
         arith,

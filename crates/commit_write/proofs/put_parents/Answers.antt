@@ -47,7 +47,7 @@ loop-i-preserved c =
     let most = id-line_le args.h args.bytes.now (get_or args.parents.now loop.i 0) c.requires.h_bound.0 s.0 in
     let next = parents-next args.h args.bytes.now args.parents.now loop.i c.loop-i-test.true in (
       omega arith,
-      c.put_id_line-to.auto.0 ∙ loop.invariant.1,
+      c.put_id_line-to.auto.out ∙ loop.invariant.1,
       s.1,
       omega (
         arith,

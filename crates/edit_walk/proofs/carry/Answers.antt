@@ -95,7 +95,7 @@ loop-left-preserved-in-Keep c =
     let taken = loop-test.true in
     let next = next2.is in
     walking_keep _ _ _ _ _ _ _ _ _ _ _ _ loop.invariant taken _ is-tree.ensures _ turn_at.ensures _ pre.2
-    (keep_leads _ _ _ _ _ _ _ _ _ _ _ _ loop.invariant taken _ is-tree.ensures _ turn_at.ensures _ next) next _ put.auto.0 put.ensures
+    (keep_leads _ _ _ _ _ _ _ _ _ _ _ _ loop.invariant taken _ is-tree.ensures _ turn_at.ensures _ next) next _ put.auto.out put.ensures
 
 pub put_new-from-requires : goal.put_new-from-requires
 put_new-from-requires c =
@@ -178,7 +178,7 @@ loop-left-preserved c =
     let put = put2 in
     walking_first _ _ _ _ _ _ _ _ _ _ _ _ loop.invariant taken _ is-tree.ensures _ turn_at.ensures _ pre.2
     (first_leads _ _ _ _ _ _ _ _ _ _ _ _ loop.invariant taken _ is-tree.ensures _ turn_at.ensures _ next) next _ _ _
-    put-new.ensures.next.0 put-new.ensures.next.1 put-new.ensures.out put-new.auto.0 put.auto.0 put.ensures
+    put-new.ensures.next.0 put-new.ensures.next.1 put-new.ensures.out put-new.auto.out put.auto.out put.ensures
 
 pub shape_of-out-then-placed : goal.shape_of-out-then-placed
 shape_of-out-then-placed c =
@@ -202,7 +202,7 @@ pub shape_of-out : goal.shape_of-out
 shape_of-out c =
     let put-new2 = c.put_new-end in
     let loop = c.loop-left in
-    put-new2.auto.0 ∙ loop.invariant.lent
+    put-new2.auto.out ∙ loop.invariant.lent
 
 pub returns : goal.returns
 returns c =

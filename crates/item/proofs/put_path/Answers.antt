@@ -36,7 +36,7 @@ bounds-paths-slash c =
     omega (
       arith,
       (room_says args.ps args.pl args.m (length args.paths.now) has_room.result has_room.ensures if2.true).1,
-      copy-down.auto.0,
+      copy-down.auto.paths,
     )
 
 pub overflow_add-slash-then-has_room : goal.overflow_add-slash-then-has_room
@@ -47,7 +47,7 @@ overflow_add-slash-then-has_room c =
     omega (arith, (room_says args.ps args.pl args.m (length args.paths.now) has_room.result has_room.ensures if2.true).1)
 
 pub shape_of-paths : goal.shape_of-paths
-shape_of-paths c = c.put-then-has_room.auto.0 ∙ simp length-set c.copy_down.auto.0
+shape_of-paths c = c.put-then-has_room.auto.out ∙ simp length-set c.copy_down.auto.out
 
 pub returns-then-has_room : goal.returns-then-has_room
 returns-then-has_room c =

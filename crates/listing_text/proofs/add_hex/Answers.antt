@@ -19,7 +19,7 @@ loop-i-preserved c =
     let at-args = c in
     let l = c.loop-i in
     let e = c.add-p.ensures in (
-      c.add-p.auto.0 ∙ l.invariant.0,
+      c.add-p.auto.out ∙ l.invariant.0,
       omega arith,
       omega (arith, e.place, l.invariant.2),
       hex-turn c.args.bytes.now

@@ -28,7 +28,7 @@ loop-i-preserved c =
     let at-args = c in
     let l = c.loop-i in
     let e = c.add_line-p.ensures in (
-      c.add_line-p.auto.0 ∙ l.invariant.0,
+      c.add_line-p.auto.out ∙ l.invariant.0,
       l.invariant.1,
       omega arith,
       omega (arith, e.1, l.invariant.3),

@@ -42,7 +42,7 @@ loop-i-preserved c =
     let looked = c.look-a.ensures in
     let fine = c.if-a-eq-BAD_RECORD.false in
     let put = c.put_answer in (
-      put.auto.0 ∙ loop.invariant.0,
+      put.auto.answers ∙ loop.invariant.0,
       loop.invariant.1 ∙ bad-next _ _ _ more _ read _ looked fine,
       loop.invariant.2 ∙ kept_next _ _ _ more _ read _ looked _ _ put.ensures,
     )

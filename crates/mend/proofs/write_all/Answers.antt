@@ -23,7 +23,7 @@ loop-i-preserved c =
     let loop = c.loop-i in
     let loop-test = c.loop-i-test in
     let write-one = c.write_one-at in
-    writing-turn _ _ _ _ _ _ _ loop.invariant loop-test.true c.requires.s_len_bound _ refl _ write-one.ensures.value _ write-one.auto.0 write-one.ensures.out_after
+    writing-turn _ _ _ _ _ _ _ loop.invariant loop-test.true c.requires.s_len_bound _ refl _ write-one.ensures.value _ write-one.auto.out write-one.ensures.out_after
 
 pub shape_of-out : goal.shape_of-out
 shape_of-out c = c.loop-i.invariant.size

@@ -18,9 +18,9 @@ returns-then-n-end c =
     let mode-at = c.in-Mode in
     let find-nul = c.find_nul-end in
     let if1 = c.if-n-end in
-    part_nul (take shorter.result args.t1) _ _ _ (sym extract-at.ensures ∙ mode-at.is) find-nul.ensures
-    (omega (arith, if1.true, length-take-le shorter.result args.t1 (omega (arith, shorter.ensures)))) ∙ ap (λ (b : List ℕ). head_part b (read_mode b))
-    (head-cut args.t1 args.k _ (omega arith) shorter.ensures)
+    part_nul (take shorter.result args.head) _ _ _ (sym extract-at.ensures ∙ mode-at.is) find-nul.ensures
+    (omega (arith, if1.true, length-take-le shorter.result args.head (omega (arith, shorter.ensures)))) ∙ ap (λ (b : List ℕ). head_part b (read_mode b))
+    (head-cut args.head args.k _ (omega arith) shorter.ensures)
 
 pub returns-in-Bad : goal.returns-in-Bad
 returns-in-Bad c =
@@ -29,7 +29,7 @@ returns-in-Bad c =
     let extract-at = c.extract_at in
     let enum_told = c.in-Bad in
     part-bad _ (sym extract-at.ensures ∙ enum_told.is) ∙ ap (λ (b : List ℕ). head_part b (read_mode b))
-    (head-cut args.t1 args.k _ (omega arith) shorter.ensures)
+    (head-cut args.head args.k _ (omega arith) shorter.ensures)
 
 pub returns-else-n-end : goal.returns-else-n-end
 returns-else-n-end c =
@@ -39,6 +39,6 @@ returns-else-n-end c =
     let mode-at = c.in-Mode in
     let find-nul = c.find_nul-end in
     let if1 = c.if-n-end in
-    part-id (take shorter.result args.t1) _ _ _ (sym extract-at.ensures ∙ mode-at.is) find-nul.ensures
-    (λ z. omega (arith, if1.false, length-take-le shorter.result args.t1 (omega (arith, shorter.ensures)))) ∙ ap
-    (λ (b : List ℕ). head_part b (read_mode b)) (head-cut args.t1 args.k _ (omega arith) shorter.ensures)
+    part-id (take shorter.result args.head) _ _ _ (sym extract-at.ensures ∙ mode-at.is) find-nul.ensures
+    (λ z. omega (arith, if1.false, length-take-le shorter.result args.head (omega (arith, shorter.ensures)))) ∙ ap
+    (λ (b : List ℕ). head_part b (read_mode b)) (head-cut args.head args.k _ (omega arith) shorter.ensures)

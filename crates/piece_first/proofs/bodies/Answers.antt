@@ -16,10 +16,10 @@ loop-k-preserved c =
     let args = c.args in
     let loop = c.loop-k in
     let here = together loop.held loop.ends loop.out in
-    bodies-turn _ here args.t4 loop.k 2147483648 (omega arith) _ (within here _ (omega arith) c.body_within-out.ensures) loop.invariant
+    bodies-turn _ here args.head loop.k 2147483648 (omega arith) _ (within here _ (omega arith) c.body_within-out.ensures) loop.invariant
 
 pub returns : goal.returns
 returns c =
     let args = c.args in
     let loop = c.loop-k in
-    sym (loop.invariant.0 ∙ bodies_end (together loop.held loop.ends loop.out) args.t4 loop.k (omega arith))
+    sym (loop.invariant.0 ∙ bodies_end (together loop.held loop.ends loop.out) args.head loop.k (omega arith))

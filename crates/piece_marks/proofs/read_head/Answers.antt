@@ -8,4 +8,4 @@ returns c =
     let args = c.args in
     let shorter = c.shorter-n in
     let extract-at = c.extract_at in
-    read-cut args.t1 args.k _ _ shorter.ensures (omega arith) extract-at.ensures
+    read-cut args.head args.k _ _ shorter.ensures (omega arith) extract-at.ensures

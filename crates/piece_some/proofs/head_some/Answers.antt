@@ -14,4 +14,4 @@ pub returns : goal.returns
 returns c =
     let args = c.args in
     let head-most = c.head_most-n in
-    head-is args.t1 args.k args.bytes.now _ _ head-most.ensures _ c.put.ensures
+    head-is args.head args.k args.bytes.now _ _ head-most.ensures _ c.put.ensures

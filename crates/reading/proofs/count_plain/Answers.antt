@@ -95,7 +95,7 @@ loop-at-preserved c =
     let named = ap (λ (k : ℕ). loop.at + k % 16) mode-code.ensures ∙ ap (name_at args.s.now) loop.invariant.3 in (
       omega arith,
       loop.invariant.1 ∙ ap (tally loop.n) (rest-whole _ _ _ _ loop-test.true if1.false d),
-      remember.auto.0 ∙ loop.invariant.2,
+      remember.auto.lengths ∙ loop.invariant.2,
       place_after args.h args.s.now loop.n loop.at _ _ loop.invariant.3 mode-code.ensures find-nul.ensures,
       rw remember.ensures (keeps args.h args.s.now loop.lengths loop.n _ _ named find-nul.ensures loop.invariant.4),
     )

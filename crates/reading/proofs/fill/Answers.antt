@@ -96,7 +96,7 @@ loop-n-preserved c =
     let e = whole_here args.h args.s.now loop.at loop.n if1.false d in
     let fits = pre.0 in
     let same = loop.invariant.0 in
-    let kept = put_entry.auto.0 ∙ loop.invariant.0 in
+    let kept = put_entry.auto.records ∙ loop.invariant.0 in
     let turned = store-turn loop.records _ loop.n _ args.count _ _ _ e (omega arith) loop-test.true put_entry.ensures loop.invariant.1 in
     (kept, turned, place_after args.h args.s.now loop.n loop.at _ _ loop.invariant.2 mode-code.ensures name-end.ensures)
 

@@ -39,7 +39,7 @@ loop-i-preserved c =
     let loop-test = c.loop-i-test in
     let place_of = c.place_of-place in
     let write-one = c.write_one-at in
-    writing-turn _ _ _ _ _ _ _ _ loop.invariant c.requires.all_read loop-test.true c.requires.text_len_bound.0 place_of.ensures _ _ write-one.auto.0 write-one.ensures.value
+    writing-turn _ _ _ _ _ _ _ _ loop.invariant c.requires.all_read loop-test.true c.requires.text_len_bound.0 place_of.ensures _ _ write-one.auto.out write-one.ensures.value
     write-one.ensures.out_after
 
 pub shape_of-out : goal.shape_of-out

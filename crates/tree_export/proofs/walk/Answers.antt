@@ -31,7 +31,7 @@ loop-c-preserved c =
     let e = c.in-Whole in
     let put_record = c.put_record-p in (
       walking_more _ _ _ _ _ _ _ loop.invariant.0 if2.false _ _ (sym decode.ensures ∙ e.is) _ _ put_record.ensures,
-      put_record.auto.0 ∙
+      put_record.auto.out ∙
           loop.invariant.1,
     )
 

@@ -33,7 +33,7 @@ loop-i-preserved c =
     let q = write-entry.ensures.out_after in (
       omega arith,
       refl,
-      write-entry.auto.0 ∙ l.invariant.2,
+      write-entry.auto.out ∙ l.invariant.2,
       rw p s.2,
       l.invariant.4 ∙ written_next _ _ _ l.i l.at _ loop-test.true
           c.entry_at-e.ensures l.out s.0 ∙ rw (p, q),

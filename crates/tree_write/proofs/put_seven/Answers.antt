@@ -9,18 +9,18 @@ use borrow.Author.Rules.{rules}
 use Rattle.tree_write.proofs.put_seven.Goals as goal
 
 pub loop-k-init : goal.loop-k-init
-loop-k-init c = let z : c.args.at ≡ c.args.at + 0 = omega arith in (omega arith, refl, ap (λ (k : ℕ). sets c.args.out.now k c.args.t3) z)
+loop-k-init c = let z : c.args.at ≡ c.args.at + 0 = omega arith in (omega arith, refl, ap (λ (k : ℕ). sets c.args.out.now k c.args.d) z)
 
 pub loop-k-preserved : goal.loop-k-preserved
 loop-k-preserved c =
     let args = c.args in
     let loop = c.loop-k in
-    let more : loop.k < length args.t3 = search rules in
-    (omega arith, simp length-set loop.invariant.1, loop.invariant.2 ∙ sets_more loop.out args.t3 args.at loop.k more)
+    let more : loop.k < length args.d = search rules in
+    (omega arith, simp length-set loop.invariant.1, loop.invariant.2 ∙ sets_more loop.out args.d args.at loop.k more)
 
 pub returns : goal.returns
 returns c =
     let args = c.args in
     let loop = c.loop-k in
-    let end : length args.t3 ≤ loop.k = search rules in
-    sym (loop.invariant.2 ∙ sets-none loop.out args.t3 (args.at + loop.k) loop.k end)
+    let end : length args.d ≤ loop.k = search rules in
+    sym (loop.invariant.2 ∙ sets-none loop.out args.d (args.at + loop.k) loop.k end)

@@ -1,0 +1,105 @@
+-- The cycle of calls {walk}: the number of components left falls. Assumes nothing.
+use native.Mathlib.Omega.{arith}
+use mathlib.Core.Path.{sym}
+use lib.ListN.{length}
+use lib.Seq.{length-take-le}
+use Rattle.ground.proofs.Laws.{count-le}
+use Rattle.path_walk.proofs.Laws.{walk_ends, walk_none, walk-on, walk_falls, slash-inside, id-inside}
+use Rattle.path_walk.proofs.+walk.Goals as goal
+
+pub slice_bounds-step_to-end : goal.slice_bounds-step_to-end
+slice_bounds-step_to-end t c =
+    let count-to = c.count_to-n in
+    let args = c.args in
+    sym (length-take-le _ _ (omega (arith, count-to.ensures, count-le 47 args.path.now)))
+
+pub returns-then-n-path : goal.returns-then-n-path
+returns-then-n-path t c =
+    let count-to = c.count_to-n in
+    let step-to = c.step_to-spot in
+    walk_ends _ _ _ _ _ _ count-to.ensures step-to.ensures c.if-n-path.true
+
+pub overflow_add-end : goal.overflow_add-end
+overflow_add-end t c =
+    omega (
+      arith,
+      id-inside _ _ _ _ _ _ c.count_to-n.ensures
+          c.step_to-spot.ensures c.if-n-path.false _ _ c.in-At.is,
+    )
+
+pub overflow_add-rest : goal.overflow_add-rest
+overflow_add-rest t c =
+    omega (
+      arith,
+      slash-inside _ _ _ _ _ _ c.count_to-n.ensures
+          c.step_to-spot.ensures c.if-n-path.false,
+    )
+
+pub slice_bounds-walk-count : goal.slice_bounds-walk-count
+slice_bounds-walk-count t c =
+    omega arith
+
+pub slice_bounds-walk-start : goal.slice_bounds-walk-start
+slice_bounds-walk-start t c =
+    omega arith
+
+pub slice_bounds-walk-end : goal.slice_bounds-walk-end
+slice_bounds-walk-end t c =
+    id-inside _ _ _ _ _ _ c.count_to-n.ensures c.step_to-spot.ensures
+    c.if-n-path.false _ _ c.in-At.is
+
+pub slice_bounds-walk-count-in-At : goal.slice_bounds-walk-count-in-At
+slice_bounds-walk-count-in-At t c =
+    slash-inside _ _ _ _ _ _ c.count_to-n.ensures
+    c.step_to-spot.ensures c.if-n-path.false
+
+pub slice_bounds-walk-start-in-At : goal.slice_bounds-walk-start-in-At
+slice_bounds-walk-start-in-At t c =
+    slash-inside _ _ _ _ _ _ c.count_to-n.ensures
+    c.step_to-spot.ensures c.if-n-path.false
+
+pub slice_bounds-walk-end-in-At : goal.slice_bounds-walk-end-in-At
+slice_bounds-walk-end-in-At t c =
+    omega arith
+
+pub walk-requires : goal.walk-requires
+walk-requires t c = (
+  walk_falls _ _ _ _ _ _ c.count_to-n.ensures
+      c.step_to-spot.ensures c.if-n-path.false
+      c.decreases,
+  tt,
+)
+
+pub returns-in-Nowhere : goal.returns-in-Nowhere
+returns-in-Nowhere t c =
+    let count-to = c.count_to-n in
+    let step-to = c.step_to-spot in
+    let if1 = c.if-n-path in
+    walk_none _ _ _ _ _ _ count-to.ensures step-to.ensures if1.false c.in-Nowhere.is
+
+pub returns-in-At : goal.returns-in-At
+returns-in-At t c =
+    walk-on _ _ _ _ _ _ c.count_to-n.ensures
+    c.step_to-spot.ensures
+    c.if-n-path.false _ _ c.in-At.is _ c.walk.ensures
+
+pub +walk-spec : {M : Type 1} → statement M
++walk-spec = close μ-walk λ t. walk-lts.spec (walk-claims t) (walk_at t)
+    walk.Post
+    (walk-count-to-requires t)
+    (walk-slice-aggregate-step-to t)
+    (walk-step-to-requires t)
+    (walk-returns t)
+    (walk-enum-told t)
+    (walk-enum-known-spot t)
+    (walk-add-end t)
+    (walk-add-rest t)
+    (walk-sub-walk t)
+    (walk-part-walk-start t)
+    (walk-part-walk-end t)
+    (walk-sub-walk-2 t)
+    (walk-part-walk-start-2 t)
+    (walk-part-walk-end-2 t)
+    (walk-walk-requires t)
+    (walk-returns-2 t)
+    (walk-returns-3 t)
