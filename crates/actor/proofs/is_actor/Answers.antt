@@ -2,6 +2,7 @@
 use mathlib.Core.Path.{sym, ap, ◌∙◌}
 use Prim.Native.Nat.{◌+◌}
 use native.Mathlib.Omega.{arith}
+use lib.ListN.{length-take}
 use Rattle.actor.specs.Actor.{is_addressed}
 use Rattle.ground.proofs.Laws.{part-from, count-le}
 use Rattle.actor.proofs.Laws.{actor_end, actor_other, actor_is}
@@ -9,6 +10,11 @@ use Rattle.actor.proofs.is_actor.Goals as goal
 
 pub returns-then-n-v : goal.returns-then-n-v
 returns-then-n-v c = sym (actor_end c.args.v.now _ c.count_to-n.ensures (omega (arith, c.if-n-v.true)))
+
+pub slice_bounds-is_named-end : goal.slice_bounds-is_named-end
+slice_bounds-is_named-end c =
+    let args = c.args in
+    simp length-take (omega (arith, c.count_to-n.ensures, count-le 60 args.v.now))
 
 pub overflow_add-k : goal.overflow_add-k
 overflow_add-k c =

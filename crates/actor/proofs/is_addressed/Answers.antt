@@ -2,6 +2,7 @@
 use mathlib.Core.Path.{sym, ap, ◌∙◌}
 use Prim.Native.Nat.{◌+◌}
 use native.Mathlib.Omega.{arith}
+use lib.ListN.{length-take}
 use Rattle.actor.specs.Actor.{is_time}
 use Rattle.ground.proofs.Laws.{part-from, count-le}
 use Rattle.actor.proofs.Laws.{address-none, address-not, address_end, address_other, address_is}
@@ -23,6 +24,12 @@ returns-then-a-n-ne32 c =
     let count-to = c.count_to-n in
     let args = c.args in
     sym (address-not args.a.now _ count-to.ensures c.if-n-eq0.false c.if-a-n-ne32.true)
+
+pub slice_bounds-all_of-end : goal.slice_bounds-all_of-end
+slice_bounds-all_of-end c =
+    let count-to = c.count_to-n in
+    let args = c.args in
+    simp length-take (omega (arith, count-to.ensures, count-le 62 args.a.now))
 
 pub returns-then-all_of : goal.returns-then-all_of
 returns-then-all_of c =

@@ -2,6 +2,7 @@
 use mathlib.Core.Path.{sym, ap, ◌∙◌}
 use Prim.Native.Nat.{◌+◌}
 use native.Mathlib.Omega.{arith}
+use lib.ListN.{length-take}
 use Rattle.actor.specs.Actor.{is_zone}
 use Rattle.ground.proofs.Laws.{part-from, count-le}
 use Rattle.actor.proofs.Laws.{time-none, time-long, time_end, time_other, time-is}
@@ -20,6 +21,12 @@ returns-then-n-d c =
     let count-to = c.count_to-n in
     let args = c.args in
     sym (time_end args.d.now _ count-to.ensures c.if-n-eq0.false (omega (arith, c.if-n-gt10.false)) (omega (arith, c.if-n-d.true)))
+
+pub slice_bounds-all_of-end : goal.slice_bounds-all_of-end
+slice_bounds-all_of-end c =
+    let count-to = c.count_to-n in
+    let args = c.args in
+    simp length-take (omega (arith, count-to.ensures, count-le 32 args.d.now))
 
 pub slice_bounds-is_zone-count : goal.slice_bounds-is_zone-count
 slice_bounds-is_zone-count c =

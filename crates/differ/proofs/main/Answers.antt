@@ -1,5 +1,17 @@
 -- `differ::main` meets its contract: of the large arrays only their lengths are looked at. Assumes nothing.
+use Prim.Native.Nat.{ℕ}
+use mathlib.Core.Path.{sym}
+use lib.ListN.{length-replicate}
 use Rattle.differ.proofs.main.Goals as goal
+
+pub slice_bounds-work-end : goal.slice_bounds-work-end
+slice_bounds-work-end c = sym (length-replicate {A = ℕ} 2400000 0)
+
+pub slice_bounds-work-end-2 : goal.slice_bounds-work-end-2
+slice_bounds-work-end-2 c = sym (length-replicate {A = ℕ} 60000 0)
+
+pub slice_bounds-work-end-3 : goal.slice_bounds-work-end-3
+slice_bounds-work-end-3 c = sym (length-replicate {A = ℕ} 600000 0)
 
 pub work-requires : goal.work-requires
 work-requires c = tt

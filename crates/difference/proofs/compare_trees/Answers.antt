@@ -15,9 +15,9 @@ compare_in-requires c =
     let open-roots = c.open_roots in
     let k = c.in-Open-open_roots in record {
       bundle_len_bound = ending.size-within (length args.bundle.now) (length args.paths.now) (length args.left.now) (length args.right.now) _ sizes.result
-          (ending.gate-is _ _ _ _ (length args.bundle.now) (length args.paths.now) (length args.left.now) (length args.right.now) _ sizes.ensures
+          (ending.gate_is _ _ _ _ (length args.bundle.now) (length args.paths.now) (length args.left.now) (length args.right.now) _ sizes.ensures
           longer3.ensures longer.ensures longer2.ensures) enum_told.is;
-      index = roots.roots-indexed _ _ _ _ open-roots.ensures _ k.is;
+      index = roots.roots_indexed _ _ _ _ open-roots.ensures _ k.is;
       count_le_most_records = roots.roots_few _ _ _ _ open-roots.ensures _ k.is;
     }
 
@@ -29,8 +29,8 @@ returns-in-Shut c =
     let longer3 = c.longer-most in
     let sizes = c.sizes in
     let v = c.in-Shut in
-    ending.answers-gate args.bundle.now args.left.now args.right.now args.items.now args.paths.now sizes.result
-    (ending.gate-is _ _ _ _ (length args.bundle.now) (length args.paths.now) (length args.left.now) (length args.right.now) _ sizes.ensures
+    ending.answers_gate args.bundle.now args.left.now args.right.now args.items.now args.paths.now sizes.result
+    (ending.gate_is _ _ _ _ (length args.bundle.now) (length args.paths.now) (length args.left.now) (length args.right.now) _ sizes.ensures
     longer3.ensures longer.ensures longer2.ensures) v.v v.is (ending.size-shut _ _ _ _ sizes.ensures v.is)) in
     record { answer = r.0; items = r.1.0; paths = r.1.1 }
 
@@ -45,7 +45,7 @@ returns-in-Shut-open_roots c =
     let open-roots = c.open_roots in
     let w = c.in-Shut-open_roots in
     ending.answers-roots args.bundle.now args.left.now args.right.now args.items.now args.paths.now sizes.result
-    (ending.gate-is _ _ _ _ (length args.bundle.now) (length args.paths.now) (length args.left.now) (length args.right.now) _ sizes.ensures
+    (ending.gate_is _ _ _ _ (length args.bundle.now) (length args.paths.now) (length args.left.now) (length args.right.now) _ sizes.ensures
     longer3.ensures longer.ensures longer2.ensures) enum_told.is open-roots.result open-roots.ensures w.w w.is
     (roots.roots-refuse _ _ _ _ open-roots.ensures _ w.is)) in
     record { answer = r.0; items = r.1.0; paths = r.1.1 }
@@ -61,8 +61,8 @@ returns-in-Open-open_roots c =
     let open-roots = c.open_roots in
     let k = c.in-Open-open_roots in
     let compare-in = c.compare_in in
-    ending.answers-walk args.bundle.now args.left.now args.right.now args.items.now args.paths.now sizes.result
-    (ending.gate-is _ _ _ _ (length args.bundle.now) (length args.paths.now) (length args.left.now) (length args.right.now) _ sizes.ensures
+    ending.answers_walk args.bundle.now args.left.now args.right.now args.items.now args.paths.now sizes.result
+    (ending.gate_is _ _ _ _ (length args.bundle.now) (length args.paths.now) (length args.left.now) (length args.right.now) _ sizes.ensures
     longer3.ensures longer.ensures longer2.ensures) enum_told.is open-roots.result open-roots.ensures k.k k.is
     compare-in.result compare-in.new.k.1.1.1.0 compare-in.new.k.1.1.1.1.0 (c.compare_in.ensures.value, (c.compare_in.ensures.after, c.compare_in.ensures.paths_after))) in
     record { answer = r.0; items = r.1.0; paths = r.1.1 }

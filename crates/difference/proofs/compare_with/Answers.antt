@@ -1,4 +1,6 @@
 -- `difference::compare_with` meets its contract. Assumes nothing.
+use mathlib.Core.Path.{sym}
+use lib.Seq.{length-take-le}
 use Rattle.indexing.proofs.Laws.{front_fits}
 use Rattle.seeking.proofs.Made.{front-index}
 use Rattle.walk.proofs.Ending.{ends_same}
@@ -10,6 +12,12 @@ slice_bounds-walk_trees-end c =
     let args = c.args in
     let make_index = c.make_index-n in
     front_fits args.bundle.now args.k args.list.now _ _ (c.make_index-n.ensures.count, c.make_index-n.ensures.list)
+
+pub slice_bounds-walk_trees-end-2 : goal.slice_bounds-walk_trees-end-2
+slice_bounds-walk_trees-end-2 c =
+    let args = c.args in
+    let make_index = c.make_index-n in
+    sym (length-take-le _ _ (front_fits args.bundle.now args.k args.list.now _ _ (c.make_index-n.ensures.count, c.make_index-n.ensures.list)))
 
 pub returns : goal.returns
 returns c =

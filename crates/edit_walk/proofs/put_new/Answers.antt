@@ -1,5 +1,7 @@
 -- `edit_walk::put_new` meets its contract. Assumes nothing.
+use mathlib.Core.Path.{sym}
 use native.Mathlib.Omega.{arith}
+use lib.Seq.{length-take-le}
 use Rattle.mode.proofs.Laws.{mode_le, text-is}
 use Rattle.edit_walk.proofs.Laws.{new-length, new-stored}
 use Rattle.edit_walk.specs.Walk.{new_entry}
@@ -33,6 +35,11 @@ pub slice_bounds-digits-end : goal.slice_bounds-digits-end
 slice_bounds-digits-end c =
     let as_bytes = c.as_bytes-text in
     omega (arith, (text-is _ _ as_bytes.ensures).1)
+
+pub slice_bounds-put_ended-end : goal.slice_bounds-put_ended-end
+slice_bounds-put_ended-end c =
+    let as_bytes = c.as_bytes-text in
+    sym (length-take-le _ _ (omega (arith, (text-is _ _ as_bytes.ensures).1)))
 
 pub overflow_add-result : goal.overflow_add-result
 overflow_add-result c =

@@ -1,10 +1,14 @@
 use mathlib.Core.Path.{sym, ◌∙◌}
+use lib.Seq.{length-take-le}
 use Rattle.fate.proofs.Laws.{own-fits, text-own}
 use mathlib.Core.Bool.{true, false}
 use Rattle.fate.proofs.is_own.Goals as goal
 
 pub slice_bounds-bytes-end : goal.slice_bounds-bytes-end
 slice_bounds-bytes-end c = (own-fits _ _ c.own_text-own.ensures).1
+
+pub slice_bounds-same_bytes-end : goal.slice_bounds-same_bytes-end
+slice_bounds-same_bytes-end c = sym (length-take-le _ _ (own-fits _ _ c.own_text-own.ensures).1)
 
 pub returns-then-same_bytes : goal.returns-then-same_bytes
 returns-then-same_bytes c =

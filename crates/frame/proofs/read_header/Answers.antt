@@ -1,10 +1,15 @@
 -- `frame::read_header` meets its contract. Assumes nothing.
 use mathlib.Core.Path.{sym, ◌∙◌}
+use native.Mathlib.Omega.{arith}
+use lib.Seq.{length-take-le}
 use Rattle.frame.proofs.Laws.{head-short, head-mark, head-one, head-two, head_other}
 use Rattle.frame.proofs.read_header.Goals as goal
 
 pub returns-then-s-lt10 : goal.returns-then-s-lt10
 returns-then-s-lt10 c = sym (head-short _ c.if-s-lt10.true)
+
+pub slice_bounds-same_bytes-end : goal.slice_bounds-same_bytes-end
+slice_bounds-same_bytes-end c = sym (length-take-le 3 c.args.s.now (omega arith))
 
 pub returns-then-version-eq1 : goal.returns-then-version-eq1
 returns-then-version-eq1 c =

@@ -1,10 +1,11 @@
 -- `listing_text::list_into` meets its contract. Assumes nothing.
 use native.Mathlib.Omega.{arith}
+use mathlib.Core.Path.{sym}
 use Prim.Native.Nat.{◌*◌}
 use Rattle.ground.proofs.Laws.{id-is, id_small}
 use Rattle.entry.specs.Record.{width}
 use Rattle.listing_text.specs.Code.{room}
-use Rattle.listing_text.proofs.Room.{read_all, front_most, told-refused, told_all}
+use Rattle.listing_text.proofs.Room.{read_all, front_count, front_most, told-refused, told_all}
 use Rattle.listing_text.proofs.list_into.Goals as goal
 
 pub returns-then-number-ne-DONE : goal.returns-then-number-ne-DONE
@@ -40,6 +41,17 @@ slice_bounds-add_lines-end c =
     let t = c.read_tree-a in
     let n = (read_all a.h p.0 a.object.now a.records.now t.result p.1 p.2 t.ensures.answer c.if-number-ne-DONE.false).2 in
     omega (arith, n, t.auto.records, p.2)
+
+pub slice_bounds-add_lines-end-2 : goal.slice_bounds-add_lines-end-2
+slice_bounds-add_lines-end-2 c =
+    let at-if1 = c in
+    let at-read-tree = c in
+    let at-args = c in
+    let a = c.args in
+    let p = c.requires in
+    let t = c.read_tree-a in
+    let n = (read_all a.h p.0 a.object.now a.records.now t.result p.1 p.2 t.ensures.answer c.if-number-ne-DONE.false).2 in
+    sym (front_count (t.result.count * width) t.ensures.records (omega (arith, n, t.auto.1, p.2)))
 
 pub add_lines-len-requires : goal.add_lines-len-requires
 add_lines-len-requires c =

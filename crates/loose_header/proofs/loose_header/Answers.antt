@@ -2,6 +2,7 @@
 use Rattle.output.proofs.Laws.{refused-both, fitted-both}
 use Rattle.loose_header.proofs.Digits.{decimal-part}
 use Rattle.loose_header.proofs.Laws.{header_other, header-kind, header_need, digits-part, header-stored}
+use lib.Seq.{length-take-le}
 use native.Mathlib.Omega.{arith}
 use mathlib.Core.Path.{sym, ◌∙◌}
 use Rattle.loose_header.proofs.loose_header.Goals as goal
@@ -25,6 +26,9 @@ returns-then-number-ne-DONE c =
     let d = decimal-part decimal-of.result _ decimal-of.ensures in
     refused-both _ _ _ (header-kind _ _ _ (λ q. if1.false (w.0 ∙ q)) _ (header_need _ _ _ _ _ w.0 d.1 d.2) ∙ sym fit.ensures) if2.true) in
     record { value = r.0; out_after = r.1 }
+
+pub slice_bounds-put_ended-end : goal.slice_bounds-put_ended-end
+slice_bounds-put_ended-end c = sym (length-take-le _ _ (omega arith))
 
 pub slice_bounds-put_ended-count : goal.slice_bounds-put_ended-count
 slice_bounds-put_ended-count c =

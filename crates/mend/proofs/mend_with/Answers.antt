@@ -1,7 +1,8 @@
 -- `mend::mend_with` meets its contract. Assumes nothing.
 use native.Mathlib.Omega.{arith}
-use mathlib.Core.Path.{refl, ◌∙◌}
+use mathlib.Core.Path.{refl, sym, ◌∙◌}
 use Rattle.mend.proofs.Whole.{first-few, second-few, known_is, need_is, fates_stored, all-is, with_short, with_done, refused_all, eight, sets_of}
+use lib.Seq.{length-take-le}
 use Rattle.mend.specs.Mend.{fates_of, mended}
 use Rattle.ground.specs.Verdict.{verdict}
 use Rattle.mend.proofs.mend_with.Goals as goal
@@ -11,6 +12,9 @@ sorted-m-requires c =
     let args = c.args in
     let pre = c.requires in
     record { s_len_bound = c.requires.s_len_bound.0; s_in_bounds = first-few args.h args.s.now c.requires.s_len_bound.1 args.count c.requires.s_value args.fates.now args.list.now c.requires.count_in_bounds.1 }
+
+pub slice_bounds-measure-end-2 : goal.slice_bounds-measure-end-2
+slice_bounds-measure-end-2 c = sym (length-take-le _ _ c.sorted-m.ensures.0)
 
 pub measure-need-requires : goal.measure-need-requires
 measure-need-requires c =
@@ -33,6 +37,9 @@ returns-then-out-need c =
     (eight measure.result)) in
     record { answer = r.0; fates = r.1.0; out = r.1.1 }
 
+pub slice_bounds-settle-end-2 : goal.slice_bounds-settle-end-2
+slice_bounds-settle-end-2 c = sym (length-take-le _ _ c.sorted-m.ensures.0)
+
 pub settle-requires : goal.settle-requires
 settle-requires c =
     let args = c.args in
@@ -47,8 +54,8 @@ write_sorted-requires c =
     let sorted = c.sorted-m in (
       c.requires.s_len_bound.0,
       second-few args.h args.s.now c.requires.s_len_bound.1 args.count c.requires.s_value args.fates.now _ sorted.new.h.1.1.1.0
-          (omega (arith, sorted.auto.list.1.1.1.0, c.requires.count_in_bounds.1)),
-      omega (arith, sorted.auto.list.1.1.1.0, c.requires.count_in_bounds.2),
+          (omega (arith, sorted.auto.1.1.1.1.0, c.requires.count_in_bounds.1)),
+      omega (arith, sorted.auto.1.1.1.1.0, c.requires.count_in_bounds.2),
     )
 
 pub returns : goal.returns

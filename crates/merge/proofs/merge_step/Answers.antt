@@ -82,7 +82,7 @@ returns-in-Entry-y c =
     let enum_told = c.in-End in
     let y = c.in-Entry-y in
     let only-right = c.only_right in
-    laws.step-right-end args.h args.bundle.now args.l args.r next-entry.result next-entry2.result next-entry.ensures
+    laws.step-right_end args.h args.bundle.now args.l args.r next-entry.result next-entry2.result next-entry.ensures
     next-entry2.ensures enum_told.is y.b y.next y.is only-right.result only-right.ensures
 
 pub returns-in-End-y-2 : goal.returns-in-End-y-2
@@ -93,7 +93,7 @@ returns-in-End-y-2 c =
     let x = c.in-Entry in
     let enum-told3 = c.in-End-y-2 in
     let only-left = c.only_left in
-    laws.step-left-end args.h args.bundle.now args.l args.r next-entry.result next-entry2.result next-entry.ensures
+    laws.step-left_end args.h args.bundle.now args.l args.r next-entry.result next-entry2.result next-entry.ensures
     next-entry2.ensures enum-told3.is x.a x.next x.is only-left.result only-left.ensures
 
 pub returns-in-Below : goal.returns-in-Below

@@ -10,7 +10,7 @@ returns-then-end-start c =
     let args = c.args in
     let if1 = c.if-left-eq0 in
     let if2 = c.if-end-start in
-    laws.ahead-crossed args.h args.bundle.now args.c if1.false if2.true
+    laws.ahead_crossed args.h args.bundle.now args.c if1.false if2.true
 
 pub returns-then-bundle-end : goal.returns-then-bundle-end
 returns-then-bundle-end c =
@@ -18,7 +18,7 @@ returns-then-bundle-end c =
     let if1 = c.if-left-eq0 in
     let if2 = c.if-end-start in
     let if3 = c.if-bundle-end in
-    laws.ahead-outside args.h args.bundle.now args.c if1.false if2.false if3.true
+    laws.ahead_outside args.h args.bundle.now args.c if1.false if2.false if3.true
 
 pub slice_bounds-decode-start : goal.slice_bounds-decode-start
 slice_bounds-decode-start c = c.if-end-start.false

@@ -2,6 +2,7 @@
 use Prim.Native.Nat.{◌-◌}
 use mathlib.Core.Path.{refl, sym, ◌∙◌}
 use native.Mathlib.Omega.{arith}
+use lib.Seq.{length-take-le}
 use Rattle.mode_table.specs.Table.{written_mode}
 use Rattle.mode_table.proofs.Laws.{find-here, find_more, find-end, row_fits}
 use Rattle.mode_table.proofs.written_mode.Goals as goal
@@ -15,6 +16,11 @@ row_at-row-requires c = omega arith
 
 pub slice_bounds-bytes-end : goal.slice_bounds-bytes-end
 slice_bounds-bytes-end c = row_fits _ _ c.row_at-row.ensures c.loop-i-test.true
+
+pub slice_bounds-same_bytes-end : goal.slice_bounds-same_bytes-end
+slice_bounds-same_bytes-end c =
+    let p = c in
+    sym (length-take-le _ _ (row_fits _ _ c.row_at-row.ensures c.loop-i-test.true))
 
 pub returns-then-same_bytes : goal.returns-then-same_bytes
 returns-then-same_bytes c =

@@ -1,6 +1,7 @@
 -- `mode_text::read` meets its contract: each way out is a law of `read_text`. Assumes nothing.
 use mathlib.Core.Path.{sym, ◌∙◌}
 use native.Mathlib.Omega.{arith}
+use lib.ListN.{length-take}
 use Rattle.mode_text.proofs.Laws.{read_none, read-long, read-other, read_bits, text_le}
 use Rattle.mode_text.proofs.read.Goals as goal
 
@@ -9,6 +10,12 @@ returns-then-i-eq0 c = sym (read_none _ c.if-i-eq0.true)
 
 pub returns-then-n-gt7 : goal.returns-then-n-gt7
 returns-then-n-gt7 c = sym (read-long _ c.if-i-eq0.false _ c.text_len-n.ensures (omega arith))
+
+pub slice_bounds-octal_of-end : goal.slice_bounds-octal_of-end
+slice_bounds-octal_of-end c =
+    let text-len = c.text_len-n in
+    let args = c.args in
+    simp length-take (omega (arith, text-len.ensures, text_le args.i.now))
 
 pub returns-in-Number : goal.returns-in-Number
 returns-in-Number c =

@@ -10,6 +10,12 @@ use Rattle.arriving.specs.Feed.{head_part}
 use Rattle.arriving.proofs.Laws.{part-bad, part_nul, part-id, head-cut}
 use Rattle.piece_ends.proofs.head_part.Goals as goal
 
+pub slice_bounds-extract_at-end : goal.slice_bounds-extract_at-end
+slice_bounds-extract_at-end c = sym (length-take-le _ _ (omega (arith, c.shorter-n.ensures)))
+
+pub slice_bounds-find_nul-end : goal.slice_bounds-find_nul-end
+slice_bounds-find_nul-end c = sym (length-take-le _ _ (omega (arith, c.shorter-n.ensures)))
+
 pub returns-then-n-end : goal.returns-then-n-end
 returns-then-n-end c =
     let args = c.args in

@@ -1,6 +1,12 @@
 -- `piece_judge::judge` meets its contract. Assumes nothing.
+use mathlib.Core.Path.{sym}
+use native.Mathlib.Omega.{arith}
+use lib.Seq.{length-take-le}
 use Rattle.arriving.proofs.Laws.{judged-text, judged-name, judged-fine, judged-after}
 use Rattle.piece_judge.proofs.judge.Goals as goal
+
+pub slice_bounds-name_number-end : goal.slice_bounds-name_number-end
+slice_bounds-name_number-end c = sym (length-take-le _ _ (omega (arith, c.shorter-size.ensures)))
 
 pub returns-then-number-ne-DONE : goal.returns-then-number-ne-DONE
 returns-then-number-ne-DONE c =

@@ -1,7 +1,12 @@
 -- `piece_marks::read_head` meets its contract. Assumes nothing.
 use native.Mathlib.Omega.{arith}
+use mathlib.Core.Path.{sym}
+use lib.Seq.{length-take-le}
 use Rattle.arriving.proofs.Laws.{read-cut}
 use Rattle.piece_marks.proofs.read_head.Goals as goal
+
+pub slice_bounds-extract_at-end : goal.slice_bounds-extract_at-end
+slice_bounds-extract_at-end c = sym (length-take-le _ _ (omega (arith, c.shorter-n.ensures)))
 
 pub returns : goal.returns
 returns c =

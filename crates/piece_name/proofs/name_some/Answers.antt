@@ -1,5 +1,7 @@
 -- `piece_name::name_some` meets its contract. Assumes nothing.
-use Rattle.piece_name.proofs.Names.{line_full, held_full, line-more, held_more}
+use mathlib.Core.Path.{sym}
+use lib.Seq.{length-take-le}
+use Rattle.piece_name.proofs.Names.{line_full, held_full, more-fits, line-more, held_more}
 use Rattle.piece_name.proofs.name_some.Goals as goal
 
 pub returns-then-size-ge-MOST_HELD : goal.returns-then-size-ge-MOST_HELD
@@ -9,6 +11,14 @@ returns-then-size-ge-MOST_HELD c =
       held = held_full args.held.now args.last args.l
           args.bytes.now c.if-size-ge-MOST_HELD.true;
     }
+
+pub slice_bounds-some-end : goal.slice_bounds-some-end
+slice_bounds-some-end c =
+    let args = c.args in
+    let name-bytes = c.name_bytes-k in
+    sym
+    (length-take-le name-bytes.result args.bytes.now (more-fits args.held.now args.last args.l args.bytes.now
+    name-bytes.result name-bytes.ensures).1)
 
 pub returns : goal.returns
 returns c =

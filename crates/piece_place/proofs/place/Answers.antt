@@ -1,7 +1,14 @@
 -- `piece_place::place` meets its contract. Assumes nothing.
 use native.Mathlib.Omega.{arith}
+use lib.ListN.{length-take}
 use Rattle.piece_place.proofs.Placing.{up_to, put_all, put_same, put_above, put-below}
 use Rattle.piece_place.proofs.place.Goals as goal
+
+pub slice_bounds-common_start-end-2 : goal.slice_bounds-common_start-end-2
+slice_bounds-common_start-end-2 c = simp length-take (omega (arith, c.shorter-size.ensures))
+
+pub slice_bounds-by_next-end-2 : goal.slice_bounds-by_next-end-2
+slice_bounds-by_next-end-2 c = simp length-take (omega (arith, c.shorter-size.ensures))
 
 pub returns-in-Below : goal.returns-in-Below
 returns-in-Below c =

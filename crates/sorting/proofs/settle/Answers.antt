@@ -37,8 +37,11 @@ pub sift-requires : goal.sift-requires
 sift-requires c =
     let args = c.args in
     let loop = c.loop-m in
-    let key = key_at args.text.now args.mark args.width in record { n_in_bounds = simp length-set (omega (arith, loop.invariant.0.size)); heap = settle-rest (below_by key) (key_strict key) args.list.now loop.list loop.m loop.invariant.0
-          (omega arith) (omega (arith, loop.invariant.0.size)) }
+    let key = key_at args.text.now args.mark args.width in record {
+      n_in_bounds = simp length-set (omega (arith, loop.invariant.0.size));
+      heap = settle-rest (below_by key) (key_strict key) args.list.now loop.list loop.m loop.invariant.0
+          (omega arith) (omega (arith, loop.invariant.0.size));
+    }
 
 pub loop-m-smaller : goal.loop-m-smaller
 loop-m-smaller c = omega arith

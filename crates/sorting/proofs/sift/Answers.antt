@@ -74,8 +74,11 @@ returns-else-below c =
     let larger = c.larger-c in
     let below = c.below in
     let if1 = c.if-below in
-    let key = key_at args.text.now args.mark args.width in record { moved = loop.invariant.moved; heap_2 = sift_stop (below_by key) (key_strict key) args.list.now loop.list args.from args.n loop.i _ larger.ensures
-          (sym below.ensures ∙ if1.false) loop.invariant }
+    let key = key_at args.text.now args.mark args.width in record {
+      moved = loop.invariant.moved;
+      heap_2 = sift_stop (below_by key) (key_strict key) args.list.now loop.list args.from args.n loop.i _ larger.ensures
+          (sym below.ensures ∙ if1.false) loop.invariant;
+    }
 
 pub shape_of-list : goal.shape_of-list
 shape_of-list c = c.loop-i.invariant.moved.size

@@ -3,6 +3,7 @@ use native.Mathlib.Omega.{arith}
 use Prim.Native.Nat.{◌-◌}
 use mathlib.Core.Path.{sym, ◌∙◌}
 use lib.ListN.{length, take, drop}
+use lib.Seq.{length-take-le}
 use Rattle.text_form.proofs.Laws.{front_short, front_no-space, front_no-digits, word_le, fronted_none, fronted}
 use Rattle.text_form.proofs.front_len.Goals as goal
 
@@ -11,6 +12,9 @@ returns-then-b-le6 c = sym (front_short c.args.b.now c.if-b-le6.true)
 
 pub returns-then-b-ne32 : goal.returns-then-b-ne32
 returns-then-b-ne32 c = sym (front_no-space c.args.b.now c.if-b-ne32.true)
+
+pub slice_bounds-all_within-end : goal.slice_bounds-all_within-end
+slice_bounds-all_within-end c = sym (length-take-le 6 c.args.b.now (omega arith))
 
 pub returns-then-n-eq0 : goal.returns-then-n-eq0
 returns-then-n-eq0 c =

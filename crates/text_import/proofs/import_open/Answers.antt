@@ -1,5 +1,7 @@
 -- `text_import::import_open` meets its contract. Assumes nothing.
 use borrow.Author.Rules.{rules}
+use mathlib.Core.Path.{sym}
+use lib.Seq.{length-take-le}
 use Rattle.text_import.specs.Import.{texts}
 use Rattle.text_import.proofs.Whole.{all_read}
 use Rattle.text_import.proofs.Lent.{opens_unread, opens-many, opens_front, opens-all, called_lent}
@@ -24,6 +26,9 @@ returns-then-list-n c =
     (opens-many args.rules args.h args.text.now args.out.now args.list.now _ gather.ensures.value _ gather.ensures.list_after if1.false
     if2.true)) in
     record { answer = r.0; out = r.1.0; list = r.1.1 }
+
+pub slice_bounds-finish-end-2 : goal.slice_bounds-finish-end-2
+slice_bounds-finish-end-2 c = sym (length-take-le _ _ c.if-list-n.false)
 
 pub finish-requires : goal.finish-requires
 finish-requires c =

@@ -1,6 +1,7 @@
 -- `text_import::put_named` meets its contract. Assumes nothing.
 use native.Mathlib.Omega.{arith}
-use mathlib.Core.Path.{refl}
+use mathlib.Core.Path.{refl, sym}
+use lib.Seq.{length-take-le}
 use Rattle.text_import.proofs.Bytes.{named_len, named_put}
 use Rattle.text_import.proofs.put_named.Goals as goal
 
@@ -23,6 +24,12 @@ slice_bounds-digits-end c =
     let args = c.args in
     let as_bytes = c.as_bytes-shown in
     (named_len args.out.now args.name.now args.at args.mode _ as_bytes.ensures).1
+
+pub slice_bounds-put_ended-end : goal.slice_bounds-put_ended-end
+slice_bounds-put_ended-end c =
+    let args = c.args in
+    let as_bytes = c.as_bytes-shown in
+    sym (length-take-le _ _ (named_len args.out.now args.name.now args.at args.mode _ as_bytes.ensures).1)
 
 pub overflow_add-result : goal.overflow_add-result
 overflow_add-result c =

@@ -4,7 +4,7 @@ use Prim.Native.Nat.{ℕ}
 use mathlib.Core.Path.{sym, ap, ◌∙◌}
 use mathlib.Core.List.{List, [], ◌∷◌, ◌++◌}
 use lib.ListN.{length}
-use lib.Seq.{sets}
+use lib.Seq.{sets, length-take-le}
 use native.Mathlib.Omega.{arith}
 use Rattle.tree_write.proofs.put_mode.Goals as goal
 
@@ -22,6 +22,9 @@ returns-then-mode-eq33188 c =
     let put-seven = c.put_seven in
     let t = text-file args.mode if1.true in
     record { size = sym (ap (λ (l : List ℕ). length l) t); small = omega arith; text = put-seven.ensures ∙ sym (ap (λ (l : List ℕ). sets args.out.now args.at (l ++ 32 ∷ [])) t) }
+
+pub slice_bounds-put_ended-end : goal.slice_bounds-put_ended-end
+slice_bounds-put_ended-end c = sym (length-take-le _ _ (omega arith))
 
 pub returns : goal.returns
 returns c =
