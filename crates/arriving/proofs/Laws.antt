@@ -259,17 +259,17 @@ module _ (held ends : List ℕ) (m : Marks) (l : Line) where
 module _ (held ends : List ℕ) (m : Marks) (b : ℕ) where
   pub body-head : (k : ℕ) → m.phase ≡ Head k → together held ends m ≡ body (together held ends m) b
   unfolding body
-  body-head k e = rw e
+  body-head k e = sym (ap (body_in (together held ends m) b) e)
 
   pub body-name : (l : Line) (after : List ℕ) (r : Marks) → m.phase ≡ Name l → r ≡ name_marks held m l b → after ≡ name_held held l b
       → together after ends r ≡ body (together held ends m) b
   unfolding body
-  body-name l after r e p q = rw (p, q, e)
+  body-name l after r e p q = rw (p, q) (sym (ap (body_in (together held ends m) b) e))
 
   pub body-id : (l : Line) (left : ℕ) (r : Marks) (after : List ℕ) → m.phase ≡ Id l left → (r ≡ id_marks held ends m l left) × (after ≡ id_ends held ends m l left)
       → together held after r ≡ body (together held ends m) b
   unfolding body
-  body-id l left r after e p = rw (p.0, p.1, e)
+  body-id l left r after e p = rw (p.0, p.1) (sym (ap (body_in (together held ends m) b) e))
 
 placed_at : (m : Marks) (l : Line) (r : Placed) → (placed m l r).at ≤ m.at + 1
 unfolding placed

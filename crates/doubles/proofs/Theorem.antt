@@ -52,6 +52,7 @@ falls-more m n [] h f = tt
 falls-more m n (k ∷ ks) h f = (omega (arith, f.0), f.1)
 
 falls_in : (m k : ℕ) (ks : List ℕ) → Falls m ks → In k ks → k ≤ m
+falls_in m k [] f i = elim i [ ]
 falls_in m k (j ∷ ks) f (inl e) = omega (arith, f.0)
 falls_in m k (j ∷ ks) f (inr i) = omega (arith, f.0, falls_in j k ks f.1 i)
 

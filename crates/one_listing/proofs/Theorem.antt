@@ -40,7 +40,7 @@ stored-records l v lent n z e = rw (e, stored-done v (flats (records_in l)) lent
 pub listed_total : (at n : ℕ) (es : List Entry) → tally n (listed at es) ≡ Total (n + length es)
 unfolding tally listed
 listed_total at n [] = let z : n + 0 ≡ n = omega arith in rw z
-listed_total at n (e ∷ es) = let z : n + length (e ∷ es) ≡ n + 1 + length es = omega arith in rw z (listed_total _ (n + 1) es)
+listed_total at n (e ∷ es) = let z : n + length (e ∷ es) ≡ n + 1 + length es = omega arith in rw z (listed_total (at + length (entry_bytes e)) (n + 1) es)
 
 -- whatever is counted has a listing: what the stored records name
 pub some_listing : (R : Rules) → SomeListing R

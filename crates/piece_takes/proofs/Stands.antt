@@ -161,7 +161,7 @@ unfolding stand_after
 held-before held last at x st size shared [] h = refl
 held-before held last at x st size shared (b ∷ bs) h =
     let y : get_or (set held at x) size 0 ≡ get_or held size 0 = get_or-set_other held at size x 0 (λ z. omega arith) in
-    rw y (held-before held last at x _ (size + 1) _ bs (omega arith))
+    rw y (held-before held last at x (meet st last size (get_or held size 0) b) (size + 1) _ bs (omega arith))
 
 module _ (m : Marks) (z : m.verdict.number ≡ 0) (ends : List ℕ) (l : Line) (s : List ℕ) (i end : ℕ) (r : end ≤ length s)
     (w : m.at + (end - i) ≤ most_bytes) where

@@ -105,15 +105,15 @@ module _ {A : Type 0} (below : A → A → Bool) where
   rises_end d l i p h = ascends-by d l (λ j q. h j (omega arith))
 
   module _ (strict : Strict below) where
-    no : {x : A} {y : A} → below x y ≡ true → below x y ≡ false → ⊥
-    no p q = false≢true (sym q ∙ p)
+    not_both : {x : A} {y : A} → below x y ≡ true → below x y ≡ false → ⊥
+    not_both p q = false≢true (sym q ∙ p)
 
     -- what is below stands up to
     pub up-below : (x y : A) → below x y ≡ true → UpTo below x y
     up-below x y p = go (below y x) refl
       where
         go : (t : Bool) → below y x ≡ t → t ≡ false
-        go true q = absurd (no (strict.chain x y x p q) (strict.self x))
+        go true q = absurd (not_both (strict.chain x y x p q) (strict.self x))
         go false q = refl
 
     -- up to, and then below, is below; below, and then up to, is below
@@ -135,7 +135,7 @@ module _ {A : Type 0} (below : A → A → Bool) where
     up_trans x y z p q = go (below z x) refl
       where
         go : (t : Bool) → below z x ≡ t → t ≡ false
-        go true r = absurd (no (below-then-up z x y r p) q)
+        go true r = absurd (not_both (below-then-up z x y r p) q)
         go false r = refl
 
     -- ---- the sorted list ascends
@@ -169,7 +169,7 @@ module _ {A : Type 0} (below : A → A → Bool) where
     two x y l = go (below y x) refl (below x y) refl
       where
         go : (s : Bool) → below y x ≡ s → (t : Bool) → below x y ≡ t → pick s (y ∷ x ∷ l) (x ∷ y ∷ l) ≡ pick t (x ∷ y ∷ l) (y ∷ x ∷ l)
-        go true p true q = absurd (no (strict.chain x y x q p) (strict.self x))
+        go true p true q = absurd (not_both (strict.chain x y x q p) (strict.self x))
         go true p false q = refl
         go false p true q = refl
         go false p false q = rw (strict.one x y q p) refl

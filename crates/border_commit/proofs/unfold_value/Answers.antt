@@ -7,9 +7,9 @@ use Rattle.border_commit.proofs.unfold_value.Goals as goal
 pub returns : goal.returns
 returns c =
     let r = (let k = c in
-    let e = k.«unfold».ensures in
+    let e = c.«unfold».ensures in
     let x = c.header_at-x.ensures in
     let a = c.args in
-    handed_with (c.hand.ensures.value, c.hand.ensures.answer_after) (e.0 ∙ ap (λ r. unfold_answer a.bytes.now r a.out.now) x)
-    (e.1 ∙ ap (λ r. unfold_after a.bytes.now r a.out.now) x)) in
+    handed_with (c.hand.ensures.value, c.hand.ensures.answer_after) (e.answer ∙ ap (λ r. unfold_answer a.bytes.now r a.out.now) x)
+    (e.out ∙ ap (λ r. unfold_after a.bytes.now r a.out.now) x)) in
     record { value = r.0; answer_after = r.1.0; out_after = r.1.1 }

@@ -14,11 +14,11 @@ pub returns : goal.returns
 returns c =
     let r = (let hand = c.hand in
     let k = c in
-    let e = (c.write_commit.ensures.value, c.write_commit.ensures.out_after) in
+    let e = c.write_commit.ensures in
     let x = c.parts_in-p.ensures in
     let a = c.args in
     let answer : CommitParts → Answer = λ p. commit_answer a.h a.bytes.now p a.parents.now a.headers.now (length a.out.now) in
     let after : CommitParts → List ℕ = λ p. stored (answer p).verdict (parts_written a.h a.bytes.now p a.parents.now a.headers.now) a.out.now
     in
-    handed_with (c.hand.ensures.value, c.hand.ensures.answer_after) (e.0 ∙ ap answer x) (e.1 ∙ ap after x)) in
+    handed_with (c.hand.ensures.value, c.hand.ensures.answer_after) (e.value ∙ ap answer x) (e.out_after ∙ ap after x)) in
     record { value = r.0; answer_after = r.1.0; out_after = r.1.1 }

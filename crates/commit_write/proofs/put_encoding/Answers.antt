@@ -17,15 +17,11 @@ put_line-requires c =
 pub returns-then-p-eq1 : goal.returns-then-p-eq1
 unfolding encoding_bytes
 returns-then-p-eq1 c =
-    let r = (let at-put-line = c in
-    let at-if1 = c in
-    let start = c in
-    rw (encoding-given c.args.bytes.now c.args.p c.if-p-eq1.true) (c.put_line.ensures.value, c.put_line.ensures.out_after)) in
-    record { value = r.0; out_after = r.1 }
+    let given = encoding-given c.args.bytes.now c.args.p c.if-p-eq1.true in
+    record { value = rw given c.put_line.ensures.value; out_after = rw given c.put_line.ensures.out_after }
 
 pub returns : goal.returns
 unfolding encoding_bytes
 returns c =
-    let r = (let start = c in
-    rw (encoding-absent c.args.bytes.now c.args.p c.if-p-eq1.false) (sym (add-zero c.args.at), refl)) in
-    record { value = r.0; out_after = r.1 }
+    let absent = encoding-absent c.args.bytes.now c.args.p c.if-p-eq1.false in
+    record { value = rw absent (sym (add-zero c.args.at)); out_after = rw absent refl }

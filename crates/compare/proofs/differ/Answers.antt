@@ -1,12 +1,12 @@
 -- `compare::differ` meets its contract. Assumes nothing.
 use Prim.Native.Nat.{◌-◌}
 use mathlib.Core.Path.{◌≡◌, refl, sym, ◌∙◌}
-use mathlib.Core.Logic.{⊎_elim}
 use native.Mathlib.Nat.{add-zero}
 use native.Mathlib.Omega.{arith}
 use lib.ListN.{take}
 use Rattle.compare.proofs.Laws.{agree_step, differ_here, differ_on}
 use Rattle.compare.proofs.differ.Goals as goal
+use Rattle.compare.proofs.differ.Goals.{then-a-i, else-a-i}
 
 pub loop-k-init : goal.loop-k-init
 loop-k-init c = (omega arith, λ z. rw add-zero c.requires.1, λ n. absurd (n refl))
@@ -18,9 +18,14 @@ loop-k-preserved c =
     let loop = c.loop-k in
     let step = agree_step args.a.now args.b.now args.i loop.k (omega (arith, pre.0.0)) (omega (arith, pre.0.1)) in (
       omega arith,
-      ⊎_elim (λ w z. absurd (omega (arith, sym w.1 ∙ z))) (λ w z. step w.0.left (loop.invariant.1 (sym w.1 ∙ z))) c.if-a-i.branch,
-      ⊎_elim (λ w n. differ_here args.a.now args.b.now args.i loop.k w.0.taken)
-          (λ w n. differ_on args.a.now args.b.now args.i loop.k (loop.invariant.2 (λ z. n (w.1 ∙ z)))) c.if-a-i.branch,
+      λ z. elim c.if-a-i.branch [
+        | then-a-i w ↦ absurd (omega (arith, sym w.hit-is ∙ z))
+        | else-a-i w ↦ step w.if-a-i.false (loop.invariant.1 (sym w.hit-is ∙ z))
+      ],
+      λ n. elim c.if-a-i.branch [
+        | then-a-i w ↦ differ_here args.a.now args.b.now args.i loop.k w.if-a-i.true
+        | else-a-i w ↦ differ_on args.a.now args.b.now args.i loop.k (loop.invariant.2 (λ z. n (w.hit-is ∙ z)))
+      ],
     )
 
 pub returns : goal.returns

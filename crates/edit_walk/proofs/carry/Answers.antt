@@ -211,5 +211,5 @@ returns c =
     let loop-test = c.loop-left-test in
     let if1 = c.if-placed in
     let put-new = put-new2 in
-    ends_last _ _ _ _ _ _ _ _ _ _ _ _ loop.invariant (omega (arith, loop-test.false)) if1.false _ _ put-new.ensures.0.0 put-new.ensures.1) in
+    ends_last _ _ _ _ _ _ _ _ _ _ _ _ loop.invariant (omega (arith, loop-test.false)) if1.false _ _ put-new.ensures.next.0 put-new.ensures.out) in
     record { used = r.0; kept = r.1.0; out = r.1.1 }

@@ -47,7 +47,7 @@ overflow_add-slash-then-has_room c =
     omega (arith, (room_says args.ps args.pl args.m (length args.paths.now) has_room.result has_room.ensures if2.true).1)
 
 pub shape_of-paths : goal.shape_of-paths
-shape_of-paths c = c.put-then-has_room.auto.out ∙ simp length-set c.copy_down.auto.out
+shape_of-paths c = c.put-then-has_room.auto.out ∙ simp length-set c.copy_down.auto.paths
 
 pub returns-then-has_room : goal.returns-then-has_room
 returns-then-has_room c =

@@ -18,6 +18,6 @@ pub returns-in-Open : goal.returns-in-Open
 returns-in-Open c =
     let r = (let begun = c in
     let g = sym c.begins.ensures ∙ c.in-Open.is in
-    let ends = (c.look_all.ensures.value, c.look_all.ensures.answers_after) in
-    many_ran _ _ _ _ _ _ _ _ c.longer-bytes.ensures refl g _ ends.0 _ _ _ ends.1) in
+    let ends = c.look_all.ensures in
+    many_ran _ _ _ _ _ _ _ _ c.longer-bytes.ensures refl g _ ends.value _ _ _ ends.answers_after) in
     record { value = r.0; answers_after = r.1 }

@@ -18,12 +18,12 @@ returns c =
     let each2 = c.each in
     let start = c in
     let args = c.args in
-    let first = (c.each-v.ensures.value, c.each-v.ensures.answers_after) in
+    let first = c.each-v.ensures in
     let copied = copy.ensures in
-    let last = (c.each.ensures.value, c.each.ensures.answers_after) in
+    let last = c.each.ensures in
     let z = if1.false in
     let f = one_answer args.h args.object.now args.records.now args.names.now in
-    ran_done _ _ _ _ args.answers.now _ first.0 z
-    (both-passes f args.sought.now _ args.answers.now _ _ _ 64 _ _ _ refl refl (omega (arith, c.requires)) z first.0 first.1 copied last.0
-    last.1)) in
+    ran_done _ _ _ _ args.answers.now _ first.value z
+    (both-passes f args.sought.now _ args.answers.now _ _ _ 64 _ _ _ refl refl (omega (arith, c.requires)) z first.value first.answers_after copied last.value
+    last.answers_after)) in
     record { value = r.0; answers_after = r.1 }

@@ -19,37 +19,20 @@ shape_of-out-then-count-gt-MOST_RECORDS t c =
 
 pub returns-then-count-gt-MOST_RECORDS : goal.returns-then-count-gt-MOST_RECORDS
 returns-then-count-gt-MOST_RECORDS t c =
-    let r = (let root = c in
-    absurd (over c.args.count c.requires.count_in_bounds.1 c.if-count-gt-MOST_RECORDS.true)) in
-    record { answer = r.0; fates = r.1.0; out = r.1.1 }
+    absurd (over c.args.count c.requires.count_in_bounds.1 c.if-count-gt-MOST_RECORDS.true)
 
 pub mend_lent-requires : goal.mend_lent-requires
 mend_lent-requires t c =
     let r = c.requires in
-    record { s_len_bound = r.0; s_value = r.1.0; count_in_bounds = r.1.1 }
+    record { s_len_bound = r.s_len_bound; s_value = r.s_value; count_in_bounds = r.count_in_bounds }
 
 pub shape_of-fates : goal.shape_of-fates
-shape_of-fates t c = c.mend_lent.auto.1.1.1.0
+shape_of-fates t c = c.mend_lent.auto.fates
 
 pub shape_of-out : goal.shape_of-out
-shape_of-out t c = c.mend_lent.auto.1.1.1.1.0
+shape_of-out t c = c.mend_lent.auto.out
 
 pub returns : goal.returns
 returns t c =
-    let r = ((c.mend_lent.ensures.answer, (c.mend_lent.ensures.fates, c.mend_lent.ensures.out))
-
-pub +mend-large-spec : {M : Type 1} → statement M
-+mend-large-spec =
-    close μ-mend-large λ t. mend-large-lts.spec
-    (claims t)
-    (mend-large-at t)
-    mend-large.Post
-    (mend-large-requires t)
-    (same_length t)
-    (same-length-2 t)
-    (returns t)
-    (mend-lent-requires t)
-    (same-length-3 t)
-    (same-length-4 t)
-    (returns-2 t)) in
-    record { answer = r.0; fates = r.1.0; out = r.1.1 }
+    let e = c.mend_lent.ensures in
+    record { answer = e.answer; fates = e.fates; out = e.out }

@@ -53,9 +53,9 @@ write_sorted-requires c =
     let pre = c.requires in
     let sorted = c.sorted-m in (
       c.requires.s_len_bound.0,
-      second-few args.h args.s.now c.requires.s_len_bound.1 args.count c.requires.s_value args.fates.now _ sorted.new.h.1.1.1.0
-          (omega (arith, sorted.auto.1.1.1.1.0, c.requires.count_in_bounds.1)),
-      omega (arith, sorted.auto.1.1.1.1.0, c.requires.count_in_bounds.2),
+      second-few args.h args.s.now c.requires.s_len_bound.1 args.count c.requires.s_value args.fates.now _ sorted.new.list
+          (omega (arith, sorted.auto.list, c.requires.count_in_bounds.1)),
+      omega (arith, sorted.auto.list, c.requires.count_in_bounds.2),
     )
 
 pub returns : goal.returns

@@ -16,7 +16,7 @@ write_all-requires c =
     let args = c.args in
     let pre = c.requires in
     let sorted = c.sorted-k in
-    record { s_len_bound = pre.0; list_len_bound = front_few sorted.result sorted.new.h.1.1.1.0 args.list.now sorted.ensures.0 sorted.auto.1.1.1.1.0 pre.2 }
+    record { s_len_bound = pre.0; list_len_bound = front_few sorted.result sorted.new.list args.list.now sorted.ensures.0 sorted.auto.list pre.2 }
 
 pub returns : goal.returns
 returns c = written-front _ _ _ _ _ _ c.sorted-k.ensures.1 c.write_all.ensures

@@ -82,24 +82,3 @@ returns-in-At t c =
     walk-on _ _ _ _ _ _ c.count_to-n.ensures
     c.step_to-spot.ensures
     c.if-n-path.false _ _ c.in-At.is _ c.walk.ensures
-
-pub +walk-spec : {M : Type 1} → statement M
-+walk-spec = close μ-walk λ t. walk-lts.spec (walk-claims t) (walk_at t)
-    walk.Post
-    (walk-count-to-requires t)
-    (walk-slice-aggregate-step-to t)
-    (walk-step-to-requires t)
-    (walk-returns t)
-    (walk-enum-told t)
-    (walk-enum-known-spot t)
-    (walk-add-end t)
-    (walk-add-rest t)
-    (walk-sub-walk t)
-    (walk-part-walk-start t)
-    (walk-part-walk-end t)
-    (walk-sub-walk-2 t)
-    (walk-part-walk-start-2 t)
-    (walk-part-walk-end-2 t)
-    (walk-walk-requires t)
-    (walk-returns-2 t)
-    (walk-returns-3 t)

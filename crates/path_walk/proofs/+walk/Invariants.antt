@@ -4,4 +4,4 @@ use Rattle.component.specs.Component.{pieces}
 use Rattle.path_walk.proofs.+walk.Given as goal
 
 abbrev pub decreases-walk : goal.decreases-walk
-decreases-walk l = length (pieces a.1.1.1.0.now)
+decreases-walk l = length (pieces l.path.now)

@@ -26,7 +26,7 @@ overflow_sub-r c =
       arith,
       run-within args.held.now args.ends.now args.m args.piece.now args.i pre
           (between_is args.m _ (sym is-between.ensures ∙ if1.true))
-          lent2.given.0 _ _ all-entries.result (c.all_entries-r.ensures.run, (c.all_entries-r.ensures.held, c.all_entries-r.ensures.ends)),
+          lent2.given _ _ all-entries.result (c.all_entries-r.ensures.run, (c.all_entries-r.ensures.held, c.all_entries-r.ensures.ends)),
     )
 
 pub overflow_add-m : goal.overflow_add-m
@@ -41,7 +41,7 @@ overflow_add-m c =
       arith,
       run-within args.held.now args.ends.now args.m args.piece.now args.i pre
           (between_is args.m _ (sym is-between.ensures ∙ if1.true))
-          lent2.given.0 _ _ all-entries.result (c.all_entries-r.ensures.run, (c.all_entries-r.ensures.held, c.all_entries-r.ensures.ends)),
+          lent2.given _ _ all-entries.result (c.all_entries-r.ensures.run, (c.all_entries-r.ensures.held, c.all_entries-r.ensures.ends)),
     )
 
 pub ran-requires : goal.ran-requires
@@ -58,6 +58,6 @@ returns-then-is_between c =
     let all-entries = c.all_entries-r in
     took_ran args.held.now args.ends.now args.m args.piece.now args.i pre
     (between_is args.m _ (sym is-between.ensures ∙ if1.true))
-    lent2.given.0 _ _ all-entries.result (c.all_entries-r.ensures.run, (c.all_entries-r.ensures.held, c.all_entries-r.ensures.ends))
+    lent2.given _ _ all-entries.result (c.all_entries-r.ensures.run, (c.all_entries-r.ensures.held, c.all_entries-r.ensures.ends))
     (eight_kept args.m _ good.1.1.0) c.ran.result c.ran.ensures) in
     record { took = r.0; room = r.1 }

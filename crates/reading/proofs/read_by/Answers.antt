@@ -3,6 +3,5 @@ use Rattle.reading.proofs.read_by.Goals as goal
 
 pub returns : goal.returns
 returns c =
-    let r = (let count-plain = c.count_plain-got in
-    rw (← count-plain.ensures.count) (c.finish_by.ensures.answer, c.finish_by.ensures.records)) in
-    record { answer = r.0; records = r.1 }
+    let count = c.count_plain-got.ensures.count in
+    record { answer = rw (← count) c.finish_by.ensures.answer; records = rw (← count) c.finish_by.ensures.records }

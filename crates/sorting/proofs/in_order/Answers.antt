@@ -13,7 +13,7 @@ loop-i-init c =
     (omega arith, rises-start (below_by (key_at args.text.now args.mark args.width)) 0 args.list.now)
 
 pub returns-then-below : goal.returns-then-below
-returns-then-below c = absurd (false≢true e)
+returns-then-below c = λ e. absurd (false≢true e)
 
 pub loop-i-preserved : goal.loop-i-preserved
 loop-i-preserved c =
@@ -27,6 +27,6 @@ loop-i-preserved c =
     )
 
 pub returns : goal.returns
-returns c =
+returns c = λ e.
     let args = c.args in
     rises_end (below_by (key_at args.text.now args.mark args.width)) 0 args.list.now _ c.loop-i-test.false c.loop-i.invariant.1

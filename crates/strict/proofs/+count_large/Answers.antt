@@ -20,15 +20,3 @@ count_marked-requires t c =
 
 pub returns : goal.returns
 returns t c = c.count_marked.ensures
-
-pub +count-large-spec : {M : Type 1} → statement M
-+count-large-spec =
-    close μ-count-large λ t. count-large-lts.spec
-    (claims t)
-    (count-large-at t)
-    count-large.Post
-    (count-large-requires t)
-    (returns t)
-    (slice-aggregate-count-marked t)
-    (count-marked-requires t)
-    (returns-2 t)

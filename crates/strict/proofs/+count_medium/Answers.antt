@@ -20,15 +20,3 @@ count_marked-requires t c =
 
 pub returns : goal.returns
 returns t c = c.count_marked.ensures
-
-pub +count-medium-spec : {M : Type 1} → statement M
-+count-medium-spec =
-    close μ-count-medium λ t. count-medium-lts.spec
-    (claims t)
-    (count-medium-at t)
-    count-medium.Post
-    (count-medium-requires t)
-    (returns t)
-    (slice-aggregate-count-marked t)
-    (count-marked-requires t)
-    (returns-2 t)

@@ -12,9 +12,7 @@ pub shape_of-out-then-text-gt-MOST_BYTES : goal.shape_of-out-then-text-gt-MOST_B
 shape_of-out-then-text-gt-MOST_BYTES t c = absurd (omega arith)
 
 pub returns-then-text-gt-MOST_BYTES : goal.returns-then-text-gt-MOST_BYTES
-returns-then-text-gt-MOST_BYTES t c =
-    let r = absurd (omega arith) in
-    record { answer = r.0; out = r.1 }
+returns-then-text-gt-MOST_BYTES t c = absurd (omega arith)
 
 pub slice_bounds-import_lent-end : goal.slice_bounds-import_lent-end
 slice_bounds-import_lent-end t c = made_of 1048576
@@ -23,7 +21,7 @@ pub import_lent-requires : goal.import_lent-requires
 import_lent-requires t c = tt
 
 pub shape_of-out : goal.shape_of-out
-shape_of-out t c = c.import_lent.auto.1.1.1.0
+shape_of-out t c = c.import_lent.auto.out
 
 pub returns : goal.returns
 returns t c =
@@ -32,19 +30,5 @@ returns t c =
     let import_lent = c.import_lent in
     let e = (c.import_lent.ensures.answer, (c.import_lent.ensures.out, c.import_lent.ensures.list)) in
     both_most args.rules args.h args.text.now pre.0 pre.1 args.out.now _ _ _ e.0 e.1.0
-    (room_for 1048576 most_records (omega arith))
-
-pub +import-large-spec : {M : Type 1} → statement M
-+import-large-spec =
-    close μ-import-large λ t. import-large-lts.spec
-    (claims t)
-    (import-large-at t)
-    import-large.Post
-    (import-large-requires t)
-    (same_length t)
-    (returns t)
-    (slice-aggregate-import-lent t)
-    (import-lent-requires t)
-    (same-length-2 t)
-    (returns-2 t)) in
+    (room_for 1048576 most_records (omega arith))) in
     record { answer = r.0; out = r.1 }

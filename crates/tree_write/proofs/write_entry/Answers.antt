@@ -101,8 +101,8 @@ returns c =
     let at-args = c in
     let a = c.args in
     let p = c.requires.mode_bound in
-    let m = (c.put_mode-n.ensures.size, (c.put_mode-n.ensures.small, c.put_mode-n.ensures.text)) in record {
-      value = entry_end a.h a.e a.at c.put_mode-n.result m.0;
+    let m = c.put_mode-n.ensures in record {
+      value = entry_end a.h a.e a.at c.put_mode-n.result m.size;
       out_after = entry-stored a.h a.bytes.now a.e (well_made _ _ _ p.0 p.1 p.2 p.3 p.4) _ _ _ _ _ _ _ _ refl
-          (ap (λ (n : ℕ). a.at + n + 1) m.0) refl m.1.1 c.put_ended.ensures put.ensures;
+          (ap (λ (n : ℕ). a.at + n + 1) m.size) refl m.text c.put_ended.ensures put.ensures;
     }

@@ -16,20 +16,11 @@ slice_bounds-twice_with-end t c = sym (length-replicate {A = ℕ} 1048576 0)
 
 pub twice_with-requires : goal.twice_with-requires
 twice_with-requires t c =
-    let pre = c.requires in
-    record { fact = pre.0; count_in_bounds = subst (λ (k : ℕ). c.args.k.count ≤ k) (sym (length-replicate {A = ℕ} 1048576 0)) pre.1.0; s_len_bound = pre.1.1 }
+    let pre = c.requires in record {
+      fact = pre.fact;
+      count_in_bounds = subst (λ (k : ℕ). c.args.k.count ≤ k) (sym (length-replicate {A = ℕ} 1048576 0)) pre.count_le_most_records;
+      s_len_bound = pre.s_len_bound;
+    }
 
 pub returns : goal.returns
 returns t c = c.twice_with.ensures
-
-pub +twice-large-spec : {M : Type 1} → statement M
-+twice-large-spec =
-    close μ-twice-large λ t. twice-large-lts.spec
-    (claims t)
-    (twice-large-at t)
-    twice-large.Post
-    (twice-large-requires t)
-    (returns t)
-    (slice-aggregate-twice-with t)
-    (twice-with-requires t)
-    (returns-2 t)

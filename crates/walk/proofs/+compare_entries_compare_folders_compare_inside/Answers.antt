@@ -17,8 +17,8 @@ compare_entries-loop-next-init t c =
     let args = c.args in
     let pre = c.requires in
     turning.going_start (compare_folders (folders_in args.k args.bundle.now args.index.now) args.depth) args.k.h args.bundle.now args.ps
-    args.pl args.l args.r args.m args.items.now args.paths.now pre.1.1.1.1.1.0 pre.1.1.1.1.1.1
-    pre.1.1.1.1.0
+    args.pl args.l args.r args.m args.items.now args.paths.now pre.within pre.within_2
+    pre.small
 
 pub compare_entries-shape_of-items-in-Done : goal.compare_entries-shape_of-items-in-Done
 compare_entries-shape_of-items-in-Done t c = c.loop-next.invariant.items_kept
@@ -58,8 +58,14 @@ compare_entries-add-p-requires t c =
     let pre = c.requires in
     let loop = c.loop-next in
     let merge_step = c.merge_step in
-    let change = c.in-Differs in record { bundle_len_bound = pre.1.0; pl_bound = omega (arith, pre.1.1.0, loop.invariant.onward); pl_bound_2 = turning.short-path args.pl args.depth pre.1.1.1.0; small = loop.invariant.small; change_within = (merging.differs_leads args.k.h args.bundle.now loop.l loop.r loop.invariant.left_in loop.invariant.right_in
-                merge_step.result merge_step.ensures change.c change.next change.past change.is).0 }
+    let change = c.in-Differs in record {
+      bundle_len_bound = pre.bundle_len_bound;
+      pl_bound = omega (arith, pre.pl_bound, loop.invariant.onward);
+      pl_bound_2 = turning.short-path args.pl args.depth pre.short;
+      small = loop.invariant.small;
+      change_within = (merging.differs_leads args.k.h args.bundle.now loop.l loop.r loop.invariant.left_in loop.invariant.right_in
+          merge_step.result merge_step.ensures change.c change.next change.past change.is).0;
+    }
 
 pub compare_entries-shape_of-items-then-p-ne-DONE : goal.compare_entries-shape_of-items-then-p-ne-DONE
 compare_entries-shape_of-items-then-p-ne-DONE t c =
@@ -80,8 +86,11 @@ compare_entries-returns-then-p-ne-DONE t c =
     let merge_step = c.merge_step in
     let change = c.in-Differs in
     let add = c.add-p in
-    let if1 = c.if-p-ne-DONE in record { by_index = turning.going_full loop.invariant merge_step.result merge_step.ensures change.c change.next change.past
-          change.is pre.1.1.0 add.result add.new.items.0 add.new.items.1.0 add.ensures.by_index if1.true; small_2 = add.ensures.added.0 }
+    let if1 = c.if-p-ne-DONE in record {
+      by_index = turning.going_full loop.invariant merge_step.result merge_step.ensures change.c change.next change.past
+          change.is pre.pl_bound add.result add.new.items.0 add.new.items.1.0 add.ensures.by_index if1.true;
+      small_2 = add.ensures.added.0;
+    }
 
 pub compare_entries-overflow_sub-size : goal.compare_entries-overflow_sub-size
 compare_entries-overflow_sub-size t c = omega (arith, c.add-p.ensures.added.1)
@@ -94,13 +103,13 @@ compare_entries-compare_inside-w-requires t c =
     let merge_step = c.merge_step in
     let change = c.in-Differs in
     let add = c.add-p in (
-      turning.entry-falls args.depth _ t pre.0,
+      turning.entry-falls args.depth _ t c.decreases,
       (
-        pre.1.0,
+        pre.bundle_len_bound,
         (
           omega (arith, add.ensures.added.1),
           (
-            turning.child_short loop.m add.result args.pl args.depth add.ensures.added pre.1.1.1.0,
+            turning.child_short loop.m add.result args.pl args.depth add.ensures.added pre.short,
             (
               add.ensures.added.0,
               (merging.differs_leads args.k.h args.bundle.now loop.l loop.r loop.invariant.left_in loop.invariant.right_in
@@ -134,10 +143,13 @@ compare_entries-returns-then-w-ne-DONE t c =
     let add = c.add-p in
     let if1 = c.if-p-ne-DONE in
     let compare-inside = c.compare_inside-w in
-    let if2 = c.if-w-ne-DONE in record { by_index = turning.going-stop loop.inv merge_step.result merge_step.ensures change.c change.next change.past
-          change.is pre.1.1.0 add.result add.new.items.0 add.new.items.1.0 add.ensures.by_index if1.false add.ensures.added add.auto.1.0
+    let if2 = c.if-w-ne-DONE in record {
+      by_index = turning.going-stop loop.inv merge_step.result merge_step.ensures change.c change.next change.past
+          change.is pre.pl_bound add.result add.new.items.0 add.new.items.1.0 add.ensures.by_index if1.false add.ensures.added add.auto.1.0
           add.auto.1.1.0 compare-inside.result compare-inside.new.k.1.1.1.0 compare-inside.new.k.1.1.1.1.0 compare-inside.ensures.by_index
-          if2.true; small_2 = compare-inside.ensures.small_2 }
+          if2.true;
+      small_2 = compare-inside.ensures.small_2;
+    }
 
 pub compare_entries-loop-next-smaller : goal.compare_entries-loop-next-smaller
 compare_entries-loop-next-smaller t c =
@@ -162,7 +174,7 @@ compare_entries-loop-next-preserved t c =
     let compare-inside = c.compare_inside-w in
     let if2 = c.if-w-ne-DONE in
     turning.going_on loop.inv merge_step.result merge_step.ensures change.c change.next change.past
-    change.is pre.1.1.0 add.result add.new.items.0 add.new.items.1.0 add.ensures.by_index if1.false add.ensures.added add.auto.1.0
+    change.is pre.pl_bound add.result add.new.items.0 add.new.items.1.0 add.ensures.by_index if1.false add.ensures.added add.auto.1.0
     add.auto.1.1.0 compare-inside.result compare-inside.new.k.1.1.1.0 compare-inside.new.k.1.1.1.1.0 compare-inside.ensures.by_index
     if2.false compare-inside.ensures.small_2 compare-inside.auto.1.1.1.1.0 compare-inside.auto.1.1.1.1.1.0
 
@@ -182,8 +194,8 @@ compare_folders-compare_entries-requires t c =
     let l = c.in-Both in
     let f = both-within args.k args.bundle.now args.a.now args.b.now args.depth args.index.now l.l l.r
     (sym open-both.ensures ∙ l.is) in (
-      turning.opened-falls args.depth t l.l.left l.r.left pre.0 f.0 f.1.1 f.2.1,
-      (pre.1.0, (pre.1.1.0, (turning.short-next args.pl args.depth f.0 pre.1.1.1.0, (pre.1.1.1.1, (f.1.0, f.2.0))))),
+      turning.opened-falls args.depth t l.l.left l.r.left c.decreases f.0 f.1.1 f.2.1,
+      (pre.bundle_len_bound, (pre.pl_bound, (turning.short-next args.pl args.depth f.0 pre.short, (pre.small, (f.1.0, f.2.0))))),
     )
 
 pub compare_folders-returns-in-Closed : goal.compare_folders-returns-in-Closed
@@ -191,73 +203,82 @@ compare_folders-returns-in-Closed t c =
     let args = c.args in
     let pre = c.requires in
     let open-both = c.open_both in
-    let v = c.in-Closed in record { by_index = λ prefix e. turning.tree-closed args.depth args.k args.bundle.now args.a.now args.b.now args.index.now open-both.result
-          open-both.ensures args.m _ args.items.now args.paths.now prefix v.v v.is; small_2 = pre.1.1.1.1 }
+    let v = c.in-Closed in record {
+      by_index = λ prefix e. turning.tree-closed args.depth args.k args.bundle.now args.a.now args.b.now args.index.now open-both.result
+          open-both.ensures args.m _ args.items.now args.paths.now prefix v.v v.is;
+      small_2 = pre.small;
+    }
 
 pub compare_folders-returns-in-Both : goal.compare_folders-returns-in-Both
 compare_folders-returns-in-Both t c =
     let args = c.args in
     let open-both = c.open_both in
     let l = c.in-Both in
-    let compare-entries = c.compare_entries in record { by_index = λ prefix e. turning.tree-both args.depth args.k args.bundle.now args.a.now args.b.now args.index.now open-both.result
+    let compare-entries = c.compare_entries in record {
+      by_index = λ prefix e. turning.tree-both args.depth args.k args.bundle.now args.a.now args.b.now args.index.now open-both.result
           open-both.ensures args.m _ args.items.now args.paths.now prefix l.l l.r l.is compare-entries.result
-          compare-entries.new.k.1.1.1.1.0 compare-entries.new.k.1.1.1.1.1.0 (compare-entries.ensures.by_index prefix e); small_2 = compare-entries.ensures.small_2 }
+          compare-entries.new.k.1.1.1.1.0 compare-entries.new.k.1.1.1.1.1.0 (compare-entries.ensures.by_index prefix e);
+      small_2 = compare-entries.ensures.small_2;
+    }
 
 pub compare_inside-slice_bounds-compare_folders-count : goal.compare_inside-slice_bounds-compare_folders-count
 compare_inside-slice_bounds-compare_folders-count t c =
     let args = c.args in
     let pre = c.requires in
-    let f = turning.left-side (length args.bundle.now) args.c pre.1.1.1.1.1 in
+    let f = turning.left-side (length args.bundle.now) args.c pre.change_within in
     omega (arith, f.0, f.1)
 
 pub compare_inside-slice_bounds-compare_folders-start : goal.compare_inside-slice_bounds-compare_folders-start
 compare_inside-slice_bounds-compare_folders-start t c =
     let args = c.args in
     let pre = c.requires in
-    let f = turning.left-side (length args.bundle.now) args.c pre.1.1.1.1.1 in
+    let f = turning.left-side (length args.bundle.now) args.c pre.change_within in
     omega (arith, f.0, f.1)
 
 pub compare_inside-slice_bounds-compare_folders-end : goal.compare_inside-slice_bounds-compare_folders-end
 compare_inside-slice_bounds-compare_folders-end t c =
     let args = c.args in
     let pre = c.requires in
-    let f = turning.left-side (length args.bundle.now) args.c pre.1.1.1.1.1 in
+    let f = turning.left-side (length args.bundle.now) args.c pre.change_within in
     omega (arith, f.0, f.1)
 
 pub compare_inside-slice_bounds-compare_folders-count-then-c : goal.compare_inside-slice_bounds-compare_folders-count-then-c
 compare_inside-slice_bounds-compare_folders-count-then-c t c =
     let args = c.args in
     let pre = c.requires in
-    let f = turning.right_side (length args.bundle.now) args.c pre.1.1.1.1.1 in
+    let f = turning.right_side (length args.bundle.now) args.c pre.change_within in
     omega (arith, f.0, f.1)
 
 pub compare_inside-slice_bounds-compare_folders-start-then-c : goal.compare_inside-slice_bounds-compare_folders-start-then-c
 compare_inside-slice_bounds-compare_folders-start-then-c t c =
     let args = c.args in
     let pre = c.requires in
-    let f = turning.right_side (length args.bundle.now) args.c pre.1.1.1.1.1 in
+    let f = turning.right_side (length args.bundle.now) args.c pre.change_within in
     omega (arith, f.0, f.1)
 
 pub compare_inside-slice_bounds-compare_folders-end-then-c : goal.compare_inside-slice_bounds-compare_folders-end-then-c
 compare_inside-slice_bounds-compare_folders-end-then-c t c =
     let args = c.args in
     let pre = c.requires in
-    let f = turning.right_side (length args.bundle.now) args.c pre.1.1.1.1.1 in
+    let f = turning.right_side (length args.bundle.now) args.c pre.change_within in
     omega (arith, f.0, f.1)
 
 pub compare_inside-compare_folders-requires : goal.compare_inside-compare_folders-requires
 compare_inside-compare_folders-requires t c =
     let args = c.args in
     let pre = c.requires in
-    (turning.inside-falls args.depth t pre.0, (pre.1.0, (omega (arith, pre.1.1.0), (pre.1.1.1.0, pre.1.1.1.1.0))))
+    (turning.inside-falls args.depth t c.decreases, (pre.bundle_len_bound, (omega (arith, pre.size_bound), (pre.short, pre.small))))
 
 pub compare_inside-returns-then-c : goal.compare_inside-returns-then-c
 compare_inside-returns-then-c t c =
     let args = c.args in
     let if1 = c.if-c in
-    let compare-folders = c.compare_folders in record { by_index = λ prefix e. turning.inside_deep (compare_folders (folders_in args.k args.bundle.now args.index.now) args.depth) prefix args.bundle.now
+    let compare-folders = c.compare_folders in record {
+      by_index = λ prefix e. turning.inside_deep (compare_folders (folders_in args.k args.bundle.now args.index.now) args.depth) prefix args.bundle.now
           args.c args.m _ args.items.now args.paths.now if1.true compare-folders.result compare-folders.new.k.1.1.1.1.0
-          compare-folders.new.k.1.1.1.1.1.0 (compare-folders.ensures.by_index prefix e); small_2 = compare-folders.ensures.small_2 }
+          compare-folders.new.k.1.1.1.1.1.0 (compare-folders.ensures.by_index prefix e);
+      small_2 = compare-folders.ensures.small_2;
+    }
 
 pub compare_inside-returns : goal.compare_inside-returns
 compare_inside-returns t c =
@@ -266,54 +287,6 @@ compare_inside-returns t c =
     let if1 = c.if-c in (
       λ prefix e. turning.inside-flat (compare_folders (folders_in args.k args.bundle.now args.index.now) args.depth) prefix args.bundle.now
           args.c args.m _ args.items.now args.paths.now if1.false,
-      pre.1.1.1.1.0,
-    )
-
-pub +compare-entries-compare-folders-compare-inside-spec : {M : Type 1} → statement M
-+compare-entries-compare-folders-compare-inside-spec =
-    close μ-compare-entries μ-compare-folders μ-compare-inside
-    (λ t. compare-entries-lts.spec (compare-entries-claims t) (compare-entries-at t) compare-entries.Post compare-entries-Inv-loop compare-entries-μ-loop
-    (compare-entries-loop-holds t)
-    (compare-entries-merge-step-requires t)
-    (compare-entries-enum-told t)
-    (compare-entries-same-length t)
-    (compare-entries-same-length-2 t)
-    (compare-entries-returns t)
-    (compare-entries-enum-known-next t)
-    (compare-entries-loop-less t)
-    (compare-entries-loop-again t)
-    (compare-entries-enum-known-c t)
-    (compare-entries-add-requires t)
-    (compare-entries-same-length-3 t)
-    (compare-entries-same-length-4 t)
-    (compare-entries-returns-2 t)
-    (compare-entries-sub-size t)
-    (compare-entries-compare-inside-requires t)
-    (compare-entries-same-length-5 t)
-    (compare-entries-same-length-6 t)
-    (compare-entries-returns-3 t)
-    (compare-entries-loop-less-2 t)
-    (compare-entries-loop-again-2 t))
-    (λ t. compare-folders-lts.spec (compare-folders-claims t) (compare-folders-at t) compare-folders.Post
-    (compare-folders-open-both-requires t)
-    (compare-folders-enum-known-v t)
-    (compare-folders-enum-known-l t)
-    (compare-folders-sub-compare-entries t)
-    (compare-folders-compare-entries-requires t)
-    (compare-folders-returns t)
-    (compare-folders-same-length t)
-    (compare-folders-same-length-2 t)
-    (compare-folders-returns-2 t))
-    (λ t. compare-inside-lts.spec (compare-inside-claims t) (compare-inside-at t) compare-inside.Post
-    (compare-inside-sub-compare-folders t)
-    (compare-inside-part-compare-folders-start t)
-    (compare-inside-part-compare-folders-end t)
-    (compare-inside-sub-compare-folders-2 t)
-    (compare-inside-part-compare-folders-start-2 t)
-    (compare-inside-part-compare-folders-end-2 t)
-    (compare-inside-compare-folders-requires t)
-    (compare-inside-same-length t)
-    (compare-inside-same-length-2 t)
-    (compare-inside-returns t)
-    (compare-inside-returns-2 t))) in
+      pre.small,
+    )) in
     record { by_index = r.0; small_2 = r.1 }

@@ -7,17 +7,17 @@ use Rattle.walk.proofs.Turning as turning
 use Rattle.walk.proofs.+compare_entries_compare_folders_compare_inside.Given as goal
 
 abbrev pub decreases-compare_entries : goal.decreases-compare_entries
-decreases-compare_entries l = turning.level a.1.1.1.1.0 (a.1.1.0.left + a.1.1.1.0.left + 2)
+decreases-compare_entries l = turning.level l.depth (l.l.left + l.r.left + 2)
 
-abbrev μ-compare-folders : Measures 6 compare-folders-kinds.ps ℕ
-μ-compare-folders κs a = turning.level a.1.1.1.1.0 0
+abbrev pub decreases-compare_folders : goal.decreases-compare_folders
+decreases-compare_folders l = turning.level l.depth 0
 
-abbrev μ-compare-inside : Measures 4 compare-inside-kinds.ps ℕ
-μ-compare-inside κs a = turning.level a.1.1.1.0 1
+abbrev pub decreases-compare_inside : goal.decreases-compare_inside
+decreases-compare_inside l = turning.level l.depth 1
 
-abbrev pub compare_entries-invariant-loop-next : goal.compare_entries-invariant-loop-next
-compare_entries-invariant-loop-next l =
+abbrev pub invariant-compare_entries-loop-next : goal.invariant-compare_entries-loop-next
+invariant-compare_entries-loop-next l =
     turning.Going (compare_folders (folders_in l.k l.bundle l.index) l.depth) l.k.h l.bundle l.ps l.pl l.initial.l l.initial.r l.initial.m l.initial.items l.initial.paths l.l l.r l.m l.items l.paths
 
-abbrev pub compare_entries-decreases-loop-next : goal.compare_entries-decreases-loop-next
-compare_entries-decreases-loop-next l = l.l.left + l.r.left
+abbrev pub decreases-compare_entries-loop-next : goal.decreases-compare_entries-loop-next
+decreases-compare_entries-loop-next l = l.l.left + l.r.left

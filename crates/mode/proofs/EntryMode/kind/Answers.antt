@@ -27,4 +27,4 @@ returns-in-16384 c = rw (sym c.sort.ensures ∙ c.in-16384.is)
 
 pub returns-in_default : goal.returns-in_default
 unfolding kind_of
-returns-in_default c = rw (← c.sort.ensures) (simp (ne_eqb _ _ c.in_default.rest.0.0.1, ne_eqb _ _ c.in_default.rest.0.1, ne_eqb _ _ c.in_default.rest.1))
+returns-in_default c = rw (← c.sort.ensures) (simp (ne_eqb _ _ c.in_default.in_default-own.rest.0.0.1, ne_eqb _ _ c.in_default.in_default-own.rest.0.1, ne_eqb _ _ c.in_default.in_default-own.rest.1))
