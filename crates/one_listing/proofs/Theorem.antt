@@ -10,7 +10,7 @@ use Rattle.ground.specs.declared.Verdict.{Verdict}
 use Rattle.ground.specs.declared.Answer.{Answer}
 use Rattle.ground.proofs.Laws.{gate_fine, gate_open, id_small, stored-done}
 use Rattle.entry.specs.Record.{many, records_of}
-use Rattle.entry.specs.Entry.{Entry, entry_of, entries_of, as_written}
+use Rattle.entry.specs.Entry.{entry_bytes, Entry, entry_of, entries_of, as_written}
 use Rattle.entry.specs.declared.EntryRecord.{EntryRecord}
 use Rattle.rules.specs.Rules.{Rules}
 use Rattle.reading.specs.Listing.{Listing, listing, tally, records_in, flats}

@@ -424,7 +424,7 @@ module _ (s : List ℕ) (h : ℕ) where
 
 -- who owns marks knows that eight first bytes are kept
 pub eight_kept : (m : Marks) (vs : List Val) → Is (row the_type) m vs → length m.head ≡ 8
-eight_kept m vs p = simp length-map at p.1.1.1.1.1.1.1.1.1.1.0.1.0.1
+eight_kept m vs p = p.1.1.1.1.1.1.1.1.1.1.0.1.0.1
 
 -- the marks where an entry begins
 module _ (m : Marks) (left : ℕ) (b : Between m left) where

@@ -64,5 +64,5 @@ returns-in-Open-open_roots c =
     ending.answers_walk args.bundle.now args.left.now args.right.now args.items.now args.paths.now sizes.result
     (ending.gate_is _ _ _ _ (length args.bundle.now) (length args.paths.now) (length args.left.now) (length args.right.now) _ sizes.ensures
     longer3.ensures longer.ensures longer2.ensures) enum_told.is open-roots.result open-roots.ensures k.k k.is
-    compare-in.result compare-in.new.k.1.1.1.0 compare-in.new.k.1.1.1.1.0 (c.compare_in.ensures.value, (c.compare_in.ensures.after, c.compare_in.ensures.paths_after))) in
+    compare-in.result compare-in.new.items compare-in.new.paths (c.compare_in.ensures.value, (c.compare_in.ensures.after, c.compare_in.ensures.paths_after))) in
     record { answer = r.0; items = r.1.0; paths = r.1.1 }

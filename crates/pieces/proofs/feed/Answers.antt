@@ -20,7 +20,7 @@ returns-then-piece-at c =
     let loop = c.loop-t in
     let whole = c.whole-t in
     let some = c.some-t in
-    sym (loop.invariant.0 ∙ turn_end loop.held loop.ends loop.t.marks args.piece.now loop.t.next whole.new.held whole.new.ends.0
+    sym (loop.invariant.0 ∙ turn_end loop.held loop.ends loop.t.marks args.piece.now loop.t.next whole.new.held whole.new.ends
     whole.result (c.whole-t.ensures.took, c.whole-t.ensures.room) some.new.held some.result (c.some-t.ensures.taken, c.some-t.ensures.held) c.if-piece-at.true)
 
 pub step-t-requires : goal.step-t-requires
@@ -39,7 +39,7 @@ loop-t-smaller c =
     let some = c.some-t in
     omega (
       arith,
-      turn-from loop.held loop.ends loop.t.marks args.piece.now loop.t.next whole.new.held whole.new.ends.0
+      turn-from loop.held loop.ends loop.t.marks args.piece.now loop.t.next whole.new.held whole.new.ends
           whole.result (c.whole-t.ensures.took, c.whole-t.ensures.room) some.new.held some.result (c.some-t.ensures.taken, c.some-t.ensures.held),
       c.if-piece-at.false,
     )
@@ -51,8 +51,8 @@ loop-t-preserved c =
     let whole = c.whole-t in
     let some = c.some-t in
     let if1 = c.if-piece-at in (
-      loop.invariant.0 ∙ turn_step loop.held loop.ends loop.t.marks args.piece.now loop.t.next whole.new.held whole.new.ends.0
+      loop.invariant.0 ∙ turn_step loop.held loop.ends loop.t.marks args.piece.now loop.t.next whole.new.held whole.new.ends
           whole.result (c.whole-t.ensures.took, c.whole-t.ensures.room) some.new.held some.result (c.some-t.ensures.taken, c.some-t.ensures.held) if1.false
-          c.step-t.new.held c.step-t.new.ends.0 c.step-t.result c.step-t.ensures,
+          c.step-t.new.held c.step-t.new.ends c.step-t.result c.step-t.ensures,
       omega (arith, if1.false),
     )

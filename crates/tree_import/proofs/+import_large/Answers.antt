@@ -28,7 +28,7 @@ returns t c =
     let r = (let args = c.args in
     let pre = c.requires in
     let import_lent = c.import_lent in
-    let e = (c.import_lent.ensures.answer, (c.import_lent.ensures.out, c.import_lent.ensures.list)) in
-    both_most args.rules args.h args.text.now pre.0 pre.1 args.out.now _ _ _ e.0 e.1.0
+    let e = c.import_lent.ensures in
+    both_most args.rules args.h args.text.now pre.0 pre.1 args.out.now _ _ _ e.answer e.out
     (room_for 1048576 most_records (omega arith))) in
     record { answer = r.0; out = r.1 }

@@ -71,13 +71,13 @@ pub compare_entries-shape_of-items-then-p-ne-DONE : goal.compare_entries-shape_o
 compare_entries-shape_of-items-then-p-ne-DONE t c =
     let loop = c.loop-next in
     let add = c.add-p in
-    add.auto.1.0 ∙ loop.invariant.items_kept
+    add.auto.items ∙ loop.invariant.items_kept
 
 pub compare_entries-shape_of-paths-then-p-ne-DONE : goal.compare_entries-shape_of-paths-then-p-ne-DONE
 compare_entries-shape_of-paths-then-p-ne-DONE t c =
     let loop = c.loop-next in
     let add = c.add-p in
-    add.auto.1.1.0 ∙ loop.invariant.paths_kept
+    add.auto.paths ∙ loop.invariant.paths_kept
 
 pub compare_entries-returns-then-p-ne-DONE : goal.compare_entries-returns-then-p-ne-DONE
 compare_entries-returns-then-p-ne-DONE t c =
@@ -88,7 +88,7 @@ compare_entries-returns-then-p-ne-DONE t c =
     let add = c.add-p in
     let if1 = c.if-p-ne-DONE in record {
       by_index = turning.going_full loop.invariant merge_step.result merge_step.ensures change.c change.next change.past
-          change.is pre.pl_bound add.result add.new.items.0 add.new.items.1.0 add.ensures.by_index if1.true;
+          change.is pre.pl_bound add.result add.new.items add.new.paths add.ensures.by_index if1.true;
       small_2 = add.ensures.added.0;
     }
 
@@ -125,14 +125,14 @@ compare_entries-shape_of-items-then-w-ne-DONE t c =
     let loop = c.loop-next in
     let add = c.add-p in
     let compare-inside = c.compare_inside-w in
-    compare-inside.auto.1.1.1.1.0 ∙ add.auto.1.0 ∙ loop.inv.items_kept
+    compare-inside.auto.items ∙ add.auto.items ∙ loop.invariant.items_kept
 
 pub compare_entries-shape_of-paths-then-w-ne-DONE : goal.compare_entries-shape_of-paths-then-w-ne-DONE
 compare_entries-shape_of-paths-then-w-ne-DONE t c =
     let loop = c.loop-next in
     let add = c.add-p in
     let compare-inside = c.compare_inside-w in
-    compare-inside.auto.1.1.1.1.1.0 ∙ add.auto.1.1.0 ∙ loop.inv.paths_kept
+    compare-inside.auto.paths ∙ add.auto.paths ∙ loop.invariant.paths_kept
 
 pub compare_entries-returns-then-w-ne-DONE : goal.compare_entries-returns-then-w-ne-DONE
 compare_entries-returns-then-w-ne-DONE t c =
@@ -144,9 +144,9 @@ compare_entries-returns-then-w-ne-DONE t c =
     let if1 = c.if-p-ne-DONE in
     let compare-inside = c.compare_inside-w in
     let if2 = c.if-w-ne-DONE in record {
-      by_index = turning.going-stop loop.inv merge_step.result merge_step.ensures change.c change.next change.past
-          change.is pre.pl_bound add.result add.new.items.0 add.new.items.1.0 add.ensures.by_index if1.false add.ensures.added add.auto.1.0
-          add.auto.1.1.0 compare-inside.result compare-inside.new.k.1.1.1.0 compare-inside.new.k.1.1.1.1.0 compare-inside.ensures.by_index
+      by_index = turning.going-stop loop.invariant merge_step.result merge_step.ensures change.c change.next change.past
+          change.is pre.pl_bound add.result add.new.items add.new.paths add.ensures.by_index if1.false add.ensures.added add.auto.items
+          add.auto.paths compare-inside.result compare-inside.new.items compare-inside.new.paths compare-inside.ensures.by_index
           if2.true;
       small_2 = compare-inside.ensures.small_2;
     }
@@ -159,7 +159,7 @@ compare_entries-loop-next-smaller t c =
     let change = c.in-Differs in
     omega (
       arith,
-      (merging.differs_leads args.k.h args.bundle.now loop.l loop.r loop.inv.left_in loop.inv.right_in merge_step.result
+      (merging.differs_leads args.k.h args.bundle.now loop.l loop.r loop.invariant.left_in loop.invariant.right_in merge_step.result
           merge_step.ensures change.c change.next change.past change.is).1.2,
     )
 
@@ -173,10 +173,10 @@ compare_entries-loop-next-preserved t c =
     let if1 = c.if-p-ne-DONE in
     let compare-inside = c.compare_inside-w in
     let if2 = c.if-w-ne-DONE in
-    turning.going_on loop.inv merge_step.result merge_step.ensures change.c change.next change.past
-    change.is pre.pl_bound add.result add.new.items.0 add.new.items.1.0 add.ensures.by_index if1.false add.ensures.added add.auto.1.0
-    add.auto.1.1.0 compare-inside.result compare-inside.new.k.1.1.1.0 compare-inside.new.k.1.1.1.1.0 compare-inside.ensures.by_index
-    if2.false compare-inside.ensures.small_2 compare-inside.auto.1.1.1.1.0 compare-inside.auto.1.1.1.1.1.0
+    turning.going_on loop.invariant merge_step.result merge_step.ensures change.c change.next change.past
+    change.is pre.pl_bound add.result add.new.items add.new.paths add.ensures.by_index if1.false add.ensures.added add.auto.items
+    add.auto.paths compare-inside.result compare-inside.new.items compare-inside.new.paths compare-inside.ensures.by_index
+    if2.false compare-inside.ensures.small_2 compare-inside.auto.items compare-inside.auto.paths
 
 pub compare_folders-overflow_sub-depth : goal.compare_folders-overflow_sub-depth
 compare_folders-overflow_sub-depth t c =
@@ -217,7 +217,7 @@ compare_folders-returns-in-Both t c =
     let compare-entries = c.compare_entries in record {
       by_index = λ prefix e. turning.tree-both args.depth args.k args.bundle.now args.a.now args.b.now args.index.now open-both.result
           open-both.ensures args.m _ args.items.now args.paths.now prefix l.l l.r l.is compare-entries.result
-          compare-entries.new.k.1.1.1.1.0 compare-entries.new.k.1.1.1.1.1.0 (compare-entries.ensures.by_index prefix e);
+          compare-entries.new.items compare-entries.new.paths (compare-entries.ensures.by_index prefix e);
       small_2 = compare-entries.ensures.small_2;
     }
 
@@ -275,18 +275,16 @@ compare_inside-returns-then-c t c =
     let if1 = c.if-c in
     let compare-folders = c.compare_folders in record {
       by_index = λ prefix e. turning.inside_deep (compare_folders (folders_in args.k args.bundle.now args.index.now) args.depth) prefix args.bundle.now
-          args.c args.m _ args.items.now args.paths.now if1.true compare-folders.result compare-folders.new.k.1.1.1.1.0
-          compare-folders.new.k.1.1.1.1.1.0 (compare-folders.ensures.by_index prefix e);
+          args.c args.m _ args.items.now args.paths.now if1.true compare-folders.result compare-folders.new.items
+          compare-folders.new.paths (compare-folders.ensures.by_index prefix e);
       small_2 = compare-folders.ensures.small_2;
     }
 
 pub compare_inside-returns : goal.compare_inside-returns
 compare_inside-returns t c =
-    let r = (let args = c.args in
-    let pre = c.requires in
-    let if1 = c.if-c in (
-      λ prefix e. turning.inside-flat (compare_folders (folders_in args.k args.bundle.now args.index.now) args.depth) prefix args.bundle.now
-          args.c args.m _ args.items.now args.paths.now if1.false,
-      pre.small,
-    )) in
-    record { by_index = r.0; small_2 = r.1 }
+    let args = c.args in
+    let if1 = c.if-c in record {
+      by_index = λ prefix e. turning.inside-flat (compare_folders (folders_in args.k args.bundle.now args.index.now) args.depth) prefix args.bundle.now
+          args.c args.m _ args.items.now args.paths.now if1.false;
+      small_2 = c.requires.small;
+    }
