@@ -21,6 +21,7 @@ use Rattle.listing_text.proofs as listing
 use Rattle.part_words.proofs as part_words
 use Rattle.probe.proofs as probe
 use Rattle.record_slice.proofs as slice
+use Rattle.record_slice.specs.contracts.bisect_records as records_fn
 use Rattle.lookups.proofs as lookups
 use Rattle.tree_write.proofs as tree
 use Rattle.loose_header.proofs as loose
@@ -97,7 +98,7 @@ abbrev pub bisect_array : Deed
 bisect_array = reads (call slice.bisect_array.Kinds.ps slice.bisect_array.Kinds.r slice.bisect_array.Reads.Asked slice.bisect_array.Reads.Post) (λ i x. of_looked x)
 
 abbrev pub bisect_records : Walked
-bisect_records = record { ended = slice.bisect_records.ended; contract = λ M. slice.bisect_records.clauses; said = λ κs x. of_looked x }
+bisect_records = record { ended = records_fn.ended; contract = λ M. records_fn.clauses; said = λ κs x. of_looked x }
 
 abbrev pub bisect_entries : Deed
 bisect_entries =
