@@ -13,13 +13,17 @@ use Rattle.ground.specs.declared.Gate.{Gate}
 use Rattle.ground.specs.declared.Gate.TheVariants.{Open, Shut}
 use Rattle.ground.proofs.Laws.{and_left, and_right}
 use Rattle.output.specs.Output.{fitted}
-use Rattle.call.specs.Call.{Call, Input, Outcome, Answered, Meets, TakesAll, Deed, Said, among, listed, nothing, Refusal, Fits, Keeps, HandsOn}
+use Rattle.call.specs.Call.{Call, Input, Outcome, Answered, Meets, TakesAll, OneAnswer, Deed, Said, among, listed, nothing, Refusal, Fits, Keeps, HandsOn}
 use Rattle.call.specs.Deeds.{of_verdict, of_answer, reads, stores, writes, hands}
 use Rattle.call.specs.Places.{Below, Over, at_record}
 
 -- two that are the same as a third
 pub same : {A : Type 0} {x y z : A} → x ≡ z → y ≡ z → x ≡ y
 same p q = p ∙ sym q
+
+-- every answer that the contract allows is the same as a function's of what the call is handed: so no second one meets it
+pub answers_once : (c : Call) (f : (i : Input c) → Answered c i) → ((i : Input c) (o : Outcome c i) → Meets c i o → o.answer ≡ f i) → OneAnswer c
+answers_once c f told i o p m n = same (told i o m) (told i p n)
 
 -- one list, and two, each the same as another
 pub one_list : {l m : List ℕ} → l ≡ m → l ∷ [] ≡ m ∷ []

@@ -31,7 +31,7 @@ use Rattle.call.specs.Call.{none, ◌and◌, Refusal, Fits}
 use Rattle.call.specs.Deeds.{of_answer}
 use Rattle.commit_calls.specs.Calls.{of_commit}
 use Rattle.commit_calls.specs.First.{OfCommits}
-use Rattle.call.proofs.Laws.{same, Of, done, zero, wider, two-lists, keeps, keeps-writes, keeps-stores, each-pick, each_within, each-size, each_gate}
+use Rattle.call.proofs.Laws.{answers_once, Of, done, zero, wider, two-lists, keeps, keeps-writes, keeps-stores, each-pick, each_within, each-size, each_gate}
 
 -- every way to unfold: a value, 2, 10, 8
 pub each_plan : (Q : Plan → Type 0) → ((v : List ℕ) → Q (stores v)) → Q (refuses (verdict 2 0)) → Q (refuses (verdict 10 0))
@@ -120,7 +120,7 @@ of_commits = record {
   put_byte = keeps-stores _ (λ i. tt) _ _ _ _ (λ i o m. (refl, m));
   put_value = keeps-stores _ (λ i. tt) _ _ _ _ (λ i o m. m);
   commit_questions =
-      ((λ i. tt), (λ i o p. same)) and ((λ i. tt), (λ i o p. same)) and ((λ i. tt), (λ i o p. same)) and ((λ i. tt), (λ i o p. same)) and
-      ((λ i. tt), (λ i o p. same)) and ((λ i. tt), (λ i o p. same)) and ((λ i. tt), (λ i o p. same)) and
-      ((λ i. tt), (λ i o p. same)) and ((λ i. tt), (λ i o p. same)) and none;
+      ((λ i. tt), answers_once _ _ (λ i o m. m)) and ((λ i. tt), answers_once _ _ (λ i o m. m)) and ((λ i. tt), answers_once _ _ (λ i o m. m)) and ((λ i. tt), answers_once _ _ (λ i o m. m)) and
+      ((λ i. tt), answers_once _ _ (λ i o m. m)) and ((λ i. tt), answers_once _ _ (λ i o m. m)) and ((λ i. tt), answers_once _ _ (λ i o m. m)) and
+      ((λ i. tt), answers_once _ _ (λ i o m. m)) and ((λ i. tt), answers_once _ _ (λ i o m. m)) and none;
 }

@@ -5,7 +5,7 @@ use Rattle.border_tree.specs.Border.{step_numbers}
 use Rattle.call.specs.Call.{none, ◌and◌}
 use Rattle.paper.specs.Border.{said_in, step_in, commit_in}
 use Rattle.paper.specs.Demand1.{OfBorder}
-use Rattle.call.proofs.Laws.{same, one_list, two-lists, Of, done, zero, wider, keeps-stores, keeps-hands}
+use Rattle.call.proofs.Laws.{answers_once, one_list, two-lists, Of, done, zero, wider, keeps-stores, keeps-hands}
 use Rattle.paper.proofs.Modes.{alone-fits, number_fits}
 use Rattle.tree_calls.proofs.Entries.{each_step}
 use Rattle.tree_calls.proofs.Reading.{plain_fits, strict-fits}
@@ -64,6 +64,6 @@ of_border = record {
   compare_trees = keeps-hands _ (λ i. tt) _ said_in _ _ _ _ _ _ (λ i o m. (m.0, m.1.0, two-lists m.1.1.0 m.1.1.1)) (λ i. wider (compare_fits _ _ _ _ _) refl)
       (λ i z. two-lists (stored_refused _ _ _ z) (stored_refused _ _ _ z));
   questions =
-      ((λ i. tt), (λ i o p. same)) and ((λ i. tt), (λ i o p. same)) and ((λ i. tt), (λ i o p. same)) and ((λ i. tt), (λ i o p. same)) and none;
+      ((λ i. tt), answers_once _ _ (λ i o m. m)) and ((λ i. tt), answers_once _ _ (λ i o m. m)) and ((λ i. tt), answers_once _ _ (λ i o m. m)) and ((λ i. tt), answers_once _ _ (λ i o m. m)) and none;
   same_contracts = refl;
 }

@@ -30,7 +30,7 @@ use Rattle.call.specs.Call.{Fits, none, ◌and◌}
 use Rattle.paper.specs.Calls.{of_opening, of_checked, of_object, of_followed}
 use Rattle.paper.specs.Border.{said_in}
 use Rattle.paper.specs.Demand1.{OfBundles}
-use Rattle.call.proofs.Laws.{same, Of, done, zero, keeps-reads, keeps-stores, each-pick, each-size}
+use Rattle.call.proofs.Laws.{answers_once, Of, done, zero, keeps-reads, keeps-stores, each-pick, each-size}
 
 -- two lists one behind the other
 pub both-lists : {l m k n : List ℕ} → l ≡ m → k ≡ n → l ++ k ≡ m ++ n
@@ -129,8 +129,8 @@ of_bundles = record {
   object_of = keeps-reads _ (λ i. tt) _ _ _ (λ i o m. m) (λ i. object-fits _ _);
   follow_path = keeps-reads _ (λ i. tt) _ _ _ (λ i o m. m) (λ i. followed_fits _ _ _);
   bundle_questions =
-      ((λ i. tt), (λ i o p. same)) and ((λ i. tt), (λ i o p. same)) and ((λ i. tt), (λ i o p. same)) and ((λ i. tt), (λ i o p. same))
-      and ((λ i. tt), (λ i o p. same)) and ((λ i. tt), (λ i o p. same)) and ((λ i. tt), (λ i o p. same)) and ((λ i. tt), (λ i o p. same))
-      and ((λ i. tt), (λ i o p. same)) and ((λ i. tt), (λ i o p. same)) and ((λ i. tt), (λ i o p. same)) and ((λ i. tt), (λ i o p. same))
+      ((λ i. tt), answers_once _ _ (λ i o m. m)) and ((λ i. tt), answers_once _ _ (λ i o m. m)) and ((λ i. tt), answers_once _ _ (λ i o m. m)) and ((λ i. tt), answers_once _ _ (λ i o m. m))
+      and ((λ i. tt), answers_once _ _ (λ i o m. m)) and ((λ i. tt), answers_once _ _ (λ i o m. m)) and ((λ i. tt), answers_once _ _ (λ i o m. m)) and ((λ i. tt), answers_once _ _ (λ i o m. m))
+      and ((λ i. tt), answers_once _ _ (λ i o m. m)) and ((λ i. tt), answers_once _ _ (λ i o m. m)) and ((λ i. tt), answers_once _ _ (λ i o m. m)) and ((λ i. tt), answers_once _ _ (λ i o m. m))
       and none;
 }

@@ -28,7 +28,7 @@ use Rattle.difference.specs.Whole.{store_of, folders_of, differences, roots_of, 
 use Rattle.call.specs.Call.{Fits, none, ◌and◌}
 use Rattle.call.specs.Deeds.{of_answer}
 use Rattle.paper.specs.Demand1.{OfDifferences}
-use Rattle.call.proofs.Laws.{same, two-lists, done, zero, wider, keeps, keeps-stores, each-pick, each-size}
+use Rattle.call.proofs.Laws.{answers_once, two-lists, done, zero, wider, keeps, keeps-stores, each-pick, each-size}
 use Rattle.paper.proofs.Edits.{each-tally}
 use Rattle.paper.proofs.Walking.{Opens, walk_ends}
 use Rattle.paper.proofs.Bundles.{each_opening}
@@ -111,7 +111,7 @@ stored-by a b l lent r e q = q ∙ ap (λ (x : Answer). stored x.verdict l lent)
 
 pub of_differences : OfDifferences
 of_differences = record {
-  difference_questions = ((λ i. tt), (λ i o p. same)) and ((λ i. tt), (λ i o p. same)) and ((λ i. tt), (λ i o p. same)) and ((λ i. tt), (λ i o p. same)) and none;
+  difference_questions = ((λ i. tt), answers_once _ _ (λ i o m. m)) and ((λ i. tt), answers_once _ _ (λ i o m. m)) and ((λ i. tt), answers_once _ _ (λ i o m. m)) and ((λ i. tt), answers_once _ _ (λ i o m. m)) and none;
   make_index = keeps-stores _ (λ i. tt) _ _ _ _ (λ i o m. m);
   put_item = keeps-stores _ (λ i. tt) _ _ _ _ (λ i o m. (refl, m));
   put_path = keeps-stores _ (λ i. tt) _ _ _ _ (λ i o m. (refl, m));

@@ -31,7 +31,7 @@ use Rattle.call.specs.Call.{Fits, ◌and◌, none}
 use Rattle.call.specs.Deeds.{of_answer}
 use Rattle.paper.specs.Calls.{of_counted}
 use Rattle.paper.specs.Demand1.{OfEdits}
-use Rattle.call.proofs.Laws.{Of, same, done, zero, wider, keeps-reads, keeps-writes, keeps-stores, each-pick, each-fitted}
+use Rattle.call.proofs.Laws.{answers_once, Of, done, zero, wider, keeps-reads, keeps-writes, keeps-stores, each-pick, each-fitted}
 use Rattle.tree_calls.proofs.Placed.{plain-placed, cut-placed}
 
 -- every way that a strict reading stops: 2, 3, 5, 6, 18, 7, 17
@@ -131,7 +131,7 @@ count_fits k h s =
 
 pub of_edits : OfEdits
 of_edits = record {
-  edit_questions = ((λ i. tt), (λ i o p. same)) and none;
+  edit_questions = ((λ i. tt), answers_once _ _ (λ i o m. m)) and none;
   count_strict = keeps-reads _ (λ i. tt) _ _ _ (λ i o m. m) (λ i. count_fits _ _ _);
   walk_tree = keeps-stores _ (λ i. tt) _ _ _ _ (λ i o m. m);
   put_in_tree = keeps-writes _ (λ i. tt) _ _ _ _ _ _ (λ i o m. m) (λ i. wider (put-fits _ _ _ _ _) refl) (λ i z. stored_refused _ _ _ z);

@@ -13,7 +13,7 @@ use Rattle.hex_of_id.specs.Hex.{hex_answer}
 use Rattle.call.specs.Call.{none, ◌and◌, Fits}
 use Rattle.call.specs.Deeds.{of_answer}
 use Rattle.paper.specs.Demand1.{OfHex}
-use Rattle.call.proofs.Laws.{same, Of, done, zero, wider, keeps-writes, each-pick, each_gate, each-fitted}
+use Rattle.call.proofs.Laws.{answers_once, same, Of, done, zero, wider, keeps-writes, each-pick, each_gate, each-fitted}
 
 -- every way to take digits, a count, 1, 2, 10, 8, and to give them, the same without 10
 module _ (Q : Answer → Type 0) (count : (n : ℕ) → Q (counted n)) (one : Q (refused (verdict 1 0))) (two : Q (refused (verdict 2 0)))
@@ -37,7 +37,7 @@ hex-fits = each-hex (Of _ of_answer) (λ n. done refl refl) (zero refl refl) (ze
 
 pub of_hex : OfHex
 of_hex = record {
-  hex_questions = ((λ i. tt), (λ i o p. same)) and ((λ i. tt), (λ i o p. same)) and ((λ i. tt), (λ i o p. same)) and ((λ i. tt), (λ i o p. same)) and none;
+  hex_questions = ((λ i. tt), answers_once _ _ (λ i o m. m)) and ((λ i. tt), answers_once _ _ (λ i o m. m)) and ((λ i. tt), answers_once _ _ (λ i o m. m)) and ((λ i. tt), answers_once _ _ (λ i o m. m)) and none;
   id_of_hex = keeps-writes _ (λ i. tt) _ _ _ _ _ _ (λ i o m. m) (λ i. wider (id-fits _ _) refl) (λ i z. stored_refused _ _ _ z);
   hex_of_id = keeps-writes _ (λ i. tt) _ _ _ _ _ _ (λ i o m. m) (λ i. wider (hex-fits _ _) refl) (λ i z. stored_refused _ _ _ z);
 }

@@ -17,7 +17,7 @@ use Rattle.arriving.specs.declared.Check.{Check}
 use Rattle.call.specs.Call.{Fits, ◌and◌, none}
 use Rattle.paper.specs.Calls.{of_mended}
 use Rattle.paper.specs.Demand1.{OfMending, OfLeaves}
-use Rattle.call.proofs.Laws.{same, two-lists, done, zero, wider, keeps, each-pick, each_gate}
+use Rattle.call.proofs.Laws.{answers_once, same, two-lists, done, zero, wider, keeps, each-pick, each_gate}
 
 abbrev numbers : List ℕ
 numbers = 0 ∷ 1 ∷ 2 ∷ 3 ∷ 4 ∷ 8 ∷ []
@@ -40,7 +40,7 @@ mend_fits h s list room =
 
 pub of_mending : OfMending
 of_mending = record {
-  mend_questions = ((λ i. tt), (λ i o p. same)) and ((λ i. tt), (λ i o p. same)) and ((λ i. tt), (λ i o p. same)) and none;
+  mend_questions = ((λ i. tt), answers_once _ _ (λ i o m. m)) and ((λ i. tt), answers_once _ _ (λ i o m. m)) and ((λ i. tt), answers_once _ _ (λ i o m. m)) and none;
   mend_tree = keeps _ _ (λ i. tt) (record {
     answers = λ i. _;
     hands = λ i. [];
@@ -57,15 +57,15 @@ firsts m n = same m.0 n.0
 pub of_leaves : OfLeaves
 of_leaves = record {
   piece_questions =
-      ((λ i. tt), (λ i o p. same)) and ((λ i. tt), (λ i o p. same)) and ((λ i. tt), (λ i o p. same)) and ((λ i. tt), (λ i o p. same)) and
-      ((λ i. tt), (λ i o p. same)) and ((λ i. tt), (λ i o p. same)) and ((λ i. tt), (λ i o p. same)) and ((λ i. tt), (λ i o p. same)) and
-      ((λ i. tt), (λ i o p. same)) and ((λ i. tt), (λ i o p. same)) and
+      ((λ i. tt), answers_once _ _ (λ i o m. m)) and ((λ i. tt), answers_once _ _ (λ i o m. m)) and ((λ i. tt), answers_once _ _ (λ i o m. m)) and ((λ i. tt), answers_once _ _ (λ i o m. m)) and
+      ((λ i. tt), answers_once _ _ (λ i o m. m)) and ((λ i. tt), answers_once _ _ (λ i o m. m)) and ((λ i. tt), answers_once _ _ (λ i o m. m)) and ((λ i. tt), answers_once _ _ (λ i o m. m)) and
+      ((λ i. tt), answers_once _ _ (λ i o m. m)) and ((λ i. tt), answers_once _ _ (λ i o m. m)) and
       (λ i. tt, λ i o p m n. ap (λ (c : Check). c.marks) (m ∙ sym n)) and (λ i. tt, λ i o p m n. ap (λ (c : Check). c.marks) (m ∙ sym n)) and
       (λ i. tt, λ i o p m n. ap (λ (c : Check). c.marks) (m ∙ sym n)) and
-      ((λ i. tt), (λ i o p. same)) and ((λ i. tt), (λ i o p. same)) and ((λ i. tt), (λ i o p. same)) and
+      ((λ i. tt), answers_once _ _ (λ i o m. m)) and ((λ i. tt), answers_once _ _ (λ i o m. m)) and ((λ i. tt), answers_once _ _ (λ i o m. m)) and
       ((λ i. tt), (λ i o p. firsts)) and ((λ i. tt), (λ i o p. firsts)) and ((λ i. tt), (λ i o p. firsts)) and ((λ i. tt), (λ i o p. firsts)) and
       ((λ i. tt), (λ i o p. firsts)) and none;
   word_questions =
-      ((λ i. tt), (λ i o p. same)) and ((λ i. tt), (λ i o p. same)) and ((λ i. tt), (λ i o p. same)) and ((λ i. tt), (λ i o p. same)) and
-      ((λ i. tt), (λ i o p. same)) and none;
+      ((λ i. tt), answers_once _ _ (λ i o m. m)) and ((λ i. tt), answers_once _ _ (λ i o m. m)) and ((λ i. tt), answers_once _ _ (λ i o m. m)) and ((λ i. tt), answers_once _ _ (λ i o m. m)) and
+      ((λ i. tt), answers_once _ _ (λ i o m. m)) and none;
 }

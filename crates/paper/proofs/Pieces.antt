@@ -38,7 +38,7 @@ use Rattle.paper.specs.Border.{said_in}
 use Rattle.paper.specs.Arrives.{feed_call}
 use Rattle.paper.specs.Pieces.{GoesOn, piece_c, end_c, of_marks, marks_in, OfPieces}
 use Rattle.paper.specs.Pieces.{Lent, lent_to, lent_from, piece_of, Lends, no-piece, a_piece, CheckedC, Lending}
-use Rattle.call.proofs.Laws.{same, two-lists, done, added, Tells, keeps-reads, keeps-hands, each-pick, keeps-stores}
+use Rattle.call.proofs.Laws.{answers_once, same, two-lists, done, added, Tells, keeps-reads, keeps-hands, each-pick, keeps-stores}
 use Rattle.call.proofs.Laws as laws
 use Rattle.paper.proofs.Bundles.{both-lists}
 
@@ -147,7 +147,7 @@ of_pieces = record {
     says = λ i. of_answer (finish_of i.args.0);
     told = λ i o m. (m, refl, refl, ap of_answer m);
   }) (λ i had g. end_fits i.args.0 had g) (λ i z. (ap (λ (a : Answer). a.verdict) (end_refused i.args.0 z), refl));
-  said_marks = ((λ i. tt), (λ i o p. same)) and none;
+  said_marks = ((λ i. tt), answers_once _ _ (λ i o m. m)) and none;
   store_marks = keeps-stores _ (λ i. tt) _ _ _ _ (λ i o m. (refl, m));
   check_start = keeps-hands _ (λ i. tt) _ marks_in _ _ _ _ _ _ (λ i o m. (m.0, both-lists m.1.0 m.1.1, refl)) (λ i. start_fits _ _) (λ i z. refl);
   check_piece = goes_on _ _ _ (λ i. tt) (record {

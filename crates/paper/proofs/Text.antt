@@ -32,7 +32,7 @@ use Rattle.call.specs.Call.{none, ◌and◌, Fits}
 use Rattle.call.specs.Deeds.{of_answer}
 use Rattle.paper.specs.Demand1.{OfText}
 use Rattle.call.proofs.Laws as fits
-use Rattle.call.proofs.Laws.{same, one_list, wider, keeps, keeps-writes, keeps-stores, each_gate, each-fitted}
+use Rattle.call.proofs.Laws.{answers_once, same, one_list, wider, keeps, keeps-writes, keeps-stores, each_gate, each-fitted}
 use Rattle.tree_calls.proofs.Reading.{each-strict}
 
 abbrev Exported : Answer → Type 0
@@ -169,14 +169,14 @@ lent_fits k h s room size =
 pub of_text : OfText
 of_text = record {
   text_questions =
-      ((λ i. tt), (λ i o p. same))
-      and ((λ i. tt), (λ i o p. same))
-      and ((λ i. tt), (λ i o p. same))
-      and ((λ i. tt), (λ i o p. same))
-      and ((λ i. tt), (λ i o p. same))
-      and ((λ i. tt), (λ i o p. same))
-      and ((λ i. tt), (λ i o p. same))
-      and ((λ i. tt), (λ i o p. same))
+      ((λ i. tt), answers_once _ _ (λ i o m. m))
+      and ((λ i. tt), answers_once _ _ (λ i o m. m))
+      and ((λ i. tt), answers_once _ _ (λ i o m. m))
+      and ((λ i. tt), answers_once _ _ (λ i o m. m))
+      and ((λ i. tt), answers_once _ _ (λ i o m. m))
+      and ((λ i. tt), answers_once _ _ (λ i o m. m))
+      and ((λ i. tt), answers_once _ _ (λ i o m. m))
+      and ((λ i. tt), answers_once _ _ (λ i o m. m))
       and none;
   judge_list = keeps-stores _ (λ i. tt) _ _ _ _ (λ i o m. m);
   import_lent = keeps _ _ (λ i. tt) (record {

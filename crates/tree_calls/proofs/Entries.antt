@@ -15,7 +15,7 @@ use Rattle.entry.proofs.Laws.{decode_three}
 use Rattle.call.specs.Call.{none, ◌and◌, Fits}
 use Rattle.tree_calls.specs.Calls.{of_step, of_decoded}
 use Rattle.tree_calls.specs.First.{OfEntries}
-use Rattle.call.proofs.Laws.{same, Of, done, zero, wider, keeps-reads, keeps-stores, each_within, each_gate}
+use Rattle.call.proofs.Laws.{answers_once, Of, done, zero, wider, keeps-reads, keeps-stores, each_within, each_gate}
 
 -- every way to decode: an entry, or 3 at its first byte with one of the three parts
 pub each_decoded : (Q : Decoded → Type 0) → ((e : EntryRecord) (next : Cursor) → Q (Whole e next)) → (h at : ℕ) (b : List ℕ)
@@ -45,5 +45,5 @@ of_entries = record {
   cursor_step = keeps-reads _ (λ i. tt) _ _ _ (λ i o m. m) (λ i. wider (step_fits _ _ _) refl);
   cursor_decode = keeps-reads _ (λ i. tt) _ _ _ (λ i o m. m) (λ i. each_decoded (Of _ of_decoded) (λ e next. done refl refl) _ _ _ (λ k p. zero refl p));
   put_entry = keeps-stores _ (λ i. tt) _ _ _ _ (λ i o m. (refl, m));
-  entry_questions = ((λ i. tt), (λ i o p. same)) and ((λ i. tt), (λ i o p. same)) and ((λ i. tt), (λ i o p. same)) and none;
+  entry_questions = ((λ i. tt), answers_once _ _ (λ i o m. m)) and ((λ i. tt), answers_once _ _ (λ i o m. m)) and ((λ i. tt), answers_once _ _ (λ i o m. m)) and none;
 }

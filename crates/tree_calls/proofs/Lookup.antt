@@ -31,7 +31,7 @@ use Rattle.call.specs.Call.{none, ◌and◌, Fits}
 use Rattle.call.specs.Deeds.{of_answer}
 use Rattle.tree_calls.specs.Calls.{of_looked}
 use Rattle.tree_calls.specs.First.{OfLookup}
-use Rattle.call.proofs.Laws.{same, Of, done, zero, wider, added, keeps-reads, keeps-writes, hands_on, each-pick, each_gate}
+use Rattle.call.proofs.Laws.{answers_once, same, Of, done, zero, wider, added, keeps-reads, keeps-writes, hands_on, each-pick, each_gate}
 
 -- every way to search among n records: found, 15, 10 at a record
 each_search : (Q : Looked → Type 0) → ((i c : ℕ) → Q (found i c)) → ((c : ℕ) → Q (absent c))
@@ -164,5 +164,5 @@ of_lookup = record {
   lookup_start = keeps-reads _ (λ i. tt) _ _ _ (λ i o m. m) (λ i. start_fits _ _ _ _);
   lookup_step = hands_on _ (λ i. tt) _ _ _ _ (λ i o m. m) (λ i. step_fits _ _ _ _ _);
   lookup_answer = hands_on _ (λ i. tt) _ _ _ _ (λ i o m. m) (λ i handed f. f);
-  lookup_questions = ((λ i. tt), (λ i o p. same)) and none;
+  lookup_questions = ((λ i. tt), answers_once _ _ (λ i o m. m)) and none;
 }

@@ -25,7 +25,7 @@ use Rattle.strict.specs.Strict.{strictly, strict_answer}
 use Rattle.call.specs.Call.{none, ◌and◌, Fits}
 use Rattle.call.specs.Deeds.{of_answer, of_gate}
 use Rattle.tree_calls.specs.First.{OfReading}
-use Rattle.call.proofs.Laws.{same, Of, done, zero, wider, keeps-reads, keeps-writes, keeps-stores, each_within, each_gate}
+use Rattle.call.proofs.Laws.{answers_once, Of, done, zero, wider, keeps-reads, keeps-writes, keeps-stores, each_within, each_gate}
 use Rattle.tree_calls.proofs.Placed.{Placed, placed_stops, plain-placed, cut-placed}
 
 -- every way to read: a count, 1, 2, 3 inside the object, 4 with more than there is room for; strictly also 19, and 5, 6, 18, 7 and 17 inside the object
@@ -106,7 +106,7 @@ rule_gate_fits k h bytes records = go (rule_gate k h bytes records) refl
 pub of_reading : OfReading
 of_reading = record {
   rule_bounds = keeps-reads _ (λ i. tt) _ _ _ (λ i o m. m) (λ i. rule_gate_fits _ _ _ _);
-  rule_questions = ((λ i. tt), (λ i o p. same)) and ((λ i. tt), (λ i o p. same)) and ((λ i. tt), (λ i o p. same)) and none;
+  rule_questions = ((λ i. tt), answers_once _ _ (λ i o m. m)) and ((λ i. tt), answers_once _ _ (λ i o m. m)) and ((λ i. tt), answers_once _ _ (λ i o m. m)) and none;
   place_entry = keeps-stores _ (λ i. tt) _ _ _ _ (λ i o m. m);
   open_entry = keeps-stores _ (λ i. tt) _ _ _ _ (λ i o m. m);
   finish_reading = keeps-stores _ (λ i. tt) _ _ _ _ (λ i o m. m);

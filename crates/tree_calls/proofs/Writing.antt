@@ -20,7 +20,7 @@ use Rattle.loose_header.specs.Header.{loose_header, header_answer}
 use Rattle.call.specs.Call.{none, ◌and◌, Refusal, Fits}
 use Rattle.call.specs.Deeds.{of_answer}
 use Rattle.tree_calls.specs.First.{OfWriting}
-use Rattle.call.proofs.Laws.{same, Of, done, zero, wider, added, keeps-reads, keeps-writes, hands_on, each-pick, each_passed, each_gate, each-fitted}
+use Rattle.call.proofs.Laws.{answers_once, Of, done, zero, wider, added, keeps-reads, keeps-writes, hands_on, each-pick, each_passed, each_gate, each-fitted}
 
 -- every way to judge records: 0, 10 at an index, and when they are to be written 9 at one
 each-judged : (P : Verdict → Type 0) (writing : Bool) (most : ℕ) → P fine → ((i : ℕ) → i < most → P (verdict 10 i)) → ((i : ℕ) → i < most → writing ≡ true → P (verdict 9 i))
@@ -84,6 +84,6 @@ of_writing = record {
   tree_size = keeps-reads _ (λ i. tt) _ _ _ (λ i o m. m) (λ i. wider (size_fits _ _ _) refl);
   write_tree = keeps-writes _ (λ i. tt) _ _ _ _ _ _ (λ i o m. m) (λ i. wider (tree-fits _ _ _ _) refl) (λ i z. stored_refused _ _ _ z);
   loose_header = keeps-writes _ (λ i. tt) _ _ _ _ _ _ (λ i o m. m) (λ i. wider (header-fits _ _ _) refl) (λ i z. stored_refused _ _ _ z);
-  digit_questions = ((λ i. tt), (λ i o p. same)) and none;
+  digit_questions = ((λ i. tt), answers_once _ _ (λ i o m. m)) and none;
   fit = hands_on _ (λ i. tt) _ _ _ _ (λ i o m. m) (λ i handed f. each-fitted (Of _ of_answer) _ _ (added (8 ∷ []) f) (λ n l. zero refl refl));
 }

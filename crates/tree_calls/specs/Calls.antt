@@ -98,7 +98,7 @@ abbrev pub bisect_array : Deed
 bisect_array = reads (call slice.bisect_array.Kinds.ps slice.bisect_array.Kinds.r slice.bisect_array.Reads.Asked slice.bisect_array.Reads.Post) (λ i x. of_looked x)
 
 abbrev pub bisect_records : Walked
-bisect_records = record { ended = records_fn.ended; contract = λ M. records_fn.clauses; said = λ κs x. of_looked x }
+bisect_records = record { ended = records_fn.ended; contract = λ M 𝓤. records_fn.clauses; said = λ κs x. of_looked x }
 
 abbrev pub bisect_entries : Deed
 bisect_entries =

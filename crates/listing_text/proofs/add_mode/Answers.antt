@@ -5,10 +5,6 @@ use Rattle.listing_text.specs.Text.{mode_words}
 use Rattle.listing_text.proofs.Laws.{added_then, added_is, text-most, word-most, mode-said, mode-most}
 use Rattle.listing_text.proofs.add_mode.Goals as goal
 
--- UNMATCHED
-cast-t17 : tie.Need-overflow-cast-t17
-cast-t17 c = search rules
-
 pub add-p-requires : goal.add-p-requires
 add-p-requires c =
     let at-as-bytes = c in

@@ -51,7 +51,7 @@ slice_bounds-add_lines-end-2 c =
     let p = c.requires in
     let t = c.read_tree-a in
     let n = (read_all a.h p.0 a.object.now a.records.now t.result p.1 p.2 t.ensures.answer c.if-number-ne-DONE.false).2 in
-    sym (front_count (t.result.count * width) t.ensures.records (omega (arith, n, t.auto.1, p.2)))
+    sym (front_count (t.result.count * width) t.ensures.records (omega (arith, n, t.auto.records, p.2)))
 
 pub add_lines-len-requires : goal.add_lines-len-requires
 add_lines-len-requires c =
