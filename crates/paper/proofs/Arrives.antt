@@ -9,6 +9,7 @@ use Rattle.checking.specs.Claims.{in_pieces, joined, answer}
 use Rattle.arriving.specs.declared.Marks.{Marks}
 use Rattle.arriving.specs.declared.Check.{Check}
 use Rattle.checking.proofs.Theorem.{piece_laws}
+use Rattle.call.proofs.Laws.{answers_once}
 use Rattle.call.specs.Call.{none, ◌and◌}
 use Rattle.paper.specs.Arrives.{handed, piece, Feeds, no-piece, a_piece, Checked, Arrives}
 
@@ -38,7 +39,8 @@ pub arrives : Arrives
 arrives =
     record {
       once =
-          (λ i. tt, λ i o p m n. m ∙ sym n) and ((λ i. tt, λ i o p m n. ap (λ (c : Check). c.marks) (m ∙ sym n)) and ((λ i. tt, λ i o p m n. m ∙ sym n) and none));
+          ((λ i. tt), answers_once _ _ (λ i o m. m)) and ((λ i. tt), answers_once _ _ (λ i o m. ap (λ (c : Check). c.marks) m)) and
+          ((λ i. tt), answers_once _ _ (λ i o m. m)) and none;
       same_left = λ r q e f.
           r.meets ∙ ap (λ (c : Check). feed_of c (piece r)) e ∙ ap (feed_of (handed q)) f ∙ sym q.meets;
       any_cut = cut-any;

@@ -50,10 +50,6 @@ of_mending = record {
   }) (λ i. wider (mend_fits _ _ _ _) refl) (λ i z. two-lists (stored_refused _ _ _ z) (stored_refused _ _ _ z));
 }
 
--- where a contract promises more than the answer, its first promise says that
-firsts : {A : Type 0} {x y z : A} {P Q : Type 0} → (x ≡ z) × P → (y ≡ z) × Q → x ≡ y
-firsts m n = same m.0 n.0
-
 pub of_leaves : OfLeaves
 of_leaves = record {
   piece_questions =
@@ -63,8 +59,8 @@ of_leaves = record {
       (λ i. tt, λ i o p m n. ap (λ (c : Check). c.marks) (m ∙ sym n)) and (λ i. tt, λ i o p m n. ap (λ (c : Check). c.marks) (m ∙ sym n)) and
       (λ i. tt, λ i o p m n. ap (λ (c : Check). c.marks) (m ∙ sym n)) and
       ((λ i. tt), answers_once _ _ (λ i o m. m)) and ((λ i. tt), answers_once _ _ (λ i o m. m)) and ((λ i. tt), answers_once _ _ (λ i o m. m)) and
-      ((λ i. tt), (λ i o p. firsts)) and ((λ i. tt), (λ i o p. firsts)) and ((λ i. tt), (λ i o p. firsts)) and ((λ i. tt), (λ i o p. firsts)) and
-      ((λ i. tt), (λ i o p. firsts)) and none;
+      ((λ i. tt), answers_once _ _ (λ i o m. m.0)) and ((λ i. tt), answers_once _ _ (λ i o m. m.0)) and ((λ i. tt), answers_once _ _ (λ i o m. m.0)) and ((λ i. tt), answers_once _ _ (λ i o m. m.0)) and
+      ((λ i. tt), answers_once _ _ (λ i o m. m.0)) and none;
   word_questions =
       ((λ i. tt), answers_once _ _ (λ i o m. m)) and ((λ i. tt), answers_once _ _ (λ i o m. m)) and ((λ i. tt), answers_once _ _ (λ i o m. m)) and ((λ i. tt), answers_once _ _ (λ i o m. m)) and
       ((λ i. tt), answers_once _ _ (λ i o m. m)) and none;
