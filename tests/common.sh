@@ -38,23 +38,36 @@ lock() {
     fi
 }
 
+# Of what rt says in a crate's folder, a line for each crate as it is proved.
+told_of() { # CRATE
+    local line crate=$1 began=$SECONDS
+    while IFS= read -r line; do
+        case $line in
+        'rt: chose --jobs '*) crate=${line##* } began=$SECONDS ;;
+        'logic=proved '*) say "$crate proved ($((SECONDS - began)) s)" ;;
+        esac
+    done
+}
+
 # SARPUKTEN_LIB: the folder of a libsarpukten.a, proved and built here if none is named, with a line for each crate as it is proved.
 library() {
-    local log=$root/target/log/staticlib
+    local log=$root/target/log/staticlib crate=$root/crates/sarpukten_c
     if [ -z "${SARPUKTEN_LIB:-}" ]; then
         command -v rt >/dev/null || stop 1 "the command rt of the Rattle toolchain is needed, and is not on the path"
         lock
         say "proving and building libsarpukten.a: minutes the first time, and a line for each crate"
         if ! (
             set -o pipefail
-            cd "$root" && rt staticlib sarpukten </dev/null 2>&1 | tee "$log" |
-                sed -un "s/^rt: \([a-z0-9_]* proved ([0-9]* s)\)\$/$script: \1/p" >&2
+            cd "$crate" && rt lib </dev/null 2>&1 | tee "$log" | told_of sarpukten_c
         ); then
             tail -20 "$log" >&2
             stop 1 "the library was not built (what rt said last stands above)"
         fi
-        exec 9>&-
         SARPUKTEN_LIB=$root/target/staticlib
+        # under the name that C and Rust link, and touched only where it is another
+        { mkdir -p "$SARPUKTEN_LIB" && { cmp -s "$crate/out/libsarpukten_c.a" "$SARPUKTEN_LIB/libsarpukten.a" ||
+            cp "$crate/out/libsarpukten_c.a" "$SARPUKTEN_LIB/libsarpukten.a"; }; } || stop 1 "$SARPUKTEN_LIB cannot be written"
+        exec 9>&-
     fi
     [ -f "$SARPUKTEN_LIB/libsarpukten.a" ] || stop 1 "no libsarpukten.a in $SARPUKTEN_LIB"
     SARPUKTEN_LIB=$(cd "$SARPUKTEN_LIB" && pwd -P)
