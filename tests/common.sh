@@ -38,23 +38,45 @@ lock() {
     fi
 }
 
+# Of what rt says in a crate's folder, a line for each crate as it is proved.
+told_of() { # CRATE
+    local line crate=$1 began=$SECONDS
+    while IFS= read -r line; do
+        case $line in
+        'rt: chose --jobs '*) crate=${line##* } began=$SECONDS ;;
+        'logic=proved '*) say "$crate proved ($((SECONDS - began)) s)" ;;
+        esac
+    done
+}
+
+# Whether a file is there, newer than every source and than the kit.
+is_new() { # FILE
+    [ -f "$1" ] && [ -z "$(find "$root/crates" "$root/crates.txt" "$(dirname "$(rt doc)")/KIT-ID" -name out -prune -o -newer "$1" -print -quit)" ]
+}
+
 # SARPUKTEN_LIB: the folder of a libsarpukten.a, proved and built here if none is named, with a line for each crate as it is proved.
 library() {
-    local log=$root/target/log/staticlib
+    local log=$root/target/log/staticlib crate=$root/crates/sarpukten_c made=$root/target/staticlib began
     if [ -z "${SARPUKTEN_LIB:-}" ]; then
         command -v rt >/dev/null || stop 1 "the command rt of the Rattle toolchain is needed, and is not on the path"
         lock
-        say "proving and building libsarpukten.a: minutes the first time, and a line for each crate"
-        if ! (
-            set -o pipefail
-            cd "$root" && rt staticlib sarpukten </dev/null 2>&1 | tee "$log" |
-                sed -un "s/^rt: \([a-z0-9_]* proved ([0-9]* s)\)\$/$script: \1/p" >&2
-        ); then
-            tail -20 "$log" >&2
-            stop 1 "the library was not built (what rt said last stands above)"
+        if ! is_new "$made/libsarpukten.a"; then
+            say "proving and building libsarpukten.a: minutes the first time, and a line for each crate"
+            # a folder out/ that is made later would make its crate look newer than the library
+            mkdir -p "$made" "$root/crates"/*/out || stop 1 "$made cannot be written"
+            began=$(date +%s.%N)
+            if ! (
+                set -o pipefail
+                cd "$crate" && rt lib </dev/null 2>&1 | tee "$log" | told_of sarpukten_c
+            ); then
+                tail -20 "$log" >&2
+                stop 1 "the library was not built (what rt said last stands above)"
+            fi
+            # under the name that C and Rust link
+            cp "$crate/out/libsarpukten_c.a" "$made/libsarpukten.a" && touch -d "@$began" "$made/libsarpukten.a" || stop 1 "$made cannot be written"
         fi
         exec 9>&-
-        SARPUKTEN_LIB=$root/target/staticlib
+        SARPUKTEN_LIB=$made
     fi
     [ -f "$SARPUKTEN_LIB/libsarpukten.a" ] || stop 1 "no libsarpukten.a in $SARPUKTEN_LIB"
     SARPUKTEN_LIB=$(cd "$SARPUKTEN_LIB" && pwd -P)

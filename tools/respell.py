@@ -61,6 +61,8 @@ def turn(text, table, fields=()):
 
 
 def main():
+    if len(sys.argv) != 2 or sys.argv[1] in ("-h", "--help"):
+        sys.exit(print(__doc__))
     kit = set()
     for p in files(sys.argv[1], ".antt"):
         kit.update(TOKEN.findall(read(p)))

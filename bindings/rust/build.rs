@@ -1,4 +1,4 @@
-//! Finds libsarpukten.a: in the folder that SARPUKTEN_LIB names, else where `rt staticlib sarpukten` writes it.
+//! Finds libsarpukten.a: in the folder that SARPUKTEN_LIB names, else where `tests/library` puts it.
 use std::env;
 use std::path::PathBuf;
 
@@ -12,7 +12,7 @@ fn main() {
     println!("cargo:rerun-if-changed={}", lib.display());
     // `cargo doc` and `cargo check` do without; what has to be linked does not.
     if !lib.is_file() {
-        println!("cargo:warning=no {}: run `rt staticlib sarpukten` at the repository's root, or set SARPUKTEN_LIB", lib.display());
+        println!("cargo:warning=no {}: run `tests/library` at the repository's root, or set SARPUKTEN_LIB", lib.display());
     }
     println!("cargo:rustc-link-search=native={}", dir.display());
     println!("cargo:rustc-link-lib=static=sarpukten");

@@ -1,5 +1,6 @@
-// The library that C and Rust link: every call under a C name (include/sarpukten.h). A call's answer stands in an array of fixed
-// length that the caller lends, its number, place and part first; the number is also returned. The work is done behind, in the border_ crates.
+// What C and Rust link: every call under its C name (include/sarpukten.h; `sarpukten_c` exports each). A call's answer stands in an array of
+// fixed length that the caller lends, its number, place and part first; the number is also returned. The work is done behind, in the border_
+// crates.
 #![tactic(auto)]
 
 ghost use Rattle.std.specs.Prelude.{◌≡◌};
@@ -42,8 +43,7 @@ ghost use Rattle.border_check.specs.End.{end_said};
 ghost use Rattle.border_pieces.specs.Border.{fed_of, fed_numbers};
 
 // A mode text that stands alone.
-#[unsafe(no_mangle)]
-pub extern "C" fn sarpukten_mode_read(text: &[u8], answer: &mut [usize; 4]) -> usize
+pub fn sarpukten_mode_read(text: &[u8], answer: &mut [usize; 4]) -> usize
     ensures value { result ≡ (mode_alone text.now).verdict.number }
     ensures answer_after { answer.new ≡ mode_numbers (mode_alone text.now) }
 {
@@ -51,8 +51,7 @@ pub extern "C" fn sarpukten_mode_read(text: &[u8], answer: &mut [usize; 4]) -> u
 }
 
 // A mode from a 32-bit number.
-#[unsafe(no_mangle)]
-pub extern "C" fn sarpukten_mode_from_number(n: u32, answer: &mut [usize; 4]) -> usize
+pub fn sarpukten_mode_from_number(n: u32, answer: &mut [usize; 4]) -> usize
     ensures value { result ≡ (from_number n).verdict.number }
     ensures answer_after { answer.new ≡ mode_numbers (from_number n) }
 {
@@ -60,32 +59,28 @@ pub extern "C" fn sarpukten_mode_from_number(n: u32, answer: &mut [usize; 4]) ->
 }
 
 // The number a mode stands for.
-#[unsafe(no_mangle)]
-pub extern "C" fn sarpukten_mode_value(mode: u16) -> u16
+pub fn sarpukten_mode_value(mode: u16) -> u16
     ensures { result ≡ value_of mode }
 {
     border_mode::mode_value(mode)
 }
 
 // A mode's kind, as the one of the five written modes that has it.
-#[unsafe(no_mangle)]
-pub extern "C" fn sarpukten_mode_kind(mode: u16) -> u16
+pub fn sarpukten_mode_kind(mode: u16) -> u16
     ensures { result ≡ (written_of (kind_of mode)).mode }
 {
     border_mode::mode_kind(mode)
 }
 
 // The seven questions to a mode.
-#[unsafe(no_mangle)]
-pub extern "C" fn sarpukten_mode_ask(mode: u16, answer: &mut [usize; 7])
+pub fn sarpukten_mode_ask(mode: u16, answer: &mut [usize; 7])
     ensures { answer.new ≡ mode_asked mode }
 {
     border_mode::mode_ask(mode, answer)
 }
 
 // The word of a mode's kind, with 0 behind it; its length is returned.
-#[unsafe(no_mangle)]
-pub extern "C" fn sarpukten_mode_word(mode: u16, word: &mut [u8; 6]) -> usize
+pub fn sarpukten_mode_word(mode: u16, word: &mut [u8; 6]) -> usize
     ensures value { result ≡ (word_of mode).len }
     ensures word_after { word.new ≡ (word_of mode).bytes }
 {
@@ -93,8 +88,7 @@ pub extern "C" fn sarpukten_mode_word(mode: u16, word: &mut [u8; 6]) -> usize
 }
 
 // A mode's octal text, with 0 behind it; its length is returned.
-#[unsafe(no_mangle)]
-pub extern "C" fn sarpukten_mode_text(mode: u16, text: &mut [u8; 6]) -> usize
+pub fn sarpukten_mode_text(mode: u16, text: &mut [u8; 6]) -> usize
     ensures value { result ≡ (mode_text mode).len }
     ensures text_after { text.new ≡ (mode_text mode).bytes }
 {
@@ -102,21 +96,14 @@ pub extern "C" fn sarpukten_mode_text(mode: u16, text: &mut [u8; 6]) -> usize
 }
 
 // Git's comparison of two names: -1, 0 or 1.
-#[unsafe(no_mangle)]
-pub extern "C" fn sarpukten_name_order(a: &[u8], atree: bool, b: &[u8], btree: bool) -> i8
+pub fn sarpukten_name_order(a: &[u8], atree: bool, b: &[u8], btree: bool) -> i8
     ensures { result ≡ order_number (name_order a.now atree b.now btree) }
 {
     border_lookup::name_order(a, atree, b, btree)
 }
 
 // The entry at a place of a tree object.
-#[unsafe(no_mangle)]
-pub extern "C" fn sarpukten_tree_step(
-    bytes: &[u8],
-    h: usize,
-    at: usize,
-    answer: &mut [usize; 10],
-) -> usize
+pub fn sarpukten_tree_step(bytes: &[u8], h: usize, at: usize, answer: &mut [usize; 10]) -> usize
     ensures value { result ≡ (step_of h bytes.now (record { at = at })).verdict.number }
     ensures answer_after { answer.new ≡ step_numbers (step_of h bytes.now (record { at = at })) }
 {
@@ -124,8 +111,7 @@ pub extern "C" fn sarpukten_tree_step(
 }
 
 // A whole tree object into lent records, plainly.
-#[unsafe(no_mangle)]
-pub extern "C" fn sarpukten_read_tree(
+pub fn sarpukten_read_tree(
     bytes: &[u8],
     h: usize,
     records: &mut [usize],
@@ -139,8 +125,7 @@ pub extern "C" fn sarpukten_read_tree(
 }
 
 // The same, strictly, by a rule set.
-#[unsafe(no_mangle)]
-pub extern "C" fn sarpukten_read_tree_strict(
+pub fn sarpukten_read_tree_strict(
     bytes: &[u8],
     h: usize,
     rules: u16,
@@ -155,8 +140,7 @@ pub extern "C" fn sarpukten_read_tree_strict(
 }
 
 // The lookup of a name among lent records.
-#[unsafe(no_mangle)]
-pub extern "C" fn sarpukten_bisect_entry(
+pub fn sarpukten_bisect_entry(
     object: &[u8],
     h: usize,
     records: &[usize],
@@ -171,8 +155,7 @@ pub extern "C" fn sarpukten_bisect_entry(
 }
 
 // The same for a name of whatever sort.
-#[unsafe(no_mangle)]
-pub extern "C" fn sarpukten_bisect_any(
+pub fn sarpukten_bisect_any(
     object: &[u8],
     h: usize,
     records: &[usize],
@@ -186,8 +169,7 @@ pub extern "C" fn sarpukten_bisect_any(
 }
 
 // Many names looked up among lent records.
-#[unsafe(no_mangle)]
-pub extern "C" fn sarpukten_bisect_entries(
+pub fn sarpukten_bisect_entries(
     object: &[u8],
     h: usize,
     records: &[usize],
@@ -204,16 +186,14 @@ pub extern "C" fn sarpukten_bisect_entries(
 }
 
 // The most records that a lookup among n compares.
-#[unsafe(no_mangle)]
-pub extern "C" fn sarpukten_most_comparisons(n: usize) -> usize
+pub fn sarpukten_most_comparisons(n: usize) -> usize
     ensures { result ≡ most_comparisons n }
 {
     lookup::most_comparisons(n)
 }
 
 // The size of the tree object that records name.
-#[unsafe(no_mangle)]
-pub extern "C" fn sarpukten_tree_size(
+pub fn sarpukten_tree_size(
     bytes: &[u8],
     h: usize,
     records: &[usize],
@@ -226,8 +206,7 @@ pub extern "C" fn sarpukten_tree_size(
 }
 
 // The tree object that records name, written.
-#[unsafe(no_mangle)]
-pub extern "C" fn sarpukten_write_tree(
+pub fn sarpukten_write_tree(
     bytes: &[u8],
     h: usize,
     records: &[usize],
@@ -242,8 +221,7 @@ pub extern "C" fn sarpukten_write_tree(
 }
 
 // An object mended, with what was done to each entry.
-#[unsafe(no_mangle)]
-pub extern "C" fn sarpukten_mend_tree(
+pub fn sarpukten_mend_tree(
     bytes: &[u8],
     h: usize,
     fates: &mut [usize],
@@ -259,8 +237,7 @@ pub extern "C" fn sarpukten_mend_tree(
 }
 
 // The header of a loose object.
-#[unsafe(no_mangle)]
-pub extern "C" fn sarpukten_loose_header(
+pub fn sarpukten_loose_header(
     kind: usize,
     size: u64,
     out: &mut [u8],
@@ -274,8 +251,7 @@ pub extern "C" fn sarpukten_loose_header(
 }
 
 // A commit's parts, with its parents and extra headers into lent lists.
-#[unsafe(no_mangle)]
-pub extern "C" fn sarpukten_read_commit(
+pub fn sarpukten_read_commit(
     bytes: &[u8],
     h: usize,
     parents: &mut [usize],
@@ -291,8 +267,7 @@ pub extern "C" fn sarpukten_read_commit(
 }
 
 // A header's value, unfolded.
-#[unsafe(no_mangle)]
-pub extern "C" fn sarpukten_unfold(
+pub fn sarpukten_unfold(
     bytes: &[u8],
     header: &[usize; 5],
     out: &mut [u8],
@@ -306,8 +281,7 @@ pub extern "C" fn sarpukten_unfold(
 }
 
 // The size of the commit that parts, parents and headers name.
-#[unsafe(no_mangle)]
-pub extern "C" fn sarpukten_commit_size(
+pub fn sarpukten_commit_size(
     bytes: &[u8],
     h: usize,
     parts: &[usize; 10],
@@ -322,8 +296,7 @@ pub extern "C" fn sarpukten_commit_size(
 }
 
 // The commit that parts, parents and headers name, written.
-#[unsafe(no_mangle)]
-pub extern "C" fn sarpukten_write_commit(
+pub fn sarpukten_write_commit(
     bytes: &[u8],
     h: usize,
     parts: &[usize; 10],
@@ -343,12 +316,7 @@ pub extern "C" fn sarpukten_write_commit(
 }
 
 // The id that hex digits say.
-#[unsafe(no_mangle)]
-pub extern "C" fn sarpukten_id_of_hex(
-    digits: &[u8],
-    out: &mut [u8],
-    answer: &mut [usize; 4],
-) -> usize
+pub fn sarpukten_id_of_hex(digits: &[u8], out: &mut [u8], answer: &mut [usize; 4]) -> usize
     ensures value { result ≡ (id_answered digits.now out.old).verdict.number }
     ensures answer_after { answer.new ≡ answer_numbers (id_answered digits.now out.old) }
     ensures out_after { out.new ≡ id_output digits.now out.old }
@@ -357,8 +325,7 @@ pub extern "C" fn sarpukten_id_of_hex(
 }
 
 // The hex digits of an id.
-#[unsafe(no_mangle)]
-pub extern "C" fn sarpukten_hex_of_id(id: &[u8], out: &mut [u8], answer: &mut [usize; 4]) -> usize
+pub fn sarpukten_hex_of_id(id: &[u8], out: &mut [u8], answer: &mut [usize; 4]) -> usize
     ensures value { result ≡ (hex_answered id.now out.old).verdict.number }
     ensures answer_after { answer.new ≡ answer_numbers (hex_answered id.now out.old) }
     ensures out_after { out.new ≡ hex_output id.now out.old }
@@ -367,8 +334,7 @@ pub extern "C" fn sarpukten_hex_of_id(id: &[u8], out: &mut [u8], answer: &mut [u
 }
 
 // The text of a strict object's entries.
-#[unsafe(no_mangle)]
-pub extern "C" fn sarpukten_export_tree(
+pub fn sarpukten_export_tree(
     bytes: &[u8],
     h: usize,
     rules: u16,
@@ -383,8 +349,7 @@ pub extern "C" fn sarpukten_export_tree(
 }
 
 // The strict object of a text's records.
-#[unsafe(no_mangle)]
-pub extern "C" fn sarpukten_import_tree(
+pub fn sarpukten_import_tree(
     text: &[u8],
     h: usize,
     rules: u16,
@@ -399,8 +364,7 @@ pub extern "C" fn sarpukten_import_tree(
 }
 
 // A bundle checked whole.
-#[unsafe(no_mangle)]
-pub extern "C" fn sarpukten_check_bundle(bundle: &[u8], answer: &mut [usize; 6]) -> usize
+pub fn sarpukten_check_bundle(bundle: &[u8], answer: &mut [usize; 6]) -> usize
     ensures value { result ≡ (check_of bundle.now).verdict.number }
     ensures answer_after { answer.new ≡ checked_numbers (check_of bundle.now) }
 {
@@ -408,12 +372,7 @@ pub extern "C" fn sarpukten_check_bundle(bundle: &[u8], answer: &mut [usize; 6])
 }
 
 // The object of an id in a bundle.
-#[unsafe(no_mangle)]
-pub extern "C" fn sarpukten_bundle_object(
-    bundle: &[u8],
-    id: &[u8],
-    answer: &mut [usize; 6],
-) -> usize
+pub fn sarpukten_bundle_object(bundle: &[u8], id: &[u8], answer: &mut [usize; 6]) -> usize
     ensures value { result ≡ (object_asked bundle.now id.now).verdict.number }
     ensures answer_after { answer.new ≡ object_numbers (object_asked bundle.now id.now) }
 {
@@ -421,8 +380,7 @@ pub extern "C" fn sarpukten_bundle_object(
 }
 
 // A path followed through the trees of a bundle from a root id; the id that it leads to by value.
-#[unsafe(no_mangle)]
-pub extern "C" fn sarpukten_follow_path(
+pub fn sarpukten_follow_path(
     bundle: &[u8],
     root: &[u8],
     path: &[u8],
@@ -437,8 +395,7 @@ pub extern "C" fn sarpukten_follow_path(
 }
 
 // What differs between two trees of a bundle, by the ids of the two.
-#[unsafe(no_mangle)]
-pub extern "C" fn sarpukten_compare_trees(
+pub fn sarpukten_compare_trees(
     bundle: &[u8],
     left: &[u8],
     right: &[u8],
@@ -455,8 +412,7 @@ pub extern "C" fn sarpukten_compare_trees(
 }
 
 // A name put into a tree object with its mode and id.
-#[unsafe(no_mangle)]
-pub extern "C" fn sarpukten_put_in_tree(
+pub fn sarpukten_put_in_tree(
     bytes: &[u8],
     h: usize,
     rules: u16,
@@ -474,8 +430,7 @@ pub extern "C" fn sarpukten_put_in_tree(
 }
 
 // A name removed from a tree object.
-#[unsafe(no_mangle)]
-pub extern "C" fn sarpukten_remove_from_tree(
+pub fn sarpukten_remove_from_tree(
     bytes: &[u8],
     h: usize,
     rules: u16,
@@ -491,8 +446,7 @@ pub extern "C" fn sarpukten_remove_from_tree(
 }
 
 // A strict check of an object that arrives in pieces begins.
-#[unsafe(no_mangle)]
-pub extern "C" fn sarpukten_check_start(
+pub fn sarpukten_check_start(
     h: usize,
     rules: u16,
     marks: &mut [usize; 18],
@@ -506,8 +460,7 @@ pub extern "C" fn sarpukten_check_start(
 }
 
 // A piece more of it.
-#[unsafe(no_mangle)]
-pub extern "C" fn sarpukten_check_piece(
+pub fn sarpukten_check_piece(
     held: &mut [u8; 4096],
     ends: &mut [u32; 4097],
     marks: &mut [usize; 18],
@@ -526,12 +479,7 @@ pub extern "C" fn sarpukten_check_piece(
 }
 
 // The answer of the check if the object ends here.
-#[unsafe(no_mangle)]
-pub extern "C" fn sarpukten_check_end(
-    marks: &[usize; 18],
-    first: &[u8; 8],
-    answer: &mut [usize; 4],
-) -> usize
+pub fn sarpukten_check_end(marks: &[usize; 18], first: &[u8; 8], answer: &mut [usize; 4]) -> usize
     ensures value { result ≡ (end_said marks.now first.now).verdict.number }
     ensures answer_after { answer.new ≡ answer_numbers (end_said marks.now first.now) }
 {
