@@ -20,23 +20,23 @@ fn front(text: &[u8], n: usize) -> &[u8] {
     &text[0..n]
 }
 
-fn tell(errors: &impl Print, a: Listed) -> io::Result<()> {
+fn tell(stderr: &impl Print, a: Listed) -> io::Result<()> {
     let mut words = [0u8; 64];
     let part = a.verdict.part;
     if part != 0 {
         let n = put_part(&mut words, part);
-        say(errors, front(&words, n))?;
-        return say(errors, b"\n");
+        say(stderr, front(&words, n))?;
+        return say(stderr, b"\n");
     }
     Ok(())
 }
 
 // An object that was read, with ids of so many bytes.
-fn listing(output: &impl Print, errors: &impl Print, object: &[u8], h: usize) -> io::Result<()> {
+fn listing(stdout: &impl Print, stderr: &impl Print, object: &[u8], h: usize) -> io::Result<()> {
     let mut out = [0u8; MOST];
     let a = put_listing(object, h, &mut out);
-    say(output, front(&out, a.len))?;
-    tell(errors, a)
+    say(stdout, front(&out, a.len))?;
+    tell(stderr, a)
 }
 
 // All from a place on.
@@ -62,20 +62,20 @@ fn behind_words(s: &[u8]) -> usize {
     0
 }
 
-fn list(output: &impl Print, errors: &impl Print, s: &[u8]) -> io::Result<()> {
+fn input(stdout: &impl Print, stderr: &impl Print, s: &[u8]) -> io::Result<()> {
     let from = behind_words(s);
     if from == 0 {
-        return listing(output, errors, s, 20);
+        return listing(stdout, stderr, s, 20);
     }
-    listing(output, errors, rest(s, from), 32)
+    listing(stdout, stderr, rest(s, from), 32)
 }
 
 // Lists an input: the longest object with the word and the empty line ahead of it, or a byte more where it is longer.
-pub fn run(input: &mut impl Read, output: &impl Print, errors: &impl Print) -> io::Result<()> {
+pub fn run(stdin: &mut impl Read, stdout: &impl Print, stderr: &impl Print) -> io::Result<()> {
     let mut bytes = [0u8; 65545];
-    match read_whole(input, &mut bytes) {
-        Ok(Some(n)) => list(output, errors, front(&bytes, n)),
-        Ok(None) => list(output, errors, &bytes),
-        Err(_) => say(errors, b"listing: standard input cannot be read\n"),
+    match read_whole(stdin, &mut bytes) {
+        Ok(Some(n)) => input(stdout, stderr, front(&bytes, n)),
+        Ok(None) => input(stdout, stderr, &bytes),
+        Err(_) => say(stderr, b"listing: standard input cannot be read\n"),
     }
 }

@@ -40,6 +40,12 @@ fn mended(s: &[u8], fates: &mut [usize], out: &mut [u8]) -> Mended {
     mend_tree(part(s, blank.next, s.len()), ids.h, fates, out)
 }
 
+// How many bytes the input has, which are read to the front; where it has more, one more than there are.
+fn read(input: &mut impl Read, all: &mut [u8]) -> io::Result<usize> {
+    let n = read_whole(input, all)?;
+    Ok(n.unwrap_or(LONGEST + 1))
+}
+
 // An input that is longer than it may be is 2.
 fn work(
     rt: &impl Print,
@@ -48,10 +54,11 @@ fn work(
     fates: &mut [usize],
     out: &mut [u8],
 ) -> io::Result<()> {
-    match read_whole(input, all)? {
-        Some(n) => tell(rt, mended(part(all, 0, n), fates, out), out),
-        None => say_too_long(rt),
+    let n = read(input, all)?;
+    if LONGEST < n {
+        return say_too_long(rt);
     }
+    tell(rt, mended(part(all, 0, n), fates, out), out)
 }
 
 fn main(rt: HostRuntime) -> io::Result<()> {

@@ -1,8 +1,0 @@
--- `replay::main` meets its contract: of the large arrays only their lengths are looked at. Assumes nothing.
-use Rattle.replay.proofs.main.Goals as goal
-
-pub work-requires : goal.work-requires
-work-requires c = tt
-
-pub returns : goal.returns
-returns c = tt
