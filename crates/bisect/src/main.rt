@@ -6,12 +6,12 @@ use entry::EntryRecord;
 use entry_record::{WIDTH, entry_at};
 use ground::DONE;
 use hex_of_id::hex_of_id;
-use libc::STDIN_FILENO;
 use lookup::bisect_entry;
 use mode::EntryMode;
 use mode_text::ShortText;
 use reading::read_tree;
-use saying::{say, say_refused, say_too_long};
+use saying::{read_whole, say, say_refused, say_too_long};
+use std::io;
 use words::{id_length, word_at};
 
 // Words and object together have at most so many bytes, and so many entries: one has 22 at least.
@@ -51,81 +51,82 @@ fn first(records: &[usize], n: usize) -> &[usize] {
     &records[0..end]
 }
 
-fn text(t: ShortText) {
+fn text(rt: &impl Print, t: ShortText) -> io::Result<()> {
     let bytes = t.bytes;
-    say(part(&bytes, 0, t.len));
-    say(b" ");
+    say(rt, part(&bytes, 0, t.len))?;
+    say(rt, b" ")
 }
 
 // Mode, word and id.
-fn found(s: &[u8], h: usize, e: EntryRecord) {
+fn found(rt: &impl Print, s: &[u8], h: usize, e: EntryRecord) -> io::Result<()> {
     let mut digits = [0u8; 64];
     let mode = EntryMode {
         internal: (e.mode % 65536) as u16,
     };
-    text(mode.as_bytes());
-    text(mode.as_str());
+    text(rt, mode.as_bytes())?;
+    text(rt, mode.as_str())?;
     let a = hex_of_id(from_on(s, e.id_start, h), &mut digits);
-    say(part(&digits, 0, a.count));
-    say(b"\n");
+    say(rt, part(&digits, 0, a.count))?;
+    say(rt, b"\n")
 }
 
-fn look(s: &[u8], h: usize, records: &[usize], name: &[u8], folder: bool) {
+fn look(
+    rt: &impl Print,
+    s: &[u8],
+    h: usize,
+    records: &[usize],
+    name: &[u8],
+    folder: bool,
+) -> io::Result<()> {
     let a = bisect_entry(s, h, records, name, folder);
     let v = a.verdict;
     if v.number != DONE {
-        say_refused(v);
-        return;
+        return say_refused(rt, v);
     }
-    found(s, h, entry_at(records, a.index));
+    found(rt, s, h, entry_at(records, a.index))
 }
 
 // A slash at the end says that a folder is sought.
-fn sought(s: &[u8], h: usize, records: &[usize], name: &[u8]) {
+fn sought(rt: &impl Print, s: &[u8], h: usize, records: &[usize], name: &[u8]) -> io::Result<()> {
     let n = name.len();
     if n == 0 {
-        look(s, h, records, name, false);
-        return;
+        return look(rt, s, h, records, name, false);
     }
     let last = n - 1;
     if name[last] == b'/' {
-        look(s, h, records, &name[0..last], true);
-        return;
+        return look(rt, s, h, records, &name[0..last], true);
     }
-    look(s, h, records, name, false);
+    look(rt, s, h, records, name, false)
 }
 
-fn seek(object: &[u8], h: usize, name: &[u8]) {
+fn seek(rt: &impl Print, object: &[u8], h: usize, name: &[u8]) -> io::Result<()> {
     let mut records = [0usize; MOST * WIDTH];
     let a = read_tree(object, h, &mut records);
     let v = a.verdict;
     if v.number != DONE {
-        say_refused(v);
-        return;
+        return say_refused(rt, v);
     }
-    sought(object, h, first(&records, a.count), name);
+    sought(rt, object, h, first(&records, a.count), name)
 }
 
 // The words, the empty line behind them, and the object.
-fn work(s: &[u8]) {
+fn work(rt: &impl Print, s: &[u8]) -> io::Result<()> {
     let ids = id_length(s);
     let name = word_at(s, ids.next);
     let blank = word_at(s, name.next);
     seek(
+        rt,
         part(s, blank.next, s.len()),
         ids.h,
         part(s, name.start, name.end),
-    );
+    )
 }
 
 // Reads standard input; longer than it may be it is 2.
-fn main() {
+fn main(rt: HostRuntime) -> io::Result<()> {
     let mut all = [0u8; LONGEST];
-    let mut more = [0u8; 1];
-    let n = io::read_full(STDIN_FILENO, &mut all);
-    if libc::read(STDIN_FILENO, &mut more) != 0 {
-        say_too_long();
-        return;
+    match read_whole(&mut rt.stdin(), &mut all)? {
+        Some(n) => work(&rt, part(&all, 0, n)),
+        None => say_too_long(&rt),
     }
-    work(part(&all, 0, n));
 }

@@ -8,8 +8,9 @@ use ground::DONE;
 use hex_of_id::hex_of_id;
 use id_of_hex::id_of_hex;
 use item::ITEM;
-use libc::STDIN_FILENO;
-use saying::{say, say_refused, say_too_long};
+use saying::{read_whole, say, say_refused, say_too_long};
+use std::io;
+use std::io::Read;
 use words::word_at;
 
 // The bytes from one place to another, or none where they do not lie inside.
@@ -29,7 +30,7 @@ fn digit(n: usize) -> u8 {
 }
 
 // A mode in six octal digits.
-fn mode(n: usize) {
+fn mode(rt: &impl Print, n: usize) -> io::Result<()> {
     let text = [
         digit(n / 32768),
         digit(n / 4096),
@@ -38,46 +39,43 @@ fn mode(n: usize) {
         digit(n / 8),
         digit(n),
     ];
-    say(&text);
-    say(b" ");
+    say(rt, &text)?;
+    say(rt, b" ")
 }
 
 // As many zeros as an id of h bytes has digits.
-fn zeros(h: usize) {
+fn zeros(rt: &impl Print, h: usize) -> io::Result<()> {
     let digits = [b'0'; 64];
-    say(part(&digits, 0, 40));
+    say(rt, part(&digits, 0, 40))?;
     if h == 32 {
-        say(part(&digits, 40, 64));
+        return say(rt, part(&digits, 40, 64));
     }
+    Ok(())
 }
 
 // The id of h bytes at a place in hex; zeros where the side is not there.
-fn id(bundle: &[u8], h: usize, mode: usize, at: usize) {
+fn id(rt: &impl Print, bundle: &[u8], h: usize, mode: usize, at: usize) -> io::Result<()> {
     if mode == 0 {
-        zeros(h);
-        return;
+        return zeros(rt, h);
     }
     let mut digits = [b'0'; 64];
     let rest = part(bundle, at, bundle.len());
     let a = hex_of_id(part(rest, 0, h), &mut digits);
-    say(part(&digits, 0, a.count));
+    say(rt, part(&digits, 0, a.count))
 }
 
 // Git's letter: added, deleted, another sort of thing, or modified.
-fn letter(left: usize, right: usize) {
+fn letter(rt: &impl Print, left: usize, right: usize) -> io::Result<()> {
     if left == 0 {
-        say(b"A\t");
-        return;
+        return say(rt, b"A\t");
     }
     if right == 0 {
-        say(b"D\t");
-        return;
+        return say(rt, b"D\t");
     }
     if left / 4096 != right / 4096 {
-        say(b"T\t");
-        return;
+        return say(rt, b"T\t");
     }
-    say(b"M\t");
+    say(rt, b"M\t")
 }
 
 // Whether Git writes a path that has this byte in quotes.
@@ -111,17 +109,16 @@ fn short(b: u8) -> u8 {
 }
 
 // A byte that Git writes in quotes, escaped as it does.
-fn escaped(b: u8) {
-    say(b"\\");
+fn escaped(rt: &impl Print, b: u8) -> io::Result<()> {
+    say(rt, b"\\")?;
     let named = short(b);
     if named != 0 {
         let one = [named];
-        say(&one);
-        return;
+        return say(rt, &one);
     }
     let n = b as usize;
     let text = [digit(n / 64), digit(n / 8), digit(n)];
-    say(&text);
+    say(rt, &text)
 }
 
 // Whether Git writes a path in quotes.
@@ -137,131 +134,169 @@ fn has_odd(s: &[u8]) -> bool {
 }
 
 // A byte of a path in quotes.
-fn quoted(b: u8) {
+fn quoted(rt: &impl Print, b: u8) -> io::Result<()> {
     if is_odd(b) {
-        escaped(b);
-        return;
+        return escaped(rt, b);
     }
     let one = [b];
-    say(&one);
+    say(rt, &one)
 }
 
 // The bytes of a path in quotes.
-fn all_quoted(s: &[u8]) {
+fn all_quoted(rt: &impl Print, s: &[u8]) -> io::Result<()> {
     let mut i: usize = 0;
     while i < s.len() {
-        quoted(s[i]);
+        quoted(rt, s[i])?;
         i += 1;
     }
+    Ok(())
 }
 
 // A path as Git writes it.
-fn path(s: &[u8]) {
+fn path(rt: &impl Print, s: &[u8]) -> io::Result<()> {
     if has_odd(s) {
-        say(b"\"");
-        all_quoted(s);
-        say(b"\"");
-        return;
+        say(rt, b"\"")?;
+        all_quoted(rt, s)?;
+        return say(rt, b"\"");
     }
-    say(s);
+    say(rt, s)
 }
 
 // Both modes, both ids and the letter.
-fn change(bundle: &[u8], h: usize, left: usize, right: usize, i: usize, j: usize) {
-    say(b":");
-    mode(left);
-    mode(right);
-    id(bundle, h, left, i);
-    say(b" ");
-    id(bundle, h, right, j);
-    say(b" ");
-    letter(left, right);
+fn change(
+    rt: &impl Print,
+    bundle: &[u8],
+    h: usize,
+    left: usize,
+    right: usize,
+    i: usize,
+    j: usize,
+) -> io::Result<()> {
+    say(rt, b":")?;
+    mode(rt, left)?;
+    mode(rt, right)?;
+    id(rt, bundle, h, left, i)?;
+    say(rt, b" ")?;
+    id(rt, bundle, h, right, j)?;
+    say(rt, b" ")?;
+    letter(rt, left, right)
 }
 
 // The line of item i.
-fn line(bundle: &[u8], h: usize, items: &[usize], paths: &[u8], i: usize) {
+fn line(
+    rt: &impl Print,
+    bundle: &[u8],
+    h: usize,
+    items: &[usize],
+    paths: &[u8],
+    i: usize,
+) -> io::Result<()> {
     if items.len() / ITEM <= i {
-        return;
+        return Ok(());
     }
     let at = i * ITEM;
     change(
+        rt,
         bundle,
         h,
         items[at + 2],
         items[at + 3],
         items[at + 4],
         items[at + 5],
-    );
-    path(part(paths, items[at], items[at + 1]));
-    say(b"\n");
+    )?;
+    path(rt, part(paths, items[at], items[at + 1]))?;
+    say(rt, b"\n")
 }
 
 // The lines of so many items.
-fn lines(bundle: &[u8], h: usize, items: &[usize], paths: &[u8], count: usize) {
+fn lines(
+    rt: &impl Print,
+    bundle: &[u8],
+    h: usize,
+    items: &[usize],
+    paths: &[u8],
+    count: usize,
+) -> io::Result<()> {
     let mut i: usize = 0;
     while i < count {
-        line(bundle, h, items, paths, i);
+        line(rt, bundle, h, items, paths, i)?;
         i += 1;
     }
+    Ok(())
 }
 
-fn compare(bundle: &[u8], left: &[u8], right: &[u8], items: &mut [usize], paths: &mut [u8]) {
+fn compare(
+    rt: &impl Print,
+    bundle: &[u8],
+    left: &[u8],
+    right: &[u8],
+    items: &mut [usize],
+    paths: &mut [u8],
+) -> io::Result<()> {
     let a = compare_trees(bundle, left, right, items, paths);
     let v = a.verdict;
     if v.number != DONE {
-        say_refused(v);
-        return;
+        return say_refused(rt, v);
     }
-    lines(bundle, left.len(), items, paths, a.count);
+    lines(rt, bundle, left.len(), items, paths, a.count)
 }
 
 // The second word, the empty line behind it, and the bundle.
-fn with_left(s: &[u8], at: usize, left: &[u8], items: &mut [usize], paths: &mut [u8]) {
+fn with_left(
+    rt: &impl Print,
+    s: &[u8],
+    at: usize,
+    left: &[u8],
+    items: &mut [usize],
+    paths: &mut [u8],
+) -> io::Result<()> {
     let mut to = [0u8; 32];
     let right = word_at(s, at);
     let b = id_of_hex(part(s, right.start, right.end), &mut to);
     let w = b.verdict;
     if w.number != DONE {
-        say_refused(w);
-        return;
+        return say_refused(rt, w);
     }
     let blank = word_at(s, right.next);
     compare(
+        rt,
         part(s, blank.next, s.len()),
         left,
         part(&to, 0, b.count),
         items,
         paths,
-    );
+    )
 }
 
 // The first word, and what is behind it.
-fn differ(s: &[u8], items: &mut [usize], paths: &mut [u8]) {
+fn differ(rt: &impl Print, s: &[u8], items: &mut [usize], paths: &mut [u8]) -> io::Result<()> {
     let mut from = [0u8; 32];
     let left = word_at(s, 0);
     let a = id_of_hex(part(s, left.start, left.end), &mut from);
     let v = a.verdict;
     if v.number != DONE {
-        say_refused(v);
-        return;
+        return say_refused(rt, v);
     }
-    with_left(s, left.next, part(&from, 0, a.count), items, paths);
+    with_left(rt, s, left.next, part(&from, 0, a.count), items, paths)
 }
 
 // Reads standard input into the lent bytes.
-fn work(all: &mut [u8], items: &mut [usize], paths: &mut [u8]) {
-    let mut more = [0u8; 1];
-    let n = io::read_full(STDIN_FILENO, all);
-    if libc::read(STDIN_FILENO, &mut more) != 0 {
-        say_too_long();
-        return;
+fn work(
+    rt: &impl Print,
+    input: &mut impl Read,
+    all: &mut [u8],
+    items: &mut [usize],
+    paths: &mut [u8],
+) -> io::Result<()> {
+    match read_whole(input, all)? {
+        Some(n) => differ(rt, part(all, 0, n), items, paths),
+        None => say_too_long(rt),
     }
-    differ(part(all, 0, n), items, paths);
 }
 
-fn main() {
+fn main(rt: HostRuntime) -> io::Result<()> {
     let mut all = [0u8; 2400000];
     let mut items = [0usize; 60000];
     let mut paths = [0u8; 600000];
-    work(&mut all, &mut items, &mut paths);
+    work(&rt, &mut rt.stdin(), &mut all, &mut items, &mut paths)
 }

@@ -3,8 +3,9 @@
 #![tactic(auto)]
 
 use asking::ask;
-use libc::STDIN_FILENO;
-use saying::{say_answer, say_too_long};
+use saying::{read_full, say_answer, say_too_long};
+use std::io;
+use std::io::Read;
 use tree_export::export_tree;
 
 // The longest object, and the room for its text: an entry takes less than twice its bytes.
@@ -21,27 +22,26 @@ fn part(s: &[u8], from: usize, to: usize) -> &[u8] {
     &s[from..to]
 }
 
-fn export(object: &[u8], h: usize, rules: u16, out: &mut [u8]) {
+fn export(rt: &impl Print, object: &[u8], h: usize, rules: u16, out: &mut [u8]) -> io::Result<()> {
     if LONGEST < object.len() {
-        say_too_long();
-        return;
+        return say_too_long(rt);
     }
     let a = export_tree(object, h, rules, out);
-    say_answer(a, out);
+    say_answer(rt, a, out)
 }
 
-fn asked(s: &[u8], out: &mut [u8]) {
+fn asked(rt: &impl Print, s: &[u8], out: &mut [u8]) -> io::Result<()> {
     let a = ask(s);
-    export(part(s, a.from, s.len()), a.h, a.rules, out);
+    export(rt, part(s, a.from, s.len()), a.h, a.rules, out)
 }
 
-fn work(input: &mut [u8], out: &mut [u8]) {
-    let n = io::read_full(STDIN_FILENO, input);
-    asked(part(input, 0, n), out);
+fn work(rt: &impl Print, input: &mut impl Read, all: &mut [u8], out: &mut [u8]) -> io::Result<()> {
+    let n = read_full(input, all)?;
+    asked(rt, part(all, 0, n), out)
 }
 
-fn main() {
-    let mut input = [0u8; 131200];
+fn main(rt: HostRuntime) -> io::Result<()> {
+    let mut all = [0u8; 131200];
     let mut out = [0u8; 262144];
-    work(&mut input, &mut out);
+    work(&rt, &mut rt.stdin(), &mut all, &mut out)
 }

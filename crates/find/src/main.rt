@@ -6,12 +6,13 @@
 use ground::DONE;
 use hex_of_id::hex_of_id;
 use id_of_hex::id_of_hex;
-use libc::STDIN_FILENO;
 use mode::EntryMode;
 use mode_text::ShortText;
 use path::follow_path;
 use path_walk::Followed;
-use saying::{say, say_refused, say_too_long};
+use saying::{read_whole, say, say_refused, say_too_long};
+use std::io;
+use std::io::Read;
 use words::word_at;
 
 // The bytes from one place to another, or none where they do not lie inside.
@@ -25,38 +26,37 @@ fn part(s: &[u8], from: usize, to: usize) -> &[u8] {
     &s[from..to]
 }
 
-fn text(t: ShortText) {
+fn text(rt: &impl Print, t: ShortText) -> io::Result<()> {
     let bytes = t.bytes;
-    say(part(&bytes, 0, t.len));
-    say(b" ");
+    say(rt, part(&bytes, 0, t.len))?;
+    say(rt, b" ")
 }
 
 // Mode, word and id.
-fn found(f: Followed) {
+fn found(rt: &impl Print, f: Followed) -> io::Result<()> {
     let id = f.id;
     let mut digits = [0u8; 64];
     let mode = EntryMode {
         internal: (f.mode % 65536) as u16,
     };
-    text(mode.as_bytes());
-    text(mode.as_str());
+    text(rt, mode.as_bytes())?;
+    text(rt, mode.as_str())?;
     let a = hex_of_id(part(&id, 0, f.size), &mut digits);
-    say(part(&digits, 0, a.count));
-    say(b"\n");
+    say(rt, part(&digits, 0, a.count))?;
+    say(rt, b"\n")
 }
 
-fn follow(bundle: &[u8], root: &[u8], path: &[u8]) {
+fn follow(rt: &impl Print, bundle: &[u8], root: &[u8], path: &[u8]) -> io::Result<()> {
     let f = follow_path(bundle, root, path);
     let v = f.verdict;
     if v.number != DONE {
-        say_refused(v);
-        return;
+        return say_refused(rt, v);
     }
-    found(f);
+    found(rt, f)
 }
 
 // The two words, the empty line behind them, and the bundle.
-fn find(s: &[u8]) {
+fn find(rt: &impl Print, s: &[u8]) -> io::Result<()> {
     let mut id = [0u8; 32];
     let root = word_at(s, 0);
     let path = word_at(s, root.next);
@@ -64,28 +64,25 @@ fn find(s: &[u8]) {
     let a = id_of_hex(part(s, root.start, root.end), &mut id);
     let v = a.verdict;
     if v.number != DONE {
-        say_refused(v);
-        return;
+        return say_refused(rt, v);
     }
     follow(
+        rt,
         part(s, blank.next, s.len()),
         part(&id, 0, a.count),
         part(s, path.start, path.end),
-    );
+    )
 }
 
 // Reads standard input into the lent bytes.
-fn work(all: &mut [u8]) {
-    let mut more = [0u8; 1];
-    let n = io::read_full(STDIN_FILENO, all);
-    if libc::read(STDIN_FILENO, &mut more) != 0 {
-        say_too_long();
-        return;
+fn work(rt: &impl Print, input: &mut impl Read, all: &mut [u8]) -> io::Result<()> {
+    match read_whole(input, all)? {
+        Some(n) => find(rt, part(all, 0, n)),
+        None => say_too_long(rt),
     }
-    find(part(all, 0, n));
 }
 
-fn main() {
+fn main(rt: HostRuntime) -> io::Result<()> {
     let mut all = [0u8; 4000000];
-    work(&mut all);
+    work(&rt, &mut rt.stdin(), &mut all)
 }

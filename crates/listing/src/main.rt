@@ -3,6 +3,8 @@
 // entry cannot be read is said on standard error.
 #![tactic(auto)]
 
-fn main() {
-    listing_run::run();
+use std::io;
+
+fn main(rt: HostRuntime) -> io::Result<()> {
+    listing_run::run(&mut rt.stdin(), &rt.stdout(), &rt.stderr())
 }

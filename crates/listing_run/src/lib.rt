@@ -2,9 +2,11 @@
 // cannot be read is said on standard error.
 #![tactic(auto)]
 
-use libc::{STDERR_FILENO, STDIN_FILENO, STDOUT_FILENO};
 use listing_text::{Listed, put_listing};
 use part_words::put_part;
+use saying::{read_whole, say};
+use std::io;
+use std::io::Read;
 use words::{id_length, is_word, word_at};
 
 // No text is longer: an entry takes at most three times its bytes.
@@ -18,22 +20,23 @@ fn front(text: &[u8], n: usize) -> &[u8] {
     &text[0..n]
 }
 
-fn tell(a: Listed) {
+fn tell(stderr: &impl Print, a: Listed) -> io::Result<()> {
     let mut words = [0u8; 64];
     let part = a.verdict.part;
     if part != 0 {
         let n = put_part(&mut words, part);
-        io::write_all(STDERR_FILENO, front(&words, n));
-        io::write_all(STDERR_FILENO, b"\n");
+        say(stderr, front(&words, n))?;
+        return say(stderr, b"\n");
     }
+    Ok(())
 }
 
 // An object that was read, with ids of so many bytes.
-fn listing(object: &[u8], h: usize) {
+fn listing(stdout: &impl Print, stderr: &impl Print, object: &[u8], h: usize) -> io::Result<()> {
     let mut out = [0u8; MOST];
     let a = put_listing(object, h, &mut out);
-    io::write_all(STDOUT_FILENO, front(&out, a.len));
-    tell(a);
+    say(stdout, front(&out, a.len))?;
+    tell(stderr, a)
 }
 
 // All from a place on.
@@ -59,23 +62,20 @@ fn behind_words(s: &[u8]) -> usize {
     0
 }
 
-fn input(s: &[u8]) {
+fn input(stdout: &impl Print, stderr: &impl Print, s: &[u8]) -> io::Result<()> {
     let from = behind_words(s);
     if from == 0 {
-        listing(s, 20);
-        return;
+        return listing(stdout, stderr, s, 20);
     }
-    listing(rest(s, from), 32);
+    listing(stdout, stderr, rest(s, from), 32)
 }
 
-// Lists standard input: the longest object with the word and the empty line ahead of it, or a byte more where it is longer.
-pub fn run() {
+// Lists an input: the longest object with the word and the empty line ahead of it, or a byte more where it is longer.
+pub fn run(stdin: &mut impl Read, stdout: &impl Print, stderr: &impl Print) -> io::Result<()> {
     let mut bytes = [0u8; 65545];
-    let mut more = [0u8; 1];
-    let n = io::read_full(STDIN_FILENO, &mut bytes);
-    if libc::read(STDIN_FILENO, &mut more) < 0 {
-        io::write_all(STDERR_FILENO, b"listing: standard input cannot be read\n");
-        return;
+    match read_whole(stdin, &mut bytes) {
+        Ok(Some(n)) => input(stdout, stderr, front(&bytes, n)),
+        Ok(None) => input(stdout, stderr, &bytes),
+        Err(_) => say(stderr, b"listing: standard input cannot be read\n"),
     }
-    input(&bytes[..n]);
 }

@@ -6,10 +6,10 @@ use entry::EntryRecord;
 use entry_record::{WIDTH, entry_at};
 use fate::{CHANGED, KEPT, NO_NAME, NO_SORT, own_text};
 use ground::DONE;
-use libc::STDIN_FILENO;
 use mend::mend_tree;
 use reading::read_tree;
-use saying::{say, say_refused, say_too_long};
+use saying::{read_whole, say, say_refused, say_too_long};
+use std::io;
 use words::{id_length, word_at};
 
 // The word and the object together have at most so many bytes, and so many entries: one has 22 at least.
@@ -37,87 +37,95 @@ fn before(at: usize) -> usize {
 }
 
 // The text of the kind's own mode.
-fn say_own(mode: usize) {
+fn say_own(rt: &impl Print, mode: usize) -> io::Result<()> {
     let own = own_text(mode);
     let digits = own.bytes;
-    say(part(&digits, 0, own.len));
+    say(rt, part(&digits, 0, own.len))
 }
 
 // What is done to an entry of such a mode, in words.
-fn say_fate(fate: usize, mode: usize) {
+fn say_fate(rt: &impl Print, fate: usize, mode: usize) -> io::Result<()> {
     if fate == KEPT {
-        say(b"kept");
-        return;
+        return say(rt, b"kept");
     }
     if fate == CHANGED {
-        say(b"becomes ");
-        say_own(mode);
-        return;
+        say(rt, b"becomes ")?;
+        return say_own(rt, mode);
     }
     if fate == NO_NAME {
-        say(b"dropped, its name is not permitted");
-        return;
+        return say(rt, b"dropped, its name is not permitted");
     }
     if fate == NO_SORT {
-        say(b"dropped, its mode is no file's, link's, tree's or submodule's");
-        return;
+        return say(
+            rt,
+            b"dropped, its mode is no file's, link's, tree's or submodule's",
+        );
     }
-    say(b"dropped, its name was kept before");
+    say(rt, b"dropped, its name was kept before")
 }
 
-fn line(s: &[u8], e: EntryRecord, fate: usize) {
-    say(part(s, e.text_start, before(e.name_start)));
-    say(b" ");
-    say_fate(fate, e.mode);
-    say(b": ");
-    say(part(s, e.name_start, e.name_end));
-    say(b"\n");
+fn line(rt: &impl Print, s: &[u8], e: EntryRecord, fate: usize) -> io::Result<()> {
+    say(rt, part(s, e.text_start, before(e.name_start)))?;
+    say(rt, b" ")?;
+    say_fate(rt, fate, e.mode)?;
+    say(rt, b": ")?;
+    say(rt, part(s, e.name_start, e.name_end))?;
+    say(rt, b"\n")
 }
 
-fn line_at(s: &[u8], records: &[usize], fates: &[usize], i: usize) {
+fn line_at(
+    rt: &impl Print,
+    s: &[u8],
+    records: &[usize],
+    fates: &[usize],
+    i: usize,
+) -> io::Result<()> {
     if fates.len() <= i {
-        return;
+        return Ok(());
     }
-    line(s, entry_at(records, i), fates[i]);
+    line(rt, s, entry_at(records, i), fates[i])
 }
 
-fn lines(s: &[u8], records: &[usize], fates: &[usize], n: usize) {
+fn lines(
+    rt: &impl Print,
+    s: &[u8],
+    records: &[usize],
+    fates: &[usize],
+    n: usize,
+) -> io::Result<()> {
     let mut i: usize = 0;
     while i < n {
-        line_at(s, records, fates, i);
+        line_at(rt, s, records, fates, i)?;
         i += 1;
     }
+    Ok(())
 }
 
-fn mend(object: &[u8], h: usize) {
+fn mend(rt: &impl Print, object: &[u8], h: usize) -> io::Result<()> {
     let mut fates = [0usize; MOST];
     let mut out = [0u8; LONGEST];
     let a = mend_tree(object, h, &mut fates, &mut out);
     let v = a.verdict;
     if v.number != DONE {
-        say_refused(v);
-        return;
+        return say_refused(rt, v);
     }
     let mut records = [0usize; MOST * WIDTH];
     read_tree(object, h, &mut records);
-    lines(object, &records, &fates, a.entries);
+    lines(rt, object, &records, &fates, a.entries)
 }
 
 // The word, the empty line behind it, and the object.
-fn work(s: &[u8]) {
+fn work(rt: &impl Print, s: &[u8]) -> io::Result<()> {
     let ids = id_length(s);
     let blank = word_at(s, ids.next);
-    mend(part(s, blank.next, s.len()), ids.h);
+    mend(rt, part(s, blank.next, s.len()), ids.h)
 }
 
 // Reads standard input; longer than it may be it is 2.
-fn main() {
+fn main(rt: HostRuntime) -> io::Result<()> {
     let mut all = [0u8; LONGEST];
-    let mut more = [0u8; 1];
-    let n = io::read_full(STDIN_FILENO, &mut all);
-    if libc::read(STDIN_FILENO, &mut more) != 0 {
-        say_too_long();
-        return;
+    match read_whole(&mut rt.stdin(), &mut all)? {
+        Some(n) => work(&rt, part(&all, 0, n)),
+        None => say_too_long(&rt),
     }
-    work(part(&all, 0, n));
 }

@@ -3,9 +3,10 @@
 #![tactic(auto)]
 
 use ground::DONE;
-use libc::STDIN_FILENO;
 use mend::{Mended, mend_tree};
-use saying::{say, say_refused, say_too_long};
+use saying::{read_whole, say, say_refused, say_too_long};
+use std::io;
+use std::io::Read;
 use words::{id_length, word_at};
 
 // The word and the object together have at most so many bytes, the new object no more, and so many entries: one has 22 at least.
@@ -24,13 +25,12 @@ fn part(s: &[u8], from: usize, to: usize) -> &[u8] {
     &s[from..to]
 }
 
-fn tell(a: Mended, out: &[u8]) {
+fn tell(rt: &impl Print, a: Mended, out: &[u8]) -> io::Result<()> {
     let v = a.verdict;
     if v.number != DONE {
-        say_refused(v);
-        return;
+        return say_refused(rt, v);
     }
-    say(part(out, 0, a.count));
+    say(rt, part(out, 0, a.count))
 }
 
 // The word, the empty line behind it, and the object.
@@ -40,29 +40,30 @@ fn mended(s: &[u8], fates: &mut [usize], out: &mut [u8]) -> Mended {
     mend_tree(part(s, blank.next, s.len()), ids.h, fates, out)
 }
 
-// How many bytes standard input has, which are read to the front; where it has more, one more than there are.
-fn read(all: &mut [u8]) -> usize {
-    let mut more = [0u8; 1];
-    let n = io::read_full(STDIN_FILENO, all);
-    if libc::read(STDIN_FILENO, &mut more) != 0 {
-        return LONGEST + 1;
-    }
-    n
+// How many bytes the input has, which are read to the front; where it has more, one more than there are.
+fn read(input: &mut impl Read, all: &mut [u8]) -> io::Result<usize> {
+    let n = read_whole(input, all)?;
+    Ok(n.unwrap_or(LONGEST + 1))
 }
 
 // An input that is longer than it may be is 2.
-fn work(all: &mut [u8], fates: &mut [usize], out: &mut [u8]) {
-    let n = read(all);
+fn work(
+    rt: &impl Print,
+    input: &mut impl Read,
+    all: &mut [u8],
+    fates: &mut [usize],
+    out: &mut [u8],
+) -> io::Result<()> {
+    let n = read(input, all)?;
     if LONGEST < n {
-        say_too_long();
-        return;
+        return say_too_long(rt);
     }
-    tell(mended(part(all, 0, n), fates, out), out);
+    tell(rt, mended(part(all, 0, n), fates, out), out)
 }
 
-fn main() {
+fn main(rt: HostRuntime) -> io::Result<()> {
     let mut all = [0u8; LONGEST];
     let mut fates = [0usize; MOST];
     let mut out = [0u8; LONGEST];
-    work(&mut all, &mut fates, &mut out);
+    work(&rt, &mut rt.stdin(), &mut all, &mut fates, &mut out)
 }

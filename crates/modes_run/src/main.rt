@@ -2,27 +2,28 @@
 // A line for each of the 16 sorts: the sort in octal, and the sum over its 4,096 modes.
 #![tactic(auto)]
 
-use libc::STDOUT_FILENO;
 use mode::{EntryMode, ModeAnswer, ModeRead};
 use mode_table::EntryKind;
 use mode_text::ShortText;
+use std::io;
 
-fn say(s: &[u8]) {
-    io::write_all(STDOUT_FILENO, s);
+fn say(rt: &impl Print, s: &[u8]) -> io::Result<()> {
+    rt.write_all(s)
 }
 
-fn number(n: u64) {
-    say(b" ");
-    io::print_decimal(STDOUT_FILENO, n);
+fn number(rt: &impl Print, n: u64) -> io::Result<()> {
+    say(rt, b" ")?;
+    rt.print(n)
 }
 
-fn text(t: ShortText) {
+fn text(rt: &impl Print, t: ShortText) -> io::Result<()> {
     let bytes = t.bytes;
     let n = t.len;
-    say(b" ");
+    say(rt, b" ")?;
     if n <= 6 {
-        say(&bytes[..n]);
+        return say(rt, &bytes[..n]);
     }
+    Ok(())
 }
 
 // The sum takes a number x: sum * 31 + x, modulo 2^32.
@@ -94,32 +95,32 @@ fn all_modes(sort: u16) -> u64 {
     sum
 }
 
-fn one_sort(sort: u16) {
+fn one_sort(rt: &impl Print, sort: u16) -> io::Result<()> {
     let high = 48 + (sort % 16 / 8) as u8;
     let next = 48 + (sort % 8) as u8;
-    say(&[high, next, 48, 48, 48, 48]);
-    number(all_modes(sort));
-    say(b"\n");
+    say(rt, &[high, next, 48, 48, 48, 48])?;
+    number(rt, all_modes(sort))?;
+    say(rt, b"\n")
 }
 
 // Number, mode, where the rest begins, value, kind word and written text; or the refusal.
-fn answered(a: ModeAnswer, rest: u64) {
+fn answered(rt: &impl Print, a: ModeAnswer, rest: u64) -> io::Result<()> {
     let v = a.verdict;
     let m = a.mode;
     if v.number == 0 {
-        number(0);
-        number(m.internal as u64);
-        number(rest);
-        number(m.value() as u64);
-        text(m.as_str());
-        text(m.as_bytes());
+        number(rt, 0)?;
+        number(rt, m.internal as u64)?;
+        number(rt, rest)?;
+        number(rt, m.value() as u64)?;
+        text(rt, m.as_str())?;
+        text(rt, m.as_bytes())?;
     } else {
-        say(b" refused");
-        number(v.number as u64);
-        say(b" at");
-        number(v.place as u64);
+        say(rt, b" refused")?;
+        number(rt, v.number as u64)?;
+        say(rt, b" at")?;
+        number(rt, v.place as u64)?;
     }
-    say(b"\n");
+    say(rt, b"\n")
 }
 
 fn rest_of(r: ModeRead) -> u64 {
@@ -129,46 +130,48 @@ fn rest_of(r: ModeRead) -> u64 {
     }
 }
 
-fn one_text(s: &[u8]) {
-    say(b"`");
-    say(s);
-    say(b"`");
+fn one_text(rt: &impl Print, s: &[u8]) -> io::Result<()> {
+    say(rt, b"`")?;
+    say(rt, s)?;
+    say(rt, b"`")?;
     answered(
+        rt,
         EntryMode::from_bytes(s),
         rest_of(EntryMode::extract_at(s, 0)),
-    );
+    )
 }
 
 // A mode from a number has no rest: 0 stands there.
-fn one_number(shown: &[u8], n: u32) {
-    say(shown);
-    answered(EntryMode::from_u32(n), 0);
+fn one_number(rt: &impl Print, shown: &[u8], n: u32) -> io::Result<()> {
+    say(rt, shown)?;
+    answered(rt, EntryMode::from_u32(n), 0)
 }
 
-fn all_sorts() {
+fn all_sorts(rt: &impl Print) -> io::Result<()> {
     let mut sort: u16 = 0;
     while sort < 16 {
-        one_sort(sort);
+        one_sort(rt, sort)?;
         sort += 1;
     }
+    Ok(())
 }
 
-fn main() {
-    all_sorts();
-    one_text(b"100644 ");
-    one_text(b"40000 ");
-    one_text(b"040000 ");
-    one_text(b"140755 ");
-    one_text(b"040755 ");
-    one_text(b"0000000 x");
-    one_text(b"00000000 x");
-    one_text(b"0 abcd e");
-    one_text(b"0 abc de");
-    one_text(b" abc");
-    one_text(b" 12345 x");
-    one_text(b"200000 ");
-    one_text(b"1234567");
-    one_text(b"");
-    one_number(b"0o300644", 0o300644);
-    one_number(b"0o200000", 0o200000);
+fn main(rt: HostRuntime) -> io::Result<()> {
+    all_sorts(&rt)?;
+    one_text(&rt, b"100644 ")?;
+    one_text(&rt, b"40000 ")?;
+    one_text(&rt, b"040000 ")?;
+    one_text(&rt, b"140755 ")?;
+    one_text(&rt, b"040755 ")?;
+    one_text(&rt, b"0000000 x")?;
+    one_text(&rt, b"00000000 x")?;
+    one_text(&rt, b"0 abcd e")?;
+    one_text(&rt, b"0 abc de")?;
+    one_text(&rt, b" abc")?;
+    one_text(&rt, b" 12345 x")?;
+    one_text(&rt, b"200000 ")?;
+    one_text(&rt, b"1234567")?;
+    one_text(&rt, b"")?;
+    one_number(&rt, b"0o300644", 0o300644)?;
+    one_number(&rt, b"0o200000", 0o200000)
 }

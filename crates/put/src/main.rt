@@ -5,10 +5,10 @@
 use edit::put_in_tree;
 use ground::DONE;
 use id_of_hex::id_of_hex;
-use libc::STDIN_FILENO;
 use mode::EntryMode;
-use saying::{say_answer, say_refused, say_too_long};
+use saying::{read_whole, say_answer, say_refused, say_too_long};
 use scan::same_bytes;
+use std::io;
 use words::{id_length, rule_set, word_at};
 
 // Words and object together have at most so many bytes, and the new object no more.
@@ -54,22 +54,29 @@ fn mode_of(text: &[u8]) -> usize {
     65536
 }
 
-fn put(object: &[u8], h: usize, rules: u16, mode: usize, name: &[u8], digits: &[u8]) {
+fn put(
+    rt: &impl Print,
+    object: &[u8],
+    h: usize,
+    rules: u16,
+    mode: usize,
+    name: &[u8],
+    digits: &[u8],
+) -> io::Result<()> {
     let mut out = [0u8; LONGEST];
     let mut id = [0u8; 32];
     let a = id_of_hex(digits, &mut id);
     let v = a.verdict;
     if v.number != DONE {
-        say_refused(v);
-        return;
+        return say_refused(rt, v);
     }
     let n = a.count;
     let b = put_in_tree(object, h, rules, mode, name, part(&id, 0, n), &mut out);
-    say_answer(b, &out);
+    say_answer(rt, b, &out)
 }
 
 // The words, the empty line behind them, and the object.
-fn work(s: &[u8]) {
+fn work(rt: &impl Print, s: &[u8]) -> io::Result<()> {
     let ids = id_length(s);
     let set = set_at(s, ids.next);
     let mode = word_at(s, set.next);
@@ -77,23 +84,21 @@ fn work(s: &[u8]) {
     let name = word_at(s, id.next);
     let blank = word_at(s, name.next);
     put(
+        rt,
         part(s, blank.next, s.len()),
         ids.h,
         set.rules,
         mode_of(part(s, mode.start, mode.end)),
         part(s, name.start, name.end),
         part(s, id.start, id.end),
-    );
+    )
 }
 
 // Reads standard input; longer than it may be it is 2.
-fn main() {
+fn main(rt: HostRuntime) -> io::Result<()> {
     let mut all = [0u8; LONGEST];
-    let mut more = [0u8; 1];
-    let n = io::read_full(STDIN_FILENO, &mut all);
-    if libc::read(STDIN_FILENO, &mut more) != 0 {
-        say_too_long();
-        return;
+    match read_whole(&mut rt.stdin(), &mut all)? {
+        Some(n) => work(&rt, part(&all, 0, n)),
+        None => say_too_long(&rt),
     }
-    work(part(&all, 0, n));
 }

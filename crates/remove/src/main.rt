@@ -3,8 +3,8 @@
 #![tactic(auto)]
 
 use edit_remove::remove_from_tree;
-use libc::STDIN_FILENO;
-use saying::{say_answer, say_too_long};
+use saying::{read_whole, say_answer, say_too_long};
+use std::io;
 use words::{id_length, is_word, rule_set, word_at};
 
 // Words and object together have at most so many bytes, and the new object no more.
@@ -41,34 +41,32 @@ fn set_at(s: &[u8], at: usize) -> Set {
     Set { rules, next }
 }
 
-fn remove(object: &[u8], h: usize, rules: u16, name: &[u8]) {
+fn remove(rt: &impl Print, object: &[u8], h: usize, rules: u16, name: &[u8]) -> io::Result<()> {
     let mut out = [0u8; LONGEST];
     let a = remove_from_tree(object, h, rules, name, &mut out);
-    say_answer(a, &out);
+    say_answer(rt, a, &out)
 }
 
 // The words, the empty line behind them, and the object.
-fn work(s: &[u8]) {
+fn work(rt: &impl Print, s: &[u8]) -> io::Result<()> {
     let ids = id_length(s);
     let set = set_at(s, ids.next);
     let name = word_at(s, set.next);
     let blank = word_at(s, name.next);
     remove(
+        rt,
         part(s, blank.next, s.len()),
         ids.h,
         set.rules,
         part(s, name.start, name.end),
-    );
+    )
 }
 
 // Reads standard input; longer than it may be it is 2.
-fn main() {
+fn main(rt: HostRuntime) -> io::Result<()> {
     let mut all = [0u8; LONGEST];
-    let mut more = [0u8; 1];
-    let n = io::read_full(STDIN_FILENO, &mut all);
-    if libc::read(STDIN_FILENO, &mut more) != 0 {
-        say_too_long();
-        return;
+    match read_whole(&mut rt.stdin(), &mut all)? {
+        Some(n) => work(&rt, part(&all, 0, n)),
+        None => say_too_long(&rt),
     }
-    work(part(&all, 0, n));
 }

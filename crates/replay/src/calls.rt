@@ -1,8 +1,8 @@
 // Which call a case is, and what it is lent.
 use crate::cases::{ANSWERS, BYTES, NUMBERS};
 use crate::commits::{commit_size, read_commit, rewrite, unfold, write_commit};
+use crate::in_pieces::check_in_pieces;
 use crate::lent::{BYTE, Left, NUMBER, room};
-use crate::pieces::check_in_pieces;
 use crate::requests::{bundled, compare_trees, edited, follow_path, mend_tree, text_call};
 use crate::trees::{
     among_structs, listed, mode_asked, mode_text, name_order, put_out, sized, sought, walk,

@@ -1,6 +1,6 @@
 // The fields of a case, as the list has them (oracle/README.md, "The list format"). What a case is given and what is wanted lies in two lists: the
 // bytes `s`, with a window of the file first, and the numbers `g`. What stands where is said by the constants.
-ghost use Rattle.std.specs.Prelude.{◌<◌, ◌≤◌};
+ghost use Rattle.std.specs.Prelude.{◌<◌, ◌≤◌, length};
 
 use ground::byte_at;
 use std::num::{wrapping_add_usize, wrapping_sub_usize};
@@ -179,7 +179,8 @@ fn shared_at(s: &[u8], at: usize, derived: bool) -> Number {
 
 // The smaller of two numbers.
 fn least(a: usize, b: usize) -> usize
-    ensures { result ≤ b }
+    ensures left { result ≤ a }
+    ensures right { result ≤ b }
 {
     if a < b { a } else { b }
 }
@@ -202,7 +203,9 @@ fn set_byte(s: &mut [u8], i: usize, x: u8) {
 }
 
 // The bytes from a place on, n or as many as there are.
-fn piece(s: &[u8], from: usize, n: usize) -> &[u8] {
+pub fn piece(s: &[u8], from: usize, n: usize) -> &[u8]
+    ensures { length result.now ≤ n }
+{
     let start = least(from, s.len());
     let end = start + least(n, s.len() - start);
     &s[start..end]

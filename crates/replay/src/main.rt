@@ -1,4 +1,4 @@
-// Replays the list of cases that is its standard input, a file: what the Rust, Git's own objects and the paper answered (oracle/README.md),
+// Replays the list of cases that is its standard input: what the Rust, Git's own objects and the paper answered (oracle/README.md),
 // held against what the library answers. It names the cases that differ; the list's last ones are wrong on purpose, one for each number and
 // list that is compared. A line for each call says how many cases there are and how many agree.
 #![tactic(auto)]
@@ -6,17 +6,18 @@
 mod calls;
 mod cases;
 mod commits;
+mod in_pieces;
 mod lent;
-mod pieces;
 mod requests;
 mod trees;
 mod wide;
 
 use calls::called;
-use cases::{ALL_BYTES, ALL_NUMBERS, FIELDS, TAKEN, WINDOW, take};
+use cases::{ALL_BYTES, ALL_NUMBERS, FIELDS, TAKEN, WINDOW, piece, take};
 use ground::byte_at;
 use lent::right;
-use libc::{SEEK_SET, STDERR_FILENO, STDIN_FILENO, STDOUT_FILENO};
+use std::io;
+use std::io::Read;
 use std::num::{wrapping_add_usize, wrapping_sub_usize};
 
 // No list has more cases.
@@ -35,14 +36,14 @@ const COUNTS: usize = 128;
 // How many differences are said one by one: more than the cases that are wrong on purpose.
 const SAID: usize = 256;
 
-fn say(s: &[u8]) {
-    io::write_all(STDOUT_FILENO, s);
+fn say(rt: &impl Print, s: &[u8]) -> io::Result<()> {
+    rt.write_all(s)
 }
 
 // A word, and a number behind it.
-fn say_with(word: &[u8], n: usize) {
-    say(word);
-    io::print_decimal(STDOUT_FILENO, n as u64);
+fn say_with(rt: &impl Print, word: &[u8], n: usize) -> io::Result<()> {
+    say(rt, word)?;
+    rt.print(n)
 }
 
 // How many cases differ.
@@ -64,13 +65,19 @@ fn counted(counts: [usize; COUNTS], call: usize, good: bool) -> [usize; COUNTS] 
 }
 
 // A case that differs is named: its index, from 0 on, and its call.
-fn say_verdict(good: bool, index: usize, call: usize, differ: usize) {
+fn say_verdict(
+    rt: &impl Print,
+    good: bool,
+    index: usize,
+    call: usize,
+    differ: usize,
+) -> io::Result<()> {
     if good | (SAID < differ) {
-        return;
+        return Ok(());
     }
-    say_with(b"differs: case ", index);
-    say_with(b" call ", call);
-    say(b"\n");
+    say_with(rt, b"differs: case ", index)?;
+    say_with(rt, b" call ", call)?;
+    say(rt, b"\n")
 }
 
 // A case: its call, whether it agrees, and how many bytes it has.
@@ -99,73 +106,79 @@ fn one_case(s: &mut [u8], g: &mut [usize], n: usize) -> Replayed {
     Replayed { call, good, length }
 }
 
-// The window of the list that starts at a place of the file: how many bytes it has.
-fn window(s: &mut [u8], from: usize) -> usize {
-    libc::lseek(STDIN_FILENO, (from % 1099511627776) as i64, SEEK_SET);
+// The window of the list that starts at a place of it: how many bytes it has.
+fn window(list: &[u8], s: &mut [u8], from: usize) -> usize {
     if s.len() < WINDOW {
         return 0;
     }
-    io::read_full(STDIN_FILENO, &mut s[0..WINDOW])
+    let bytes = piece(list, from % 1099511627776, WINDOW);
+    let n = bytes.len();
+    s[..n].copy_from_slice(bytes);
+    n
 }
 
-// Each case is counted, and named where it differs. The list ends with the file, or with a call that there is not.
-fn replay(s: &mut [u8], g: &mut [usize]) -> [usize; COUNTS] {
+// Each case is counted, and named where it differs. The list ends with its bytes, or with a call that there is not.
+fn replay(
+    rt: &impl Print,
+    list: &[u8],
+    s: &mut [u8],
+    g: &mut [usize],
+) -> io::Result<[usize; COUNTS]> {
     let mut counts = [0usize; COUNTS];
     let mut index: usize = 0;
     let mut from: usize = 0;
     while index < MOST_CASES {
-        let n = window(s, from);
+        let n = window(list, s, from);
         if n == 0 {
-            return counts;
+            return Ok(counts);
         }
         let r = one_case(s, g, n);
         let more = counted(counts, r.call, r.good);
         counts = more;
-        say_verdict(r.good, index, r.call, differing(more));
+        say_verdict(rt, r.good, index, r.call, differing(more))?;
         if r.length == 0 {
-            return counts;
+            return Ok(counts);
         }
         from = wrapping_add_usize(from, r.length);
         index += 1;
     }
-    counts
+    Ok(counts)
 }
 
-fn line(counts: [usize; COUNTS], call: usize) {
+fn line(rt: &impl Print, counts: [usize; COUNTS], call: usize) -> io::Result<()> {
     let at = call % ALL;
-    say_with(b"call ", call);
-    say_with(b": ", counts[at]);
-    say_with(b" agree ", counts[at + AGREE]);
-    say(b"\n");
+    say_with(rt, b"call ", call)?;
+    say_with(rt, b": ", counts[at])?;
+    say_with(rt, b" agree ", counts[at + AGREE])?;
+    say(rt, b"\n")
 }
 
-fn lines(counts: [usize; COUNTS]) {
+fn lines(rt: &impl Print, counts: [usize; COUNTS]) -> io::Result<()> {
     let mut call: usize = 1;
     while call <= CALLS {
-        line(counts, call);
+        line(rt, counts, call)?;
         call += 1;
     }
+    Ok(())
 }
 
-fn sum(counts: [usize; COUNTS]) {
-    say_with(b"cases ", counts[ALL]);
-    say_with(b", differ ", differing(counts));
-    say(b"\n");
+fn sum(rt: &impl Print, counts: [usize; COUNTS]) -> io::Result<()> {
+    say_with(rt, b"cases ", counts[ALL])?;
+    say_with(rt, b", differ ", differing(counts))?;
+    say(rt, b"\n")
 }
 
-// The whole list, where standard input is a file.
-fn work(s: &mut [u8], g: &mut [usize]) {
-    if libc::lseek(STDIN_FILENO, 0, SEEK_SET) < 0 {
-        io::write_all(STDERR_FILENO, b"replay: standard input is no file\n");
-        return;
-    }
-    let counts = replay(s, g);
-    lines(counts);
-    sum(counts);
+// The whole list.
+fn work(rt: &impl Print, list: &[u8], s: &mut [u8], g: &mut [usize]) -> io::Result<()> {
+    let counts = replay(rt, list, s, g)?;
+    lines(rt, counts)?;
+    sum(rt, counts)
 }
 
-fn main() {
+fn main(rt: HostRuntime) -> io::Result<()> {
+    let mut list = Vec::new(rt.alloc());
+    rt.stdin().read_to_end(&mut list)?;
     let mut s = [0u8; ALL_BYTES];
     let mut g = [0usize; ALL_NUMBERS];
-    work(&mut s, &mut g);
+    work(&rt, list.as_slice(), &mut s, &mut g)
 }

@@ -1,45 +1,76 @@
-// What the programs say on standard output: bytes, a number, an answer's bytes or its refusal in one line. Nothing is returned or changed, so
-// there is nothing to promise.
+// What the programs read from standard input, and what they say on standard output: bytes, a number, an answer's bytes or its refusal in one
+// line. A read or a write that fails is the caller's error.
 #![tactic(auto)]
 
-use ground::{Answer, BOUND, DONE, FINE, Verdict};
-use libc::STDOUT_FILENO;
+ghost use Rattle.std.specs.Prelude.{IfOk, ◌≤◌, length};
 
-pub fn say(s: &[u8]) {
-    io::write_all(STDOUT_FILENO, s);
+use ground::{Answer, BOUND, DONE, FINE, Verdict};
+use std::io;
+use std::io::Read;
+
+// Reads until the lent bytes are full or the input ends; how many were read.
+pub fn read_full(input: &mut impl Read, bytes: &mut [u8]) -> io::Result<usize>
+    ensures { IfOk result (λ n. n ≤ length bytes.new) }
+{
+    let mut done: usize = 0;
+    while done < bytes.len() {
+        let n = input.read(&mut bytes[done..])?;
+        if n == 0 {
+            return Ok(done);
+        }
+        done += n;
+    }
+    Ok(done)
+}
+
+// How many bytes the input has, which are read to the front of the lent ones; none where it has more than those.
+pub fn read_whole(input: &mut impl Read, bytes: &mut [u8]) -> io::Result<Option<usize>> {
+    let mut more = [0u8; 1];
+    let n = read_full(input, bytes)?;
+    if input.read(&mut more)? != 0 {
+        return Ok(None);
+    }
+    Ok(Some(n))
+}
+
+pub fn say(rt: &impl Print, s: &[u8]) -> io::Result<()> {
+    rt.write_all(s)
 }
 
 // A word, and a number behind it.
-pub fn say_with(word: &[u8], n: usize) {
-    say(word);
-    io::print_decimal(STDOUT_FILENO, n as u64);
+pub fn say_with(rt: &impl Print, word: &[u8], n: usize) -> io::Result<()> {
+    say(rt, word)?;
+    rt.print(n)
 }
 
 // A refusal: its number, place and part.
-pub fn say_refused(v: Verdict) {
-    say_with(b"refused ", v.number);
-    say_with(b" at ", v.place);
-    say_with(b" part ", v.part);
-    say(b"\n");
+pub fn say_refused(rt: &impl Print, v: Verdict) -> io::Result<()> {
+    say_with(rt, b"refused ", v.number)?;
+    say_with(rt, b" at ", v.place)?;
+    say_with(rt, b" part ", v.part)?;
+    say(rt, b"\n")
 }
 
 // The refusal of an input that is longer than it may be.
-pub fn say_too_long() {
-    say_refused(Verdict {
-        number: BOUND,
-        ..FINE
-    });
+pub fn say_too_long(rt: &impl Print) -> io::Result<()> {
+    say_refused(
+        rt,
+        Verdict {
+            number: BOUND,
+            ..FINE
+        },
+    )
 }
 
 // The first bytes of an output, as many as an answer counts, or its refusal.
-pub fn say_answer(a: Answer, out: &[u8]) {
+pub fn say_answer(rt: &impl Print, a: Answer, out: &[u8]) -> io::Result<()> {
     let v = a.verdict;
     if v.number != DONE {
-        say_refused(v);
-        return;
+        return say_refused(rt, v);
     }
     let n = a.count;
     if n <= out.len() {
-        say(&out[0..n]);
+        return say(rt, &out[0..n]);
     }
+    Ok(())
 }

@@ -5,10 +5,11 @@
 use arriving::Marks;
 use asking::ask;
 use ground::{Answer, DONE};
-use libc::STDIN_FILENO;
 use piece_ends::{finish, start};
 use pieces::feed;
-use saying::{say, say_refused, say_with};
+use saying::{read_full, say, say_refused, say_with};
+use std::io;
+use std::io::Read;
 
 // As many pieces are longer together than the bound, past which an answer is settled.
 const MOST_PIECES: usize = 2097153;
@@ -24,14 +25,13 @@ fn part(s: &[u8], from: usize, to: usize) -> &[u8] {
     &s[from..to]
 }
 
-fn tell(a: Answer) {
+fn tell(rt: &impl Print, a: Answer) -> io::Result<()> {
     let verdict = a.verdict;
     if verdict.number != DONE {
-        say_refused(verdict);
-        return;
+        return say_refused(rt, verdict);
     }
-    say_with(b"entries ", a.count);
-    say(b"\n");
+    say_with(rt, b"entries ", a.count)?;
+    say(rt, b"\n")
 }
 
 // The check with a piece more, and how many bytes that had.
@@ -42,41 +42,55 @@ struct Fed {
 }
 
 // The first piece, which the words stand ahead of.
-fn begin(held: &mut [u8; 4096], ends: &mut [u32; 4097]) -> Marks {
+fn begin(
+    input: &mut impl Read,
+    held: &mut [u8; 4096],
+    ends: &mut [u32; 4097],
+) -> io::Result<Marks> {
     let mut piece = [0u8; 512];
-    let n = io::read_full(STDIN_FILENO, &mut piece);
+    let n = read_full(input, &mut piece)?;
     let asked = ask(part(&piece, 0, n));
     let m = start(asked.h, asked.rules);
-    feed(held, ends, m, part(&piece, asked.from, n))
+    Ok(feed(held, ends, m, part(&piece, asked.from, n)))
 }
 
-fn more(held: &mut [u8; 4096], ends: &mut [u32; 4097], m: Marks) -> Fed {
+fn more(
+    input: &mut impl Read,
+    held: &mut [u8; 4096],
+    ends: &mut [u32; 4097],
+    m: Marks,
+) -> io::Result<Fed> {
     let mut piece = [0u8; 512];
-    let many = io::read_full(STDIN_FILENO, &mut piece);
+    let many = read_full(input, &mut piece)?;
     let marks = feed(held, ends, m, part(&piece, 0, many));
-    Fed { marks, many }
+    Ok(Fed { marks, many })
 }
 
 // Piece after piece, up to the end or a refusal.
-fn check(held: &mut [u8; 4096], ends: &mut [u32; 4097]) -> Marks {
-    let mut m = begin(held, ends);
+fn check(
+    input: &mut impl Read,
+    held: &mut [u8; 4096],
+    ends: &mut [u32; 4097],
+) -> io::Result<Marks> {
+    let mut m = begin(input, held, ends)?;
     let mut k = 0;
     while k < MOST_PIECES {
         if m.verdict.number != DONE {
-            return m;
+            return Ok(m);
         }
-        let fed = more(held, ends, m);
+        let fed = more(input, held, ends, m)?;
         m = fed.marks;
         if fed.many == 0 {
-            return m;
+            return Ok(m);
         }
         k += 1;
     }
-    m
+    Ok(m)
 }
 
-fn main() {
+fn main(rt: HostRuntime) -> io::Result<()> {
     let mut held = [0u8; 4096];
     let mut ends = [0u32; 4097];
-    tell(finish(check(&mut held, &mut ends)));
+    let marks = check(&mut rt.stdin(), &mut held, &mut ends)?;
+    tell(&rt, finish(marks))
 }

@@ -3,7 +3,7 @@ use Prim.Native.Nat.{◌-◌}
 use Rattle.modes_run.proofs.all_sorts.Given as goal
 
 abbrev pub invariant-loop-sort : goal.invariant-loop-sort
-invariant-loop-sort l = Unit {0}
+invariant-loop-sort g l = Unit {0}
 
 abbrev pub decreases-loop-sort : goal.decreases-loop-sort
-decreases-loop-sort l = 16 - l.sort
+decreases-loop-sort g l = 16 - l.sort

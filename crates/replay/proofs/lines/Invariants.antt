@@ -3,7 +3,7 @@ use Rattle.std.proofs.Common.{◌-◌}
 use Rattle.replay.proofs.lines.Given as goal
 
 abbrev pub invariant-loop-call : goal.invariant-loop-call
-invariant-loop-call l = Unit {0}
+invariant-loop-call g l = Unit {0}
 
 abbrev pub decreases-loop-call : goal.decreases-loop-call
-decreases-loop-call l = 32 - l.call
+decreases-loop-call g l = 32 - l.call

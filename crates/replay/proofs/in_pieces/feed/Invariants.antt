@@ -1,6 +1,6 @@
--- `replay::pieces::feed` is safe and ends. Assumes nothing.
+-- `replay::in_pieces::feed` is safe and ends. Assumes nothing.
 use Rattle.std.proofs.Common.{◌-◌, ◌≤◌, length}
-use Rattle.replay.proofs.pieces.feed.Given as goal
+use Rattle.replay.proofs.in_pieces.feed.Given as goal
 
 abbrev pub invariant-loop-at : goal.invariant-loop-at
 invariant-loop-at l = l.at ≤ length l.object
