@@ -31,7 +31,6 @@ use Rattle.grammar.specs.Grammar.{
   FirstForm,
   CommitForm,
 }
-use Rattle.commit_grammar.specs.Named.{named}
 use Rattle.commit_grammar.proofs.Theorems.{commit_is_read}
 use Rattle.commit_value.specs.Fold.{fold_value}
 use Rattle.commit_write.specs.Written.{lower_digit, lower_hex, header_written, headers_written, commit_written}

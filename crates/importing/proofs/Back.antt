@@ -9,7 +9,7 @@ use mathlib.Core.List.{List, [], ◌∷◌, ◌++◌, Memᴰ}
 use lib.ListN.{length, drop, length-map}
 use borrow.Author.Tests.{eq-eqb}
 use Rattle.ground.specs.Scan.{same_bytes}
-use Rattle.ground.specs.Verdict.{verdict, fine, counted, most_bytes, most_records}
+use Rattle.ground.specs.Verdict.{fine, counted, most_bytes, most_records}
 use Rattle.ground.specs.declared.Verdict.{Verdict}
 use Rattle.ground.specs.declared.Answer.{Answer}
 use Rattle.ground.specs.declared.Gate.{Gate}

@@ -11,7 +11,7 @@ use mathlib.Core.Logic.{◌⊎◌, inl, inr, ⊎_elim}
 use lib.Dec.{eqb, leb}
 use lib.ListN.{length, get_or, take, drop, set, drop_of_length-le, take-append-drop, length-take}
 use lib.Seq.{sets, drop-cons, drop-nil, take_at, take_all, get_or-take, length-sets, length-take-le}
-use borrow.Author.Tests.{eqb-true, eq-eqb, ne_eqb, leb-true, le-leb, lt-leb}
+use borrow.Author.Tests.{eq-eqb, ne_eqb, leb-true, le-leb, lt-leb}
 use Rattle.ground.specs.Basics.{pick}
 use Rattle.ground.specs.Verdict.{verdict, fine, counted, refused, gate_of, stored}
 use Rattle.ground.specs.declared.Verdict.{Verdict}

@@ -5,7 +5,7 @@ use mathlib.Core.Path.{◌≡◌, refl, sym, ap, subst, ◌∙◌}
 use mathlib.Core.List.{List, [], ◌∷◌, ◌++◌}
 use mathlib.Core.Logic.{◌⊎◌}
 use lib.ListN.{length, take, drop, length-map}
-use Rattle.ground.specs.Verdict.{verdict, counted, most_bytes, most_records, stored}
+use Rattle.ground.specs.Verdict.{counted, most_bytes, most_records, stored}
 use Rattle.ground.specs.declared.Verdict.{Verdict}
 use Rattle.ground.specs.declared.Answer.{Answer}
 use Rattle.ground.proofs.Laws.{gate_fine, gate_open, id_small, stored-done}

@@ -6,7 +6,6 @@ use lib.Dec.{eqb}
 use lib.ListN.{length}
 use Rattle.ground.specs.Verdict.{verdict}
 use Rattle.ground.specs.declared.Gate.{Gate}
-use Rattle.ground.specs.declared.Gate.TheVariants as gate
 use Rattle.frame.specs.Frame.{head_of, frames_by, whole}
 use Rattle.frame.specs.Place.{place_of}
 use Rattle.frame.specs.declared.Header.{Header}
@@ -16,7 +15,7 @@ use Rattle.frame.specs.declared.Frame.{Frame}
 use Rattle.frame.specs.declared.Placed.{Placed}
 use Rattle.frame.specs.declared.Placed.TheVariants.{At, Absent}
 use Rattle.twice.specs.Ids.{ids_in, repeats}
-use Rattle.bundle.specs.Bundle.{Object, Bundle, good, bad, bundle_of, ids_of, open_by, open_from, open_of, own_length, told, check_of}
+use Rattle.bundle.specs.Bundle.{Bundle, good, bad, bundle_of, ids_of, open_by, open_from, open_of, own_length, told, check_of}
 use Rattle.bundle.specs.declared.Opening.{Opening}
 use Rattle.bundle.specs.declared.Opening.TheVariants.{Open, Shut}
 use Rattle.component.specs.Component.{components, is_path}

@@ -13,7 +13,7 @@ use Rattle.hex_of_id.specs.Hex.{hex_answer}
 use Rattle.call.specs.Call.{none, ◌and◌, Fits}
 use Rattle.call.specs.Deeds.{of_answer}
 use Rattle.paper.specs.Demand1.{OfHex}
-use Rattle.call.proofs.Laws.{answers_once, same, Of, done, zero, wider, keeps-writes, each-pick, each_gate, each-fitted}
+use Rattle.call.proofs.Laws.{answers_once, Of, done, zero, wider, keeps-writes, each-pick, each_gate, each-fitted}
 
 -- every way to take digits, a count, 1, 2, 10, 8, and to give them, the same without 10
 module _ (Q : Answer → Type 0) (count : (n : ℕ) → Q (counted n)) (one : Q (refused (verdict 1 0))) (two : Q (refused (verdict 2 0)))

@@ -17,7 +17,7 @@ use Rattle.arriving.specs.declared.Check.{Check}
 use Rattle.call.specs.Call.{Fits, ◌and◌, none}
 use Rattle.paper.specs.Calls.{of_mended}
 use Rattle.paper.specs.Demand1.{OfMending, OfLeaves}
-use Rattle.call.proofs.Laws.{answers_once, same, two-lists, done, zero, wider, keeps, each-pick, each_gate}
+use Rattle.call.proofs.Laws.{answers_once, two-lists, done, zero, wider, keeps, each-pick, each_gate}
 
 abbrev numbers : List ℕ
 numbers = 0 ∷ 1 ∷ 2 ∷ 3 ∷ 4 ∷ 8 ∷ []

@@ -8,7 +8,6 @@ use Rattle.ground.specs.declared.Verdict.{Verdict}
 use Rattle.order.specs.Order.{name_order}
 use Rattle.order.specs.declared.Order.{Order}
 use Rattle.order.specs.declared.Order.TheVariants.{Below, Same, Above}
-use Rattle.bundle.specs.declared.Opening.TheVariants as opening
 use Rattle.merge.specs.Merge.{by_order}
 use Rattle.item.specs.Items.{Side, Named, is_folder, Folder, shut, holds, same_side}
 use Rattle.walk.specs.Walk.{Lower, Out, put, and_then, change, both, rights, against, compare_entries, opened, compare_folders}

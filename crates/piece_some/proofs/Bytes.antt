@@ -20,7 +20,7 @@ use Rattle.arriving.specs.declared.Marks.{Marks}
 use Rattle.arriving.specs.declared.Taken.{Taken}
 use Rattle.piece_name.specs.Names.{name_more, name_some}
 use Rattle.piece_name.proofs.Names.{line-size}
-use Rattle.piece_some.specs.Bytes.{up_to, taken_at, head_some, head_most, name_part, id_some, some_in, held_in, most_of, bytes_of, some_of, some_held}
+use Rattle.piece_some.specs.Bytes.{up_to, taken_at, head_some, head_most, name_part, id_some, some_in, held_in, most_of, some_of, some_held}
 use Rattle.piece_some.specs.declared.Got.{Got}
 
 -- how many of an entry's first bytes

@@ -12,7 +12,6 @@ use Rattle.order.specs.Order.{name_order}
 use Rattle.order.specs.declared.Order.{Order}
 use Rattle.frame.specs.Frame.{frame_at}
 use Rattle.frame.specs.Place.{id_in, place_of}
-use Rattle.frame.specs.declared.Head.TheVariants as head
 use Rattle.frame.specs.declared.Frame.{Frame}
 use Rattle.frame.specs.declared.Framed.{Framed}
 use Rattle.frame.specs.declared.Framed.TheVariants.{Whole, Broken}

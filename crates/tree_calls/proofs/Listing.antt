@@ -4,7 +4,7 @@ use mathlib.Core.Path.{◌≡◌, refl, sym, subst}
 use mathlib.Core.List.{List, [], ◌∷◌}
 use lib.Dec.{leb}
 use lib.ListN.{length}
-use Rattle.ground.specs.Verdict.{verdict, id_length, most_records}
+use Rattle.ground.specs.Verdict.{id_length, most_records}
 use Rattle.reading.specs.Listing.{listing, tally}
 use Rattle.reading.specs.declared.Counted.{Counted}
 use Rattle.reading.specs.declared.Counted.TheVariants.{Total, Stopped}

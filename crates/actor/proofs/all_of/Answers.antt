@@ -10,12 +10,10 @@ loop-i-init c = (omega arith, refl)
 
 pub loop-i-preserved : goal.loop-i-preserved
 loop-i-preserved c =
-    let p = c in
     (omega arith, c.loop-i.invariant.1 ∙ all_more _ _ _ c.loop-i-test.true (sym c.fits.ensures ∙ c.if-fits.true))
 
 pub returns-else-fits : goal.returns-else-fits
 returns-else-fits c =
-    let p = c in
     sym (c.loop-i.invariant.1 ∙ all_not _ _ _ c.loop-i-test.true (sym c.fits.ensures ∙ c.if-fits.false))
 
 pub returns : goal.returns

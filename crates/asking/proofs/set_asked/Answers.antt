@@ -1,5 +1,4 @@
 -- `asking::set_asked` meets its contract. Assumes nothing.
-use borrow.Author.Rules.{rules}
 use mathlib.Core.Path.{sym, ◌∙◌}
 use Rattle.asking.proofs.Laws.{none-asked, one-asked, more-asked, next-asked}
 use Rattle.asking.proofs.set_asked.Goals as goal
@@ -12,7 +11,6 @@ returns-then-is_word c =
 
 pub returns-then-is_word-2 : goal.returns-then-is_word-2
 returns-then-is_word-2 c =
-    let first = c in
     let args = c.args in
     one-asked args.s.now args.h args.first _ _ c.word_at-blank.ensures
     (sym c.is_word.ensures ∙ c.if-is_word.false) _ (sym c.is_word-2.ensures ∙ c.if-is_word-2.true) c.rule_set-rules.ensures
@@ -20,7 +18,6 @@ returns-then-is_word-2 c =
 
 pub returns : goal.returns
 returns c =
-    let first = c in
     let args = c.args in
     more-asked args.s.now args.h args.first _ _ c.word_at-blank.ensures
     (sym c.is_word.ensures ∙ c.if-is_word.false) (sym c.is_word-2.ensures ∙ c.if-is_word-2.false)

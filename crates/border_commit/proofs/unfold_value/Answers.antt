@@ -6,8 +6,7 @@ use Rattle.border_commit.proofs.unfold_value.Goals as goal
 
 pub returns : goal.returns
 returns c =
-    let r = (let k = c in
-    let e = c.«unfold».ensures in
+    let r = (let e = c.«unfold».ensures in
     let x = c.header_at-x.ensures in
     let a = c.args in
     handed_with (c.hand.ensures.value, c.hand.ensures.answer_after) (e.answer ∙ ap (λ r. unfold_answer a.bytes.now r a.out.now) x)

@@ -8,8 +8,7 @@ use Rattle.border_commit_write.proofs.commit_size.Goals as goal
 
 pub returns : goal.returns
 returns c =
-    let r = (let k = c in
-    let x = c.parts_in-p.ensures in
+    let r = (let x = c.parts_in-p.ensures in
     let a = c.args in
     let answer : CommitParts → Answer = λ p. commit_size a.h a.bytes.now p a.parents.now a.headers.now in
     handed (c.hand.ensures.value, c.hand.ensures.answer_after) (c.commit_size.ensures ∙ ap answer x)) in

@@ -12,9 +12,7 @@ use Rattle.border_commit_write.proofs.write_commit.Goals as goal
 
 pub returns : goal.returns
 returns c =
-    let r = (let hand = c.hand in
-    let k = c in
-    let e = c.write_commit.ensures in
+    let r = (let e = c.write_commit.ensures in
     let x = c.parts_in-p.ensures in
     let a = c.args in
     let answer : CommitParts → Answer = λ p. commit_answer a.h a.bytes.now p a.parents.now a.headers.now (length a.out.now) in

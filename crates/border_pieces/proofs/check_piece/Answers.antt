@@ -11,8 +11,6 @@ returns-then-settled-ne-DONE c =
 pub returns : goal.returns
 returns c =
     let r = (let store_marks = c.store_marks in
-    let k = c in
-    let e = c in
     let x = c.args in
     fed_on x.held.now x.ends.now x.marks.now x.first.now x.piece.now c.if-settled-ne-DONE.false c.marks_said-before.ensures
     c.feed-m.ensures

@@ -3,7 +3,6 @@ use Prim.Native.Nat.{◌-◌}
 use mathlib.Core.Path.{refl, sym, ◌∙◌}
 use native.Mathlib.Omega.{arith}
 use Rattle.extra_header.proofs.Laws.{extra_next}
-use Rattle.commit_fields.specs.Headers.{heads, tally}
 use Rattle.commit_fields.proofs.Laws.{heads_end, heads-more, tally_end, tally-more}
 use Rattle.commit_fields.proofs.count_headers.Goals as goal
 

@@ -3,7 +3,6 @@ use Prim.Native.Nat.{◌-◌}
 use mathlib.Core.Path.{refl, sym, ◌∙◌}
 use native.Mathlib.Omega.{arith}
 use Rattle.extra_header.proofs.Laws.{extra_next}
-use Rattle.commit_fields.specs.Headers.{heads}
 use Rattle.commit_fields.proofs.Laws.{heads_end, heads-more}
 use Rattle.commit_read.proofs.Laws.{written-end, written-more}
 use Rattle.commit_read.proofs.fill_headers.Goals as goal

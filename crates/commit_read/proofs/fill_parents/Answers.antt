@@ -2,8 +2,7 @@
 use Prim.Native.Nat.{◌+◌, ◌*◌}
 use mathlib.Core.Path.{refl, sym, ◌∙◌}
 use native.Mathlib.Omega.{arith}
-use lib.ListN.{length, length-set}
-use Rattle.commit_read.specs.Stored.{stored}
+use lib.ListN.{length-set}
 use Rattle.commit_read.proofs.Laws.{stored-none, stored_more, one_less}
 use Rattle.commit_read.proofs.fill_parents.Goals as goal
 

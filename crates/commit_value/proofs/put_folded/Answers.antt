@@ -14,33 +14,23 @@ loop-i-init c = (omega arith, refl, omega arith, left_all _ _ _)
 
 pub overflow_add-to : goal.overflow_add-to
 overflow_add-to c =
-    let at-loop = c in
     let loop = c.loop-i in
-    let at_pre = c in
     let pre = c.requires in
     omega (arith, loop.invariant.2, pre)
 
 pub overflow_add-to-then-prev-eq10 : goal.overflow_add-to-then-prev-eq10
 overflow_add-to-then-prev-eq10 c =
-    let at-loop = c in
     let loop = c.loop-i in
-    let at_pre = c in
     let pre = c.requires in
     omega (arith, loop.invariant.2, pre)
 
 pub loop-i-preserved-then-prev-eq10 : goal.loop-i-preserved-then-prev-eq10
 loop-i-preserved-then-prev-eq10 c =
-    let at-put-byte2 = c in
     let put-byte2 = c.put_byte-then-prev-eq10 in
-    let at-put-byte1 = c in
     let put-byte1 = c.put_byte in
-    let at-if11 = c in
     let if11 = c.if-prev-eq10 in
-    let at-loop-test1 = c in
     let loop-test1 = c.loop-i-test in
-    let at-loop1 = c in
     let loop1 = c.loop-i in
-    let at-args1 = c in
     let args1 = c.args in
     let put_byte = put-byte1 in
     let if1 = if11 in
@@ -57,23 +47,16 @@ loop-i-preserved-then-prev-eq10 c =
 
 pub overflow_add-to-in-loop-i : goal.overflow_add-to-in-loop-i
 overflow_add-to-in-loop-i c =
-    let at-loop = c in
     let loop = c.loop-i in
-    let at_pre = c in
     let pre = c.requires in
     omega (arith, loop.invariant.2, pre)
 
 pub loop-i-preserved : goal.loop-i-preserved
 loop-i-preserved c =
-    let at-put-byte3 = c in
     let put-byte3 = c.put_byte-in-loop-i in
-    let at-if11 = c in
     let if11 = c.if-prev-eq10 in
-    let at-loop-test1 = c in
     let loop-test1 = c.loop-i-test in
-    let at-loop1 = c in
     let loop1 = c.loop-i in
-    let at-args1 = c in
     let args1 = c.args in
     let if1 = if11 in
     let loop-test = loop-test1 in
@@ -98,9 +81,7 @@ returns-then-prev-eq10-2 c =
 
 pub overflow_add-result : goal.overflow_add-result
 overflow_add-result c =
-    let at-loop = c in
     let loop = c.loop-i in
-    let at_pre = c in
     let pre = c.requires in
     omega (arith, loop.invariant.2, pre)
 
@@ -112,13 +93,9 @@ shape_of-out c =
 pub returns : goal.returns
 returns c =
     let r = (let put-byte4 = c.put_byte-2 in
-    let at-if21 = c in
     let if21 = c.if-prev-eq10-2 in
-    let at-loop-test1 = c in
     let loop-test1 = c.loop-i-test in
-    let at-loop1 = c in
     let loop1 = c.loop-i in
-    let at-args1 = c in
     let args1 = c.args in
     let if2 = if21 in
     let loop-test = loop-test1 in

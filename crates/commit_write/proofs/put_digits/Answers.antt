@@ -16,15 +16,10 @@ loop-i-init c =
 
 pub loop-i-preserved : goal.loop-i-preserved
 loop-i-preserved c =
-    let at-put-byte = c in
     let put_byte = c.put_byte in
-    let at-lower = c in
     let lower = c.lower in
-    let at-loop-test1 = c in
     let loop-test1 = c.loop-i-test in
-    let at-loop1 = c in
     let loop1 = c.loop-i in
-    let at-args1 = c in
     let args1 = c.args in
     let loop-test = loop-test1 in
     let loop = loop1 in

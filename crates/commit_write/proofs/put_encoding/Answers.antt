@@ -8,8 +8,6 @@ use Rattle.commit_write.proofs.put_encoding.Goals as goal
 
 pub put_line-requires : goal.put_line-requires
 put_line-requires c =
-    let at-if1 = c in
-    let start = c in
     let args = c.args in
     let r = encoding_range args.bytes.now args.p c.requires.p_value c.if-p-eq1.true in
     record { from_le_to = r; from_bound = omega (arith, r, c.requires.bytes_len_bound) }

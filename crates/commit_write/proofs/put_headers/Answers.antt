@@ -19,7 +19,6 @@ loop-i-init c = (omega arith, refl, rw sub-zero c.requires.headers_value, omega 
 pub put_header-to-requires : goal.put_header-to-requires
 put_header-to-requires c =
     let args = c.args in
-    let pre = c.requires in
     let loop = c.loop-i in
     let loop-test = c.loop-i-test in
     let header_at = c.header_at-x in
@@ -29,17 +28,11 @@ put_header-to-requires c =
 
 pub loop-i-preserved : goal.loop-i-preserved
 loop-i-preserved c =
-    let at-put-header = c in
     let put_header = c.put_header-to in
-    let at-header-at = c in
     let header_at = c.header_at-x in
-    let at-loop-test = c in
     let loop-test = c.loop-i-test in
-    let at-loop = c in
     let loop = c.loop-i in
-    let at-args = c in
     let args = c.args in
-    let pre = c.requires in
     let s = headers-step (header_fits args.bytes.now) args.headers.now (length args.headers.now / width) loop.i loop-test.true loop.invariant.2
     in
     let f : header_fits args.bytes.now header_at.result ≡ true = rw header_at.ensures s.0 in (

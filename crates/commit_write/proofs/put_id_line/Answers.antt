@@ -9,7 +9,6 @@ use Rattle.commit_write.proofs.put_id_line.Goals as goal
 
 pub overflow_mul-end : goal.overflow_mul-end
 overflow_mul-end c =
-    let start = c in
     let a = c.args in
     record { fits = (line-places a.at (length a.word.now) (2 * a.h) c.requires.h_bound.1).0 }
 
@@ -18,25 +17,21 @@ overflow_add-end c = record { fits = lt_of_le_of_lt c.requires.h_in_bounds c.wel
 
 pub overflow_add-digits : goal.overflow_add-digits
 overflow_add-digits c =
-    let start = c in
     let a = c.args in
     record { fits = (line-places a.at (length a.word.now) (2 * a.h) c.requires.h_bound.1).1 }
 
 pub overflow_add-digits-2 : goal.overflow_add-digits-2
 overflow_add-digits-2 c =
-    let start = c in
     let a = c.args in
     record { fits = (line-places a.at (length a.word.now) (2 * a.h) c.requires.h_bound.1).2 }
 
 pub overflow_mul-last : goal.overflow_mul-last
 overflow_mul-last c =
-    let start = c in
     let a = c.args in
     record { fits = (line-places a.at (length a.word.now) (2 * a.h) c.requires.h_bound.1).0 }
 
 pub overflow_add-last : goal.overflow_add-last
 overflow_add-last c =
-    let start = c in
     let a = c.args in
     record { fits = (line-places a.at (length a.word.now) (2 * a.h) c.requires.h_bound.1).3 }
 
@@ -51,16 +46,11 @@ slice_bounds-put_digits-end c = c.requires.h_in_bounds
 
 pub overflow_add-result : goal.overflow_add-result
 overflow_add-result c =
-    let start = c in
     let a = c.args in
     record { fits = (line-places a.at (length a.word.now) (2 * a.h) c.requires.h_bound.1).4 }
 
 pub returns : goal.returns
 returns c =
-    let at-put-byte = c in
-    let at-put-digits = c in
-    let at-put-ended = c in
-    let start = c in
     let args = c.args in
     let digits = args.at + length args.word.now + 1 in
     let last = digits + 2 * args.h in

@@ -7,13 +7,11 @@ use Rattle.commit_write.proofs.put_line.Goals as goal
 
 pub overflow_add-value : goal.overflow_add-value
 overflow_add-value c =
-    let start = c in
     let a = c.args in
     record { fits = (line-places a.at (length a.word.now) (a.to - a.from) c.requires.from_bound).1 }
 
 pub overflow_add-value-2 : goal.overflow_add-value-2
 overflow_add-value-2 c =
-    let start = c in
     let a = c.args in
     record { fits = (line-places a.at (length a.word.now) (a.to - a.from) c.requires.from_bound).2 }
 
@@ -22,7 +20,6 @@ overflow_sub-end c = c.requires.from_le_to.0
 
 pub overflow_add-end : goal.overflow_add-end
 overflow_add-end c =
-    let start = c in
     let a = c.args in
     record { fits = (line-places a.at (length a.word.now) (a.to - a.from) c.requires.from_bound).3 }
 
@@ -37,15 +34,11 @@ slice_bounds-put_ended-end c = c.requires.from_le_to.1
 
 pub overflow_add-result : goal.overflow_add-result
 overflow_add-result c =
-    let start = c in
     let a = c.args in
     record { fits = (line-places a.at (length a.word.now) (a.to - a.from) c.requires.from_bound).4 }
 
 pub returns : goal.returns
 returns c =
-    let at-put-ended2 = c in
-    let at-put-ended = c in
-    let start = c in
     let args = c.args in
     let value = args.at + length args.word.now + 1 in
     let w = range_put _ _ _ args.word.now args.bytes.now args.at value (value + (args.to - args.from) + 1) args.from args.to

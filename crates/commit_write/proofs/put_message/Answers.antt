@@ -8,9 +8,6 @@ use Rattle.commit_write.proofs.put_message.Goals as goal
 
 pub returns : goal.returns
 returns c =
-    let at-put = c in
-    let at-put-byte = c in
-    let start = c in
     let args = c.args in
     let w = after-lf args.out.now _ _ (part args.from args.to args.bytes.now) args.at (args.at + 1 + (args.to - args.from))
     (args.to - args.from) (part_length args.bytes.now args.from args.to c.requires.from_le_to.0 c.requires.from_le_to.1) refl c.put_byte.ensures

@@ -6,7 +6,6 @@ use Rattle.commit_write.proofs.put_name.Goals as goal
 pub returns : goal.returns
 returns c =
     let r = (let args = c.args in
-    let pre = c.requires in
     ended-put args.out.now _ args.bytes.now args.at args.from args.to _ 32 c.requires.from_le_to.0 c.requires.from_le_to.1 refl
     c.put_ended.ensures) in
     record { value = r.0; out_after = r.1 }

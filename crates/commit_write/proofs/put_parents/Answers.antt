@@ -17,9 +17,6 @@ loop-i-init c = (omega arith, refl, omega (arith, c.requires.parents_value), ome
 
 pub put_id_line-to-requires : goal.put_id_line-to-requires
 put_id_line-to-requires c =
-    let at-loop-test = c in
-    let at-loop = c in
-    let start = c in
     let args = c.args in
     let s = (parents-step (id_fits args.h args.bytes.now) args.parents.now c.loop-i.i c.loop-i-test.true
     c.loop-i.invariant.2).0 in record {
@@ -36,10 +33,6 @@ put_id_line-to-requires c =
 
 pub loop-i-preserved : goal.loop-i-preserved
 loop-i-preserved c =
-    let at-put-id-line = c in
-    let at-loop-test = c in
-    let at-loop = c in
-    let start = c in
     let args = c.args in
     let loop = c.loop-i in
     let id = id_named args.h args.bytes.now (get_or args.parents.now loop.i 0) in
@@ -64,7 +57,5 @@ shape_of-out c = c.loop-i.invariant.1
 pub returns : goal.returns
 returns c =
     let r = (let loop-test = c.loop-i-test in
-    let at-loop = c in
-    let start = c in
     left-none c.loop-i.invariant.4 (parents-none c.args.h c.args.bytes.now c.args.parents.now c.loop-i.i loop-test.false)) in
     record { value = r.0; out_after = r.1 }

@@ -38,7 +38,6 @@ returns-then-short-ne-DONE c =
     let fit = c.fit-answer in
     let encoding-refusal = c.encoding_refusal-fault in
     let if1 = c.if-refusal-ne-DONE in
-    let at-measure = c in
     let measure = c.measure-a in
     let a = c.args in
     refused-both _ _ _ (write-fits a.h a.bytes.now a.parts a.parents.now a.headers.now (length a.out.now) measure.result
@@ -48,7 +47,6 @@ returns-then-short-ne-DONE c =
 
 pub put_commit-requires : goal.put_commit-requires
 put_commit-requires c =
-    let at-if1 = c in
     let measure = c.measure-a in
     let a = c.args in
     write_asks a.h a.bytes.now a.parts a.parents.now a.headers.now (length a.out.now) measure.result measure.ensures
@@ -57,11 +55,9 @@ put_commit-requires c =
 pub returns : goal.returns
 returns c =
     let r = (let put-commit = c.put_commit in
-    let at-if3 = c in
     let fit = c.fit-answer in
     let if2 = c.if-fault-ne-DONE in
     let encoding-refusal = c.encoding_refusal-fault in
-    let at-if1 = c in
     let if1 = c.if-refusal-ne-DONE in
     let measure = c.measure-a in
     let a = c.args in

@@ -3,7 +3,6 @@ use Prim.Native.Nat.{◌-◌}
 use mathlib.Core.Path.{◌≡◌, refl, sym, ◌∙◌}
 use native.Mathlib.Nat.{add-zero}
 use native.Mathlib.Omega.{arith}
-use lib.ListN.{take}
 use Rattle.compare.proofs.Laws.{agree_step, differ_here, differ_on}
 use Rattle.compare.proofs.differ.Goals as goal
 use Rattle.compare.proofs.differ.Goals.{then-a-i, else-a-i}

@@ -10,7 +10,6 @@ returns-in-Below c =
     let common-start = c.common_start-p in
     let by_next = c.by_next in
     let enum_told = c.in-Below in
-    let open_entry = c.open_entry in
     went_below args.marks.now args.n args.last.now args.was args.name.now args.folder
     (decided_at _ _ _ _ _ common-start.ensures ∙ sym by_next.ensures ∙ enum_told.is) common-start.result common-start.ensures
     (c.open_entry.ensures.placed, c.open_entry.ensures.marks)) in

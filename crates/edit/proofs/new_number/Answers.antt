@@ -1,5 +1,4 @@
 -- `edit::new_number` meets its contract. Assumes nothing.
-use borrow.Author.Rules.{rules}
 use mathlib.Core.Path.{sym, ◌∙◌}
 use Rattle.edit_walk.specs.Walk.{new_entry}
 use Rattle.edit.proofs.Leaves.{new-id, new-mode, new_nul, new-name}

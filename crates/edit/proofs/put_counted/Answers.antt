@@ -1,5 +1,4 @@
 -- `edit::put_counted` meets its contract. Assumes nothing.
-use borrow.Author.Rules.{rules}
 use native.Mathlib.Omega.{arith}
 use mathlib.Core.Path.{sym, ap, ◌∙◌}
 use lib.Seq.{sets}
@@ -32,7 +31,6 @@ overflow_cast-m c =
 pub returns-then-w-ge-MOST_RECORDS : goal.returns-then-w-ge-MOST_RECORDS
 returns-then-w-ge-MOST_RECORDS c =
     let r = (let args = c.args in
-    let pre = c.requires in
     let new-number = c.new_number-number in
     let if1 = c.if-number-ne-DONE in
     let walk = c.walk-w in
@@ -46,7 +44,6 @@ returns-then-w-ge-MOST_RECORDS c =
 pub returns-then-out-used : goal.returns-then-out-used
 returns-then-out-used c =
     let r = (let args = c.args in
-    let pre = c.requires in
     let new-number = c.new_number-number in
     let if1 = c.if-number-ne-DONE in
     let walk = c.walk-w in
@@ -65,7 +62,6 @@ returns-then-out-used c =
 pub returns : goal.returns
 returns c =
     let r = (let args = c.args in
-    let pre = c.requires in
     let walk = c.walk-w in
     let new-number = c.new_number-number in
     let if1 = c.if-number-ne-DONE in

@@ -1,5 +1,4 @@
 -- `edit::put_in_tree` meets its contract. Assumes nothing.
-use borrow.Author.Rules.{rules}
 use lib.ListN.{length}
 use mathlib.Core.Path.{sym, ◌∙◌}
 use Rattle.edit_walk.specs.Walk.{new_entry}

@@ -1,5 +1,4 @@
 -- `edit_remove::remove_counted` meets its contract. Assumes nothing.
-use borrow.Author.Rules.{rules}
 use mathlib.Core.Path.{ap, ◌∙◌}
 use lib.Seq.{sets}
 use Rattle.entry.specs.Entry.{as_written}
@@ -13,7 +12,6 @@ use Rattle.edit_remove.proofs.remove_counted.Goals as goal
 pub returns-then-w-n : goal.returns-then-w-n
 returns-then-w-n c =
     let r = (let args = c.args in
-    let pre = c.requires in
     let walk = c.walk-w in
     let name = args.name.now in
     let es = entries_in args.h args.bytes.now in
@@ -25,7 +23,6 @@ returns-then-w-n c =
 pub returns-then-out-used : goal.returns-then-out-used
 returns-then-out-used c =
     let r = (let args = c.args in
-    let pre = c.requires in
     let walk = c.walk-w in
     let if1 = c.if-w-n in
     let if2 = c.if-out-used in
@@ -42,7 +39,6 @@ returns-then-out-used c =
 pub returns : goal.returns
 returns c =
     let r = (let args = c.args in
-    let pre = c.requires in
     let walk = c.walk-w in
     let if1 = c.if-w-n in
     let if2 = c.if-out-used in

@@ -1,5 +1,4 @@
 -- `edit_remove::remove_from_tree` meets its contract. Assumes nothing.
-use borrow.Author.Rules.{rules}
 use lib.ListN.{length}
 use mathlib.Core.Path.{sym, ◌∙◌}
 use Rattle.strict.proofs.Laws.{strict-refuses}

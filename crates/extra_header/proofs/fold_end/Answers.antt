@@ -2,7 +2,6 @@
 use Prim.Native.Nat.{◌+◌, ◌-◌}
 use mathlib.Core.Path.{refl, sym, ◌∙◌}
 use native.Mathlib.Omega.{arith}
-use mathlib.Core.Bool.{false}
 use Rattle.extra_header.specs.Extra.{fold_end}
 use Rattle.extra_header.proofs.Laws.{fold_end_here, fold_other, fold_open, fold_next}
 use Rattle.ground.proofs.Laws.{place-from}

@@ -1,7 +1,6 @@
 -- `finding::find_from` meets its contract. Assumes nothing.
 use native.Mathlib.Omega.{arith}
 use mathlib.Core.Path.{refl, sym, ◌∙◌}
-use Rattle.frame.specs.Frame.{frames}
 use Rattle.frame.proofs.Laws.{frames-end, frames-broken, frames-whole, frame-inside, first-end, first-fault, first-here, first_on}
 use lib.ListN.{length}
 use lib.Dec.{eqb}

@@ -1,5 +1,4 @@
 -- `frame::ruled` meets its contract. Assumes nothing.
-use borrow.Author.Rules.{rules}
 use mathlib.Core.Path.{sym, ◌∙◌}
 use Rattle.frame.proofs.Laws.{rules-short, rules-first, rules-second, rules_other}
 use Rattle.frame.proofs.ruled.Goals as goal

@@ -22,5 +22,4 @@ returns c =
     let args = c.args in
     let pre = c.requires in
     let shared-slice-known = c.shared_slice_known-1 in
-    let shared-slice-known2 = c.shared_slice_known-2-1 in
     record { made = little-two args.s.now args.i pre _ _ refl refl; small = omega (arith, shared-slice-known.given args.i, c.type_inv.s (args.i + 1)) }

@@ -3,8 +3,6 @@ use native.Mathlib.Omega.{arith}
 use Prim.Native.Nat.{◌-◌}
 use mathlib.Core.Path.{refl, sym, ◌∙◌}
 use lib.ListN.{length}
-use Rattle.frame.specs.Frame.{frames}
-use Rattle.framed.specs.Ids.{rises}
 use Rattle.frame.proofs.Laws.{frames-end, frames-broken, frames-whole, frame-inside}
 use Rattle.framed.proofs.Laws.{rises_end, rises-fault, rises_on, rises_off}
 use lib.Dec.{eqb}

@@ -2,7 +2,7 @@
 use mathlib.Core.Path.{refl, sym, ap, ◌∙◌}
 use lib.ListN.{length}
 use lib.Dec.{eqb}
-use Rattle.frame.specs.Frame.{frames, whole}
+use Rattle.frame.specs.Frame.{whole}
 use Rattle.frame.proofs.Laws.{frames-end, frames-broken, frames-whole, whole_end}
 use Rattle.framed.proofs.well_framed.Goals as goal
 

@@ -11,7 +11,6 @@ loop-i-init c = refl
 pub loop-i-preserved : goal.loop-i-preserved
 unfolding hex_value
 loop-i-preserved c =
-    let p = c in
     let t = c.args.t.now in
     let wide = c.wide-b in
     let b = wide.result in

@@ -2,7 +2,7 @@
 use mathlib.Core.Path.{refl, sym, ap, ◌∙◌}
 use Prim.Native.Nat.{◌*◌, ◌-◌}
 use native.Mathlib.Omega.{arith}
-use lib.ListN.{length, length-set}
+use lib.ListN.{length-set}
 use lib.Seq.{sets}
 use Rattle.hex_of_id.proofs.Laws.{turn-digits, hex-none}
 use Rattle.hex_of_id.proofs.put_hex.Goals as goal
@@ -18,7 +18,6 @@ loop-i-preserved c =
     let loop-test = c.loop-i-test in
     let loop = c.loop-i in
     let args = c.args in
-    let shared-slice-known2 = c.shared_slice_known-in-loop-i-1 in
     let digit-of = c.digit_of in
     let turn = turn-digits loop.out args.id.now loop.i loop-test.true (omega (arith, c.type_inv.id loop.i)) in (
       omega (arith, loop-test.true),

@@ -1,9 +1,8 @@
 -- `id_of_hex::put_bytes` meets its contract. Assumes nothing.
 use mathlib.Core.Path.{refl, sym, ap, ◌∙◌}
-use mathlib.Core.Bool.{true}
 use Prim.Native.Nat.{◌*◌, ◌-◌}
 use native.Mathlib.Omega.{arith}
-use lib.ListN.{length, length-set}
+use lib.ListN.{length-set}
 use lib.Seq.{sets}
 use Rattle.id_of_hex.proofs.Laws.{turn_small, turn-hex, turn-bytes, bytes-none}
 use Rattle.id_of_hex.proofs.put_bytes.Goals as goal

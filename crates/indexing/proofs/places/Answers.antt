@@ -3,7 +3,6 @@ use native.Mathlib.Omega.{arith}
 use mathlib.Core.Path.{sym, ◌∙◌}
 use lib.ListN.{length}
 use lib.Dec.{eqb}
-use Rattle.frame.specs.Frame.{frames}
 use Rattle.frame.proofs.Laws.{frames-end, frames-broken, frames-whole, frame-inside}
 use Rattle.indexing.proofs.Storing.{storing_start, storing_set, storing_end, elements_end, elements-fault}
 use Rattle.indexing.proofs.places.Goals as goal
@@ -25,33 +24,28 @@ returns-in-Broken c =
 
 pub overflow_mul-list : goal.overflow_mul-list
 overflow_mul-list c =
-    let pre = c.requires in
     let frame_at = c.frame_at in
     let f = c.in-Whole in
     omega (arith, frame-inside _ _ _ _ (sym frame_at.ensures ∙ f.is), c.requires.s_len_bound)
 
 pub overflow_cast-list : goal.overflow_cast-list
 overflow_cast-list c =
-    let pre = c.requires in
     let frame_at = c.frame_at in
     let f = c.in-Whole in
     omega (arith, frame-inside _ _ _ _ (sym frame_at.ensures ∙ f.is), c.requires.s_len_bound)
 
 pub offset_bounds-list-n : goal.offset_bounds-list-n
 offset_bounds-list-n c =
-    let pre = c.requires in
     let loop = c.loop-left in
     omega (arith, loop.invariant.1.size, loop.invariant.0, c.requires.count_in_bounds)
 
 pub bounds-list-n : goal.bounds-list-n
 bounds-list-n c =
-    let pre = c.requires in
     let loop = c.loop-left in
     omega (arith, loop.invariant.1.size, loop.invariant.0, c.requires.count_in_bounds)
 
 pub overflow_add-n : goal.overflow_add-n
 overflow_add-n c =
-    let pre = c.requires in
     let loop = c.loop-left in
     omega (arith, loop.invariant.1.size, loop.invariant.0, c.requires.count_in_bounds)
 

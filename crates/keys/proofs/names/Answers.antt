@@ -1,6 +1,6 @@
 -- `keys::names` meets its contract. Assumes nothing.
 use Prim.Native.Nat.{◌-◌}
-use lib.ListN.{length, drop}
+use lib.ListN.{drop}
 use Rattle.keys.specs.Key.{cut_to}
 use Rattle.keys.proofs.Keys.{walk_start, walk_more, walk_end, walk_off, cut_le}
 use native.Mathlib.Omega.{arith}

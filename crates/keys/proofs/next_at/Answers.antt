@@ -27,7 +27,6 @@ overflow_add-result c =
 pub returns-then-width-eq0 : goal.returns-then-width-eq0
 returns-then-width-eq0 c =
     let args = c.args in
-    let pre = c.requires in
     let if1 = c.if-text-from in
     let if2 = c.if-width-eq0 in
     let if3 = c.if-text-at-eq0 in

@@ -7,9 +7,6 @@ use Rattle.listing_text.proofs.add_head.Goals as goal
 pub returns : goal.returns
 unfolding head
 returns c =
-    let at-add2 = c in
-    let at-add-number = c in
-    let at-add = c in
     let n = c.add_number-q.ensures in (
       added_then (added_then c.add-p.ensures n.0) c.add.ensures,
       omega

@@ -11,12 +11,6 @@ loop-i-init c = (refl, omega arith, omega arith, rest_all _ _ _)
 
 pub loop-i-preserved : goal.loop-i-preserved
 loop-i-preserved c =
-    let at-add = c in
-    let at-digit-of2 = c in
-    let at-digit-of = c in
-    let at-loop-test = c in
-    let at-loop = c in
-    let at-args = c in
     let l = c.loop-i in
     let e = c.add-p.ensures in (
       c.add-p.auto.out ∙ l.invariant.0,
@@ -32,7 +26,5 @@ shape_of-out c = c.loop-i.invariant.0
 
 pub returns : goal.returns
 returns c =
-    let at-loop = c in
-    let at-args = c in
     let l = c.loop-i in
     (rest-none l.invariant.3 (hex-none c.args.bytes.now l.i c.loop-i-test.false), omega (arith, l.invariant.1, l.invariant.2, c.requires.1))

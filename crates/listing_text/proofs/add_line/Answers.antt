@@ -6,15 +6,6 @@ use Rattle.listing_text.proofs.add_line.Goals as goal
 
 pub returns : goal.returns
 returns c =
-    let at-add3 = c in
-    let at-add2 = c in
-    let at-piece2 = c in
-    let at-add = c in
-    let at-add-hex = c in
-    let at_piece = c in
-    let at-add-mode = c in
-    let at_above = c in
-    let at-args = c in
     let a = c.args in
     let s = a.s.now in
     let w = line-said a.h s a.e _ _ _ c.above-n.ensures c.piece.ensures.0 c.piece-2.ensures.0 in

@@ -2,7 +2,6 @@
 use native.Mathlib.Omega.{arith}
 use mathlib.Core.Path.{refl, ◌∙◌}
 use Prim.Native.Nat.{◌-◌}
-use Rattle.listing_text.specs.Text.{lines}
 use Rattle.listing_text.proofs.Laws.{rest_all, rest-none, lines-turn, lines_end}
 use Rattle.listing_text.proofs.add_lines.Goals as goal
 
@@ -11,8 +10,6 @@ loop-i-init c = (refl, refl, omega arith, omega arith, rest_all _ _ _)
 
 pub add_line-p-requires : goal.add_line-p-requires
 add_line-p-requires c =
-    let at-loop-test = c in
-    let at-loop = c in
     let at-args = c in (
       omega (arith, c.loop-i.invariant.1, c.loop-i.invariant.3, c.loop-i-test.true, c.requires.0, c.requires.3),
       c.requires.1,
@@ -21,11 +18,6 @@ add_line-p-requires c =
 
 pub loop-i-preserved : goal.loop-i-preserved
 loop-i-preserved c =
-    let at-add-line = c in
-    let at-entry-at = c in
-    let at-loop-test = c in
-    let at-loop = c in
-    let at-args = c in
     let l = c.loop-i in
     let e = c.add_line-p.ensures in (
       c.add_line-p.auto.out ∙ l.invariant.0,
@@ -42,8 +34,6 @@ shape_of-out c = c.loop-i.invariant.0
 pub returns : goal.returns
 returns c =
     let loop-test = c.loop-i-test in
-    let at-loop = c in
-    let at-args = c in
     let l = c.loop-i in
     rest-none l.invariant.4 (lines_end c.args.h c.args.s.now c.args.records.now l.i
     (omega (arith, l.invariant.1, loop-test.false)))

@@ -1,5 +1,4 @@
 -- `listing_text::add_mode` meets its contract. Assumes nothing.
-use borrow.Author.Rules.{rules}
 use native.Mathlib.Omega.{arith}
 use Rattle.listing_text.specs.Text.{mode_words}
 use Rattle.listing_text.proofs.Laws.{added_then, added_is, text-most, word-most, mode-said, mode-most}
@@ -7,30 +6,18 @@ use Rattle.listing_text.proofs.add_mode.Goals as goal
 
 pub add-p-requires : goal.add-p-requires
 add-p-requires c =
-    let at-as-bytes = c in
-    let at-args = c in
     let t = text-most c.args.mode c.as_bytes-t.ensures in
     let p = c.piece.ensures.1 in
     (omega arith, omega (arith, p, t))
 
 pub add-q-requires : goal.add-q-requires
 add-q-requires c =
-    let at-add = c in
-    let at_piece = c in
-    let at-as-bytes = c in
-    let at-args = c in
     let t = text-most c.args.mode c.as_bytes-t.ensures in
     let p = c.piece.ensures.1 in
     (omega (arith, c.add-p.ensures.place, p, t), omega arith)
 
 pub add-u-requires : goal.add-u-requires
 add-u-requires c =
-    let at-add2 = c in
-    let at-add = c in
-    let at_piece = c in
-    let at-as-str = c in
-    let at-as-bytes = c in
-    let at-args = c in
     let t = text-most c.args.mode c.as_bytes-t.ensures in
     let p = c.piece.ensures.1 in
     let w = word-most c.args.mode c.as_str-w.ensures in
@@ -41,14 +28,6 @@ add-u-requires c =
 
 pub add-requires : goal.add-requires
 add-requires c =
-    let at-add3 = c in
-    let at-piece2 = c in
-    let at-add2 = c in
-    let at-add = c in
-    let at_piece = c in
-    let at-as-str = c in
-    let at-as-bytes = c in
-    let at-args = c in
     let t = text-most c.args.mode c.as_bytes-t.ensures in
     let p = c.piece.ensures.1 in
     let w = word-most c.args.mode c.as_str-w.ensures in
@@ -59,15 +38,6 @@ add-requires c =
 
 pub returns : goal.returns
 returns c =
-    let at-add4 = c in
-    let at-add3 = c in
-    let at-piece2 = c in
-    let at-add2 = c in
-    let at-add = c in
-    let at_piece = c in
-    let at-as-str = c in
-    let at-as-bytes = c in
-    let at-args = c in
     let m = c.args.mode in
     let w = mode-said m _ _ _ _ c.as_bytes-t.ensures c.as_str-w.ensures c.piece.ensures.0 c.piece-2.ensures.0 in
     let x = added_then (added_then c.add-p.ensures c.add-q.ensures) c.add-u.ensures in

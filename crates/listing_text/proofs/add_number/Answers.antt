@@ -23,9 +23,6 @@ add-requires c = (omega arith, search rules)
 
 pub returns : goal.returns
 returns c =
-    let at-add = c in
-    let at-decimal-of = c in
-    let at-args = c in
     let r = c.decimal_of-d.result in
     let d = decimal-part r c.args.n c.decimal_of-d.ensures in
     let a = added_is (decimal c.args.n) (digits-part c.args.n r.at r.text d.1 d.2) c.add.ensures in

@@ -6,10 +6,5 @@ use Rattle.listing_text.proofs.add_refusal.Goals as goal
 pub returns : goal.returns
 unfolding refusal
 returns c =
-    let at-add3 = c in
-    let at-add-number2 = c in
-    let at-add2 = c in
-    let at-add-number = c in
-    let at-add = c in
     let x = added_then c.add-p.ensures c.add_number-q.ensures.0 in
     added_then (added_then (added_then x c.add-u.ensures) c.add_number-w.ensures.0) c.add.ensures

@@ -5,9 +5,6 @@ use Rattle.listing_text.proofs.list_any.Goals as goal
 
 pub returns : goal.returns
 returns c =
-    let r = (let at-add-refusal = c in
-    let at-if1 = c in
-    let at-args = c in
-    told-both c.args.h c.args.object.now (listed-long c.args.h c.args.object.now c.if-object-le-LONGEST.false) refl
+    let r = (told-both c.args.h c.args.object.now (listed-long c.args.h c.args.object.now c.if-object-le-LONGEST.false) refl
     (text-long c.args.h c.args.object.now c.if-object-le-LONGEST.false) c.add_refusal-len.ensures) in
     record { listed = r.0; out = r.1 }

@@ -10,11 +10,7 @@ use Rattle.listing_text.proofs.list_into.Goals as goal
 
 pub returns-then-number-ne-DONE : goal.returns-then-number-ne-DONE
 returns-then-number-ne-DONE c =
-    let r = (let at-add-refusal = c in
-    let at-if1 = c in
-    let at-read-tree = c in
-    let at-args = c in
-    let a = c.args in
+    let r = (let a = c.args in
     let p = c.requires in
     let t = c.read_tree-a in
     let e = c.add_refusal-len.ensures in
@@ -23,8 +19,6 @@ returns-then-number-ne-DONE c =
 
 pub overflow_mul-all : goal.overflow_mul-all
 overflow_mul-all c =
-    let at-read-tree = c in
-    let at-args = c in
     let a = c.args in
     let p = c.requires in
     let t = c.read_tree-a in
@@ -33,9 +27,6 @@ overflow_mul-all c =
 
 pub slice_bounds-add_lines-end : goal.slice_bounds-add_lines-end
 slice_bounds-add_lines-end c =
-    let at-if1 = c in
-    let at-read-tree = c in
-    let at-args = c in
     let a = c.args in
     let p = c.requires in
     let t = c.read_tree-a in
@@ -44,9 +35,6 @@ slice_bounds-add_lines-end c =
 
 pub slice_bounds-add_lines-end-2 : goal.slice_bounds-add_lines-end-2
 slice_bounds-add_lines-end-2 c =
-    let at-if1 = c in
-    let at-read-tree = c in
-    let at-args = c in
     let a = c.args in
     let p = c.requires in
     let t = c.read_tree-a in
@@ -55,10 +43,6 @@ slice_bounds-add_lines-end-2 c =
 
 pub add_lines-len-requires : goal.add_lines-len-requires
 add_lines-len-requires c =
-    let at-add-head = c in
-    let at-if1 = c in
-    let at-read-tree = c in
-    let at-args = c in
     let a = c.args in
     let p = c.requires in
     let t = c.read_tree-a in
@@ -72,12 +56,7 @@ add_lines-len-requires c =
 
 pub returns : goal.returns
 returns c =
-    let r = (let at-add-lines = c in
-    let at-add-head = c in
-    let at-if1 = c in
-    let at-read-tree = c in
-    let at-args = c in
-    let a = c.args in
+    let r = (let a = c.args in
     let p = c.requires in
     let t = c.read_tree-a in
     let h = c.add_head-at.ensures.0 in

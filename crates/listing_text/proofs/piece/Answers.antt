@@ -4,20 +4,15 @@ use Rattle.listing_text.proofs.piece.Goals as goal
 
 pub returns-then-s-from : goal.returns-then-s-from
 returns-then-s-from c =
-    let at-if1 = c in
-    let at-args = c in
     piece_is c.args.s.now _ c.args.from c.args.n
     (piece-none c.args.s.now c.args.from c.args.n c.if-s-from.true)
 
 pub returns-then-s-from-2 : goal.returns-then-s-from-2
 returns-then-s-from-2 c =
-    let at-if2 = c in
-    let at-args = c in
     piece_is c.args.s.now _ c.args.from c.args.n
     (piece-rest c.args.s.now c.args.from c.args.n c.if-s-from-2.true)
 
 pub returns : goal.returns
 returns c =
-    let at-args = c in
     piece_is c.args.s.now _ c.args.from c.args.n
     (piece-whole c.args.s.now c.args.from c.args.n)

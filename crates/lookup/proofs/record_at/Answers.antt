@@ -8,6 +8,5 @@ use Rattle.lookup.proofs.record_at.Goals as goal
 
 pub returns : goal.returns
 returns c =
-    let start = c in
     let five : c.args.i * width + width - c.args.i * width ≡ width = omega arith in
     c.entry_at.ensures ∙ rw five (records-part c.args.records.now c.args.i c.requires)

@@ -4,7 +4,7 @@ use mathlib.Core.Path.{sym, ◌∙◌}
 use native.Mathlib.Omega.{arith}
 use Rattle.ground.proofs.Laws.{gate_open}
 use Rattle.order.specs.declared.Order.TheVariants.{Below, Same, Above}
-use Rattle.entry.specs.Record.{many, records_of, name_of}
+use Rattle.entry.specs.Record.{records_of, name_of}
 use Rattle.entry.proofs.Laws.{records-many, well_parts}
 use Rattle.lookup.proofs.Laws.{search-end, search_bad, search_told, lookup_open}
 use Rattle.lookup.proofs.searched.Goals as goal

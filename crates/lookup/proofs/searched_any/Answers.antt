@@ -12,23 +12,18 @@ returns-then-first-ne-NOT_THERE c =
 
 pub returns-then-second-eq-BAD_RECORD : goal.returns-then-second-eq-BAD_RECORD
 returns-then-second-eq-BAD_RECORD c =
-    let one = c in
     let first = c.told-first.ensures ∙ c.searched.ensures in
     let second = c.told-second.ensures ∙ c.searched-2.ensures in
     sym (any-broken _ _ _ _ first c.if-first-ne-NOT_THERE.false second c.if-second-eq-BAD_RECORD.true)
 
 pub overflow_add-compared : goal.overflow_add-compared
 overflow_add-compared c =
-    let two = c in
-    let one = c in
     let first = c.told-first.ensures ∙ c.searched.ensures in
     let second = c.told-second.ensures ∙ c.searched-2.ensures in
     omega (arith, looked-small _ _ _ _ _ first, looked-small _ _ _ _ _ second)
 
 pub returns : goal.returns
 returns c =
-    let two = c in
-    let one = c in
     let first = c.told-first.ensures ∙ c.searched.ensures in
     let second = c.told-second.ensures ∙ c.searched-2.ensures in
     sym (any-second _ _ _ _ first c.if-first-ne-NOT_THERE.false second c.if-second-eq-BAD_RECORD.false)

@@ -9,15 +9,13 @@ look_all-requires c = (first-room _ _ _ _ _ (sym c.begins.ensures ∙ c.in-Open.
 
 pub returns-in-Shut : goal.returns-in-Shut
 returns-in-Shut c =
-    let r = (let begun = c in
-    let g = sym c.begins.ensures ∙ c.in-Shut.is in
+    let r = (let g = sym c.begins.ensures ∙ c.in-Shut.is in
     refused-both _ _ _ (many-shut _ _ _ _ _ _ _ _ c.longer-bytes.ensures refl _ g) (first-number _ _ _ _ _ _ g)) in
     record { value = r.0; answers_after = r.1 }
 
 pub returns-in-Open : goal.returns-in-Open
 returns-in-Open c =
-    let r = (let begun = c in
-    let g = sym c.begins.ensures ∙ c.in-Open.is in
+    let r = (let g = sym c.begins.ensures ∙ c.in-Open.is in
     let ends = c.look_all.ensures in
     many_ran _ _ _ _ _ _ _ _ c.longer-bytes.ensures refl g _ ends.value _ _ _ ends.answers_after) in
     record { value = r.0; answers_after = r.1 }

@@ -31,7 +31,6 @@ put_answer-requires c =
 
 pub overflow_add-i : goal.overflow_add-i
 overflow_add-i c =
-    let start = c in
     search (rules, c.well_formed, c.ranges)
 
 pub loop-i-preserved : goal.loop-i-preserved

@@ -12,11 +12,8 @@ returns-then-v-ne-DONE c =
 
 pub returns : goal.returns
 returns c =
-    let r = (let each = c.each-v in
-    let if1 = c.if-v-ne-DONE in
+    let r = (let if1 = c.if-v-ne-DONE in
     let copy = c.copy in
-    let each2 = c.each in
-    let start = c in
     let args = c.args in
     let first = c.each-v.ensures in
     let copied = copy.ensures in

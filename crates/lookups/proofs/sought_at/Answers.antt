@@ -5,5 +5,4 @@ use Rattle.lookups.proofs.sought_at.Goals as goal
 
 pub returns : goal.returns
 returns c =
-    let start = c in
     sym (sought-at c.args.sought.now c.args.i c.requires)

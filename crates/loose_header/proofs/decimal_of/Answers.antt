@@ -1,7 +1,6 @@
 -- `loose_header::decimal_of` meets its contract. Assumes nothing.
 use Rattle.loose_header.proofs.Digits.{two_digits, tenth_at, store-start, store-more, store-last, zeros-before, decimal-text}
-use Rattle.loose_header.specs.Header.{digits, decimal}
-use lib.ListN.{length, length-set}
+use lib.ListN.{length-set}
 use native.Mathlib.Omega.{arith}
 use mathlib.Core.Path.{refl, sym, ◌∙◌}
 use Rattle.loose_header.proofs.decimal_of.Goals as goal

@@ -23,7 +23,4 @@ returns-then-kind-eq4 c = rw c.if-kind-eq4.true (refl, omega arith, refl, refl)
 
 pub returns : goal.returns
 returns c =
-    let at-if3 = c in
-    let at-if2 = c in
-    let at-if1 = c in
     rw (word_none _ c.if-kind-eq1.false c.if-kind-eq2.false c.if-kind-eq3.false c.if-kind-eq4.false) (refl, omega arith, refl, refl)

@@ -48,13 +48,6 @@ slice_bounds-put_ended-end-2 c =
 pub returns : goal.returns
 returns c =
     let r = (let put-ended2 = c.put_ended-2 in
-    let at-put-ended = c in
-    let at-if2 = c in
-    let at-fit = c in
-    let at-decimal-of = c in
-    let at-if1 = c in
-    let at-kind-word = c in
-    let at-args = c in
     let a = c.args in
     let w = c.kind_word-word.ensures in
     let t = c.decimal_of-d.result in

@@ -4,17 +4,14 @@ use Rattle.mend.proofs.+mend_large.Goals as goal
 
 pub mend_large-requires : goal.mend_large-requires
 mend_large-requires t c =
-    let root = c in
     absurd (over c.args.count c.requires.count_in_bounds.1 c.if-count-gt-MOST_RECORDS.true)
 
 pub shape_of-fates-then-count-gt-MOST_RECORDS : goal.shape_of-fates-then-count-gt-MOST_RECORDS
 shape_of-fates-then-count-gt-MOST_RECORDS t c =
-    let root = c in
     absurd (over c.args.count c.requires.count_in_bounds.1 c.if-count-gt-MOST_RECORDS.true)
 
 pub shape_of-out-then-count-gt-MOST_RECORDS : goal.shape_of-out-then-count-gt-MOST_RECORDS
 shape_of-out-then-count-gt-MOST_RECORDS t c =
-    let root = c in
     absurd (over c.args.count c.requires.count_in_bounds.1 c.if-count-gt-MOST_RECORDS.true)
 
 pub returns-then-count-gt-MOST_RECORDS : goal.returns-then-count-gt-MOST_RECORDS

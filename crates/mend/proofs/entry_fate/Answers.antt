@@ -4,7 +4,6 @@ use Rattle.mend.proofs.entry_fate.Goals as goal
 
 pub repeated-before-requires : goal.repeated-before-requires
 repeated-before-requires c =
-    let pre = c.requires in
     let element = c.element-x in
     record { known = c.requires.known; x_value = key_is-name _ _ _ element.ensures c.requires.e_value }
 

@@ -7,21 +7,18 @@ use Rattle.mend.proofs.mend_read.Goals as goal
 
 pub mend_small-requires : goal.mend_small-requires
 mend_small-requires c =
-    let pre = c.requires in
     let if1 = c.if-number-eq-DONE in
     let p = c.requires.s_len_bound in
     record { s_len_bound = (p.0, p.1, p.2); s_value = read_none _ _ _ c.requires.a_value if1.true; count_in_bounds = (omega arith, omega arith) }
 
 pub returns-then-number-eq-DONE : goal.returns-then-number-eq-DONE
 returns-then-number-eq-DONE c =
-    let pre = c.requires in
     let if1 = c.if-number-eq-DONE in
     let mend-small = c.mend_small in record { answer = mend-small.ensures.answer ∙ sym (counted-fine _ _ _ _ 0 (read_none _ _ _ c.requires.a_value if1.true) (omega arith)); fates = mend-small.ensures.fates; out = mend-small.ensures.out }
 
 pub returns-then-number-ne-FEW_RECORDS : goal.returns-then-number-ne-FEW_RECORDS
 returns-then-number-ne-FEW_RECORDS c =
-    let r = (let pre = c.requires in
-    let if1 = c.if-number-eq-DONE in
+    let r = (let if1 = c.if-number-eq-DONE in
     let if2 = c.if-number-ne-FEW_RECORDS in
     let no-mending = c.no_mending in
     refused_all _ _ _ _ _ _ _ no-mending.ensures (counted_stopped _ _ _ _ _ (read_stopped _ _ _ c.requires.a_value if1.false if2.true)) if1.false) in
@@ -29,8 +26,7 @@ returns-then-number-ne-FEW_RECORDS c =
 
 pub returns-then-fates-n : goal.returns-then-fates-n
 returns-then-fates-n c =
-    let r = (let pre = c.requires in
-    let if1 = c.if-number-eq-DONE in
+    let r = (let if1 = c.if-number-eq-DONE in
     let if2 = c.if-number-ne-FEW_RECORDS in
     let if3 = c.if-fates-n in
     let no-mending2 = c.no_mending-then-fates-n in
@@ -40,7 +36,6 @@ returns-then-fates-n c =
 
 pub mend_small-requires-then-n-le1024 : goal.mend_small-requires-then-n-le1024
 mend_small-requires-then-n-le1024 c =
-    let pre = c.requires in
     let if2 = c.if-number-ne-FEW_RECORDS in
     let if3 = c.if-fates-n in
     let if4 = c.if-n-le1024 in
@@ -49,14 +44,12 @@ mend_small-requires-then-n-le1024 c =
 
 pub returns-then-n-le1024 : goal.returns-then-n-le1024
 returns-then-n-le1024 c =
-    let pre = c.requires in
     let if2 = c.if-number-ne-FEW_RECORDS in
     let if3 = c.if-fates-n in
     let mend-small2 = c.mend_small-then-n-le1024 in record { answer = mend-small2.ensures.answer ∙ sym (counted-fine _ _ _ _ _ (read-many _ _ _ c.requires.a_value if2.false).1 if3.false); fates = mend-small2.ensures.fates; out = mend-small2.ensures.out }
 
 pub mend_large-requires : goal.mend_large-requires
 mend_large-requires c =
-    let pre = c.requires in
     let if2 = c.if-number-ne-FEW_RECORDS in
     let if3 = c.if-fates-n in
     let p = c.requires.s_len_bound in
@@ -64,7 +57,6 @@ mend_large-requires c =
 
 pub returns : goal.returns
 returns c =
-    let pre = c.requires in
     let if2 = c.if-number-ne-FEW_RECORDS in
     let if3 = c.if-fates-n in
     let mend-large = c.mend_large in record { answer = mend-large.ensures.answer ∙ sym (counted-fine _ _ _ _ _ (read-many _ _ _ c.requires.a_value if2.false).1 if3.false); fates = mend-large.ensures.fates; out = mend-large.ensures.out }

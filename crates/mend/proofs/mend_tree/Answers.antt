@@ -35,7 +35,6 @@ returns-in-Open c =
     let longer = c.longer in
     let bounds = c.bounds in
     let enum_told = c.in-Open in
-    let mend-read = c.mend_read in
     let g = sym bounds.ensures ∙ enum_told.is in
     answer_all _ _ _ _ _ _ _ _ _ (gate_answer args.h args.bytes.now (length args.fates.now) (length args.out.now) _ longer.ensures g)
     (c.mend_read.ensures.answer, (c.mend_read.ensures.fates, c.mend_read.ensures.out))) in

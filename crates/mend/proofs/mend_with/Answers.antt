@@ -10,7 +10,6 @@ use Rattle.mend.proofs.mend_with.Goals as goal
 pub sorted-m-requires : goal.sorted-m-requires
 sorted-m-requires c =
     let args = c.args in
-    let pre = c.requires in
     record { s_len_bound = c.requires.s_len_bound.0; s_in_bounds = first-few args.h args.s.now c.requires.s_len_bound.1 args.count c.requires.s_value args.fates.now args.list.now c.requires.count_in_bounds.1 }
 
 pub slice_bounds-measure-end-2 : goal.slice_bounds-measure-end-2
@@ -19,14 +18,12 @@ slice_bounds-measure-end-2 c = sym (length-take-le _ _ c.sorted-m.ensures.0)
 pub measure-need-requires : goal.measure-need-requires
 measure-need-requires c =
     let args = c.args in
-    let pre = c.requires in
     let sorted = c.sorted-m in
     record { s_len_bound = c.requires.s_len_bound.0; le_h = (c.requires.s_len_bound.1, c.requires.s_len_bound.2); known = known_is args.h args.s.now c.requires.s_len_bound.1 args.count c.requires.s_value args.fates.now _ sorted.ensures.1 }
 
 pub returns-then-out-need : goal.returns-then-out-need
 returns-then-out-need c =
     let r = (let args = c.args in
-    let pre = c.requires in
     let sorted = c.sorted-m in
     let measure = c.measure-need in
     let if1 = c.if-out-need in
@@ -43,14 +40,12 @@ slice_bounds-settle-end-2 c = sym (length-take-le _ _ c.sorted-m.ensures.0)
 pub settle-requires : goal.settle-requires
 settle-requires c =
     let args = c.args in
-    let pre = c.requires in
     let sorted = c.sorted-m in
     record { s_len_bound = c.requires.s_len_bound.0; le_h = (c.requires.s_len_bound.1, c.requires.s_len_bound.2); known = known_is args.h args.s.now c.requires.s_len_bound.1 args.count c.requires.s_value args.fates.now _ sorted.ensures.1 }
 
 pub write_sorted-requires : goal.write_sorted-requires
 write_sorted-requires c =
     let args = c.args in
-    let pre = c.requires in
     let sorted = c.sorted-m in (
       c.requires.s_len_bound.0,
       second-few args.h args.s.now c.requires.s_len_bound.1 args.count c.requires.s_value args.fates.now _ sorted.new.list
@@ -61,7 +56,6 @@ write_sorted-requires c =
 pub returns : goal.returns
 returns c =
     let r = (let args = c.args in
-    let pre = c.requires in
     let sorted = c.sorted-m in
     let measure = c.measure-need in
     let if1 = c.if-out-need in

@@ -11,7 +11,6 @@ returns-then-k-eq0 c = repeated-none _ _ _ _ _ c.requires.known c.search-k.ensur
 
 pub returns : goal.returns
 returns c =
-    let pre = c.requires in
     let found = c.search-k in
     let if1 = c.if-k-eq0 in
     let same_name = c.same_name in

@@ -33,7 +33,6 @@ returns-in-Broken c =
 
 pub entry_fate-fate-requires : goal.entry_fate-fate-requires
 entry_fate-fate-requires c =
-    let pre = c.requires in
     let decode = c.decode in
     let e = c.in-Whole in
     let d = sym decode.ensures ∙ e.is in
@@ -41,7 +40,6 @@ entry_fate-fate-requires c =
 
 pub kept_size-size-requires : goal.kept_size-size-requires
 kept_size-size-requires c =
-    let pre = c.requires in
     let decode = c.decode in
     let e = c.in-Whole in
     let w = decoded_size _ _ _ _ _ (sym decode.ensures ∙ e.is) in
@@ -49,7 +47,6 @@ kept_size-size-requires c =
 
 pub overflow_add-size : goal.overflow_add-size
 overflow_add-size c =
-    let pre = c.requires in
     let loop = c.loop-at in
     let if1 = c.if-n-ge-MOST_RECORDS in
     let decode = c.decode in

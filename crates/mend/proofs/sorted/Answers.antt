@@ -10,7 +10,6 @@ use Rattle.mend.proofs.sorted.Goals as goal
 pub returns : goal.returns
 returns c =
     let args = c.args in
-    let pre = c.requires in
     let gather = c.gather-m in
     let sort_front = c.sort_front in (
       omega (

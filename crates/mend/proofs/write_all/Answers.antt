@@ -19,7 +19,6 @@ loop-i-smaller c = omega arith
 
 pub loop-i-preserved : goal.loop-i-preserved
 loop-i-preserved c =
-    let pre = c.requires in
     let loop = c.loop-i in
     let loop-test = c.loop-i-test in
     let write-one = c.write_one-at in

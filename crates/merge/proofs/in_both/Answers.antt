@@ -6,42 +6,36 @@ use Rattle.merge.proofs.in_both.Goals as goal
 pub slice_bounds-same_bytes-count : goal.slice_bounds-same_bytes-count
 slice_bounds-same_bytes-count c =
     let args = c.args in
-    let pre = c.requires in
     let side-of = c.side_of-left in
     (laws.side-within args.h (length args.bundle.now) args.a side-of.result side-of.ensures c.requires.entry_within.2).0
 
 pub slice_bounds-same_bytes-start : goal.slice_bounds-same_bytes-start
 slice_bounds-same_bytes-start c =
     let args = c.args in
-    let pre = c.requires in
     let side-of = c.side_of-left in
     (laws.side-within args.h (length args.bundle.now) args.a side-of.result side-of.ensures c.requires.entry_within.2).0
 
 pub slice_bounds-same_bytes-end : goal.slice_bounds-same_bytes-end
 slice_bounds-same_bytes-end c =
     let args = c.args in
-    let pre = c.requires in
     let side-of = c.side_of-left in
     (laws.side-within args.h (length args.bundle.now) args.a side-of.result side-of.ensures c.requires.entry_within.2).1
 
 pub slice_bounds-same_bytes-count-2 : goal.slice_bounds-same_bytes-count-2
 slice_bounds-same_bytes-count-2 c =
     let args = c.args in
-    let pre = c.requires in
     let side-of2 = c.side_of-right in
     (laws.side-within args.h (length args.bundle.now) args.b side-of2.result side-of2.ensures c.requires.entry_within_2.2).0
 
 pub slice_bounds-same_bytes-start-2 : goal.slice_bounds-same_bytes-start-2
 slice_bounds-same_bytes-start-2 c =
     let args = c.args in
-    let pre = c.requires in
     let side-of2 = c.side_of-right in
     (laws.side-within args.h (length args.bundle.now) args.b side-of2.result side-of2.ensures c.requires.entry_within_2.2).0
 
 pub slice_bounds-same_bytes-end-2 : goal.slice_bounds-same_bytes-end-2
 slice_bounds-same_bytes-end-2 c =
     let args = c.args in
-    let pre = c.requires in
     let side-of2 = c.side_of-right in
     (laws.side-within args.h (length args.bundle.now) args.b side-of2.result side-of2.ensures c.requires.entry_within_2.2).1
 

@@ -18,6 +18,5 @@ returns-then-a-eq808464436 c = sym (quick_none _ _ (omega arith) c.type_inv.s (o
 
 pub returns : goal.returns
 returns c =
-    let shared-slice-known = c.shared_slice_known-1 in
     let six-code = c.six_code in
     six-code.ensures ∙ quick_six _ _ (omega arith) c.type_inv.s _ _ (omega arith) (omega arith) (λ e. omega arith)

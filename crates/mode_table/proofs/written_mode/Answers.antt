@@ -19,14 +19,12 @@ slice_bounds-bytes-end c = row_fits _ _ c.row_at-row.ensures c.loop-i-test.true
 
 pub slice_bounds-same_bytes-end : goal.slice_bounds-same_bytes-end
 slice_bounds-same_bytes-end c =
-    let p = c in
     sym (length-take-le _ _ (row_fits _ _ c.row_at-row.ensures c.loop-i-test.true))
 
 pub returns-then-same_bytes : goal.returns-then-same_bytes
 returns-then-same_bytes c =
     let same_bytes = c.same_bytes in
     let if1 = c.if-same_bytes in
-    let p = c in
     sym (c.loop-i.invariant.1 ∙ find-here _ _ _ c.row_at-row.ensures c.loop-i-test.true (sym same_bytes.ensures ∙ if1.true))
 
 pub overflow_add-i : goal.overflow_add-i
@@ -39,7 +37,6 @@ pub loop-i-preserved : goal.loop-i-preserved
 loop-i-preserved c =
     let same_bytes = c.same_bytes in
     let if1 = c.if-same_bytes in
-    let p = c in
     (omega arith, c.loop-i.invariant.1 ∙ find_more _ _ _ c.row_at-row.ensures c.loop-i-test.true (sym same_bytes.ensures ∙ if1.false))
 
 pub returns : goal.returns

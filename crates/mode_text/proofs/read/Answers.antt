@@ -20,13 +20,9 @@ slice_bounds-octal_of-end c =
 pub returns-in-Number : goal.returns-in-Number
 returns-in-Number c =
     let v = c.in-Number in
-    let q = c in
-    let p = c in
     read_bits _ c.if-i-eq0.false _ c.text_len-n.ensures (omega arith) _ (sym c.octal_of.ensures ∙ v.is) _ _
     c.settled.ensures c.rest_at-next.ensures
 
 pub returns-in-Other : goal.returns-in-Other
 returns-in-Other c =
-    let q = c in
-    let p = c in
     sym (read-other _ c.if-i-eq0.false _ c.text_len-n.ensures (omega arith) (sym c.octal_of.ensures ∙ c.in-Other.is))

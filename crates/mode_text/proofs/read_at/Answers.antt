@@ -11,8 +11,6 @@ returns-then-s-at c = sym (past-reads _ _ c.if-s-at.true)
 
 pub overflow_add-result : goal.overflow_add-result
 overflow_add-result c =
-    let q = c in
-    let p = c in
     let s = c.args.s.now in
     let at = c.args.at in
     let e = sym (window_reads s at c.if-s-at.false _ c.eight_on-end.ensures) ∙ sym c.read.ensures ∙ c.in-Bits.is in
@@ -21,13 +19,9 @@ overflow_add-result c =
 pub returns-in-Bits : goal.returns-in-Bits
 unfolding read_text_at
 returns-in-Bits c =
-    let q = c in
-    let p = c in
     ap (moved _) (sym c.in-Bits.is ∙ c.read.ensures ∙ window_reads _ _ c.if-s-at.false _ c.eight_on-end.ensures)
 
 pub returns-in-Bad : goal.returns-in-Bad
 unfolding read_text_at
 returns-in-Bad c =
-    let q = c in
-    let p = c in
     ap (moved _) (sym c.in-Bad.is ∙ c.read.ensures ∙ window_reads _ _ c.if-s-at.false _ c.eight_on-end.ensures)

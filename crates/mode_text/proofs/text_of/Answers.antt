@@ -8,9 +8,6 @@ returns-then-m-eq0 c = sym (text-zero _ c.if-m-eq0.true)
 
 pub returns : goal.returns
 returns c =
-    let d5 = c in
-    let d3 = c in
-    let d1 = c in
     c.trimmed.ensures
     ∙ text-made _ _ _ _ _ _ _ c.if-m-eq0.false c.digit.ensures c.digit-2.ensures c.digit-3.ensures
     c.digit-4.ensures c.digit-5.ensures c.digit-6.ensures

@@ -1,7 +1,7 @@
 -- `output::copy` meets its contract. Assumes nothing.
 use Rattle.output.proofs.Laws.{sets_more, sets-none}
 use lib.Seq.{sets}
-use lib.ListN.{length, length-set}
+use lib.ListN.{length-set}
 use native.Mathlib.Omega.{arith}
 use mathlib.Core.Path.{◌≡◌, refl, sym, ap, ◌∙◌}
 use Prim.Native.Nat.{ℕ, ◌-◌, ◌+◌}

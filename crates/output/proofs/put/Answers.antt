@@ -14,7 +14,5 @@ copy-requires c = simp length-take (omega arith)
 
 pub returns : goal.returns
 returns c =
-    let at-fitting = c in
-    let at-args = c in
     let a = c.args in
     c.copy.ensures ∙ rw c.fitting-n.ensures (sets_fitting a.out.now a.at a.piece.now)

@@ -6,21 +6,15 @@ use Rattle.output.proofs.put_ended.Goals as goal
 
 pub returns-then-out-at : goal.returns-then-out-at
 returns-then-out-at c =
-    let at-put = c in
-    let at-args = c in
     let a = c.args in
     c.put.ensures ∙ sym (ended-past a.out.now a.at a.piece.now a.last (omega arith))
 
 pub returns-then-out-at-2 : goal.returns-then-out-at-2
 returns-then-out-at-2 c =
-    let at-put = c in
-    let at-args = c in
     let a = c.args in
     c.put.ensures ∙ sym (ended-past a.out.now a.at a.piece.now a.last (omega arith))
 
 pub returns : goal.returns
 returns c =
-    let at-put = c in
-    let at-args = c in
     let a = c.args in
     rw c.put.ensures (sym (sets-ended a.out.now a.at a.piece.now a.last))

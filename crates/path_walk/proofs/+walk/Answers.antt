@@ -1,7 +1,6 @@
 -- The cycle of calls {walk}: the number of components left falls. Assumes nothing.
 use native.Mathlib.Omega.{arith}
 use mathlib.Core.Path.{sym}
-use lib.ListN.{length}
 use lib.Seq.{length-take-le}
 use Rattle.ground.proofs.Laws.{count-le}
 use Rattle.path_walk.proofs.Laws.{walk_ends, walk_none, walk-on, walk_falls, slash-inside, id-inside}

@@ -17,7 +17,6 @@ returns c =
     let r = (let args = c.args in
     let judge = c.judge-number in
     let if1 = c.if-number-ne0 in
-    let open_entry = c.open_entry-p in
     let Leaves-none = c.leaves_none-none in
     closed-placed args.ends.now args.m args.at args.l judge.result (judged args.held.now args.m.last args.l) judge.ensures
     if1.false _ Leaves-none.ensures _ _ (c.open_entry-p.ensures.placed, c.open_entry-p.ensures.marks) c.placed.ensures) in

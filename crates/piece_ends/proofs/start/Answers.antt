@@ -1,5 +1,4 @@
 -- `piece_ends::start` meets its contract. Assumes nothing.
-use borrow.Author.Rules.{rules}
 use mathlib.Core.Path.{sym, ◌∙◌}
 use Rattle.arriving.proofs.Laws.{start_open, start-shut}
 use Rattle.piece_ends.proofs.start.Goals as goal

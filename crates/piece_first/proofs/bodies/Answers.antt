@@ -3,7 +3,7 @@ use borrow.Author.Rules.{rules}
 use mathlib.Core.Path.{refl, sym, ◌∙◌}
 use Prim.Native.Nat.{◌-◌}
 use native.Mathlib.Omega.{arith}
-use Rattle.arriving.specs.Feed.{together, bodies}
+use Rattle.arriving.specs.Feed.{together}
 use Rattle.arriving.proofs.Laws.{bodies-turn, bodies_end}
 use Rattle.piece_body.proofs.Laws.{within}
 use Rattle.piece_first.proofs.bodies.Goals as goal

@@ -13,7 +13,6 @@ returns-then-m-ge-MOST_BYTES c =
 
 pub bodies-requires : goal.bodies-requires
 bodies-requires c =
-    let start = c in
     let if1 = c.if-m-ge-MOST_BYTES in
     let first = c.head_byte-t in
     let m = c.args.m in
@@ -22,7 +21,6 @@ bodies-requires c =
 
 pub returns : goal.returns
 returns c =
-    let start = c in
     let if1 = c.if-m-ge-MOST_BYTES in
     let first = c.head_byte-t in
     let args = c.args in

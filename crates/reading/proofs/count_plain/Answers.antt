@@ -2,7 +2,6 @@
 use Prim.Native.Nat.{ℕ, ◌-◌, ◌+◌, ◌%◌}
 use mathlib.Core.Path.{refl, sym, ap, ◌∙◌}
 use native.Mathlib.Omega.{arith}
-use lib.ListN.{length}
 use Rattle.ground.proofs.Laws.{place-from}
 use Rattle.reading.specs.Lengths.{name_at, place_of}
 use Rattle.reading.specs.Listing.{tally}

@@ -13,8 +13,7 @@ returns-in-Shut c =
 
 pub returns-in-Open : goal.returns-in-Open
 returns-in-Open c =
-    let r = (let read_plain = c.read_plain in
-    let enum_told = c.in-Open in
+    let r = (let enum_told = c.in-Open in
     let bounds = c.bounds in
     let args = c.args in
     let plain = listing args.h args.bytes.now in

@@ -1,8 +1,6 @@
 -- `record_slice::bisect_records` meets its contract. Assumes nothing.
-use Prim.Native.Nat.{◌+◌, ◌*◌, ◌<◌}
-use mathlib.Core.Path.{◌≡◌, refl, sym, ◌∙◌}
+use mathlib.Core.Path.{refl, ◌∙◌}
 use native.Mathlib.Omega.{arith}
-use lib.ListN.{length}
 use Rattle.probe.proofs.Going.{going_start, going-inside, going_on, going_less, going-ends}
 use Rattle.record_slice.proofs.bisect_records.Goals as goal
 

@@ -1,5 +1,4 @@
 -- `rules::is_group` meets its contract. Assumes nothing.
-use borrow.Author.Rules.{rules}
 use Rattle.rules.proofs.Laws.{group-text}
 use Rattle.rules.proofs.is_group.Goals as goal
 

@@ -1,5 +1,4 @@
 -- `rules::mode_permitted` meets its contract. Assumes nothing.
-use borrow.Author.Rules.{rules}
 use mathlib.Core.Path.{sym, ◌∙◌}
 use Rattle.mode_table.specs.Table.{written_mode}
 use Rattle.rules.proofs.Laws.{mode-found, mode-none}

@@ -1,5 +1,4 @@
 -- `rules::rule_bounds` meets its contract. Assumes nothing.
-use borrow.Author.Rules.{rules}
 use mathlib.Core.Path.{sym, ◌∙◌}
 use Rattle.ground.specs.Verdict.{is_set}
 use Rattle.rules.proofs.Laws.{set_is, rule_known, rule_other, rule_id}

@@ -2,7 +2,7 @@
 use native.Mathlib.Omega.{arith}
 use Prim.Native.Nat.{◌-◌}
 use mathlib.Core.Path.{refl, sym, ◌∙◌}
-use Rattle.seeking.specs.Index.{halved, place_in}
+use Rattle.seeking.specs.Index.{place_in}
 use Rattle.seeking.proofs.Halving.{halved_end, halved-below, halved-same, halved_above}
 use Rattle.seeking.proofs.place_in.Goals as goal
 

@@ -1,5 +1,5 @@
 -- `sorting::settle` meets its contract. Assumes nothing.
-use lib.ListN.{length, length-set}
+use lib.ListN.{length-set}
 use Rattle.keys.specs.Key.{key_at, below_by}
 use Rattle.keys.proofs.Keys.{key_strict}
 use Rattle.sorting.proofs.Heaps.{settle-start, settle-rest, settle-again, settle_end}

@@ -55,7 +55,6 @@ loop-i-smaller c =
 pub loop-i-preserved : goal.loop-i-preserved
 loop-i-preserved c =
     let args = c.args in
-    let pre = c.requires in
     let loop = c.loop-i in
     let larger = c.larger-c in
     let below = c.below in

@@ -15,7 +15,6 @@ slice_bounds-count_marked-end t c = zeros-many 4096
 
 pub count_marked-requires : goal.count_marked-requires
 count_marked-requires t c =
-    let pre = c.requires in
     marks_enough 4096 _ (omega arith, omega arith)
 
 pub returns : goal.returns

@@ -9,21 +9,18 @@ pub slice_bounds-place_entry-count : goal.slice_bounds-place_entry-count
 slice_bounds-place_entry-count c =
     let last = c.in-After in
     let args = c.args in
-    let pre = c.requires in
     omega (arith, last_within (length args.s.now) last.is c.requires.last_within)
 
 pub slice_bounds-place_entry-start : goal.slice_bounds-place_entry-start
 slice_bounds-place_entry-start c =
     let last = c.in-After in
     let args = c.args in
-    let pre = c.requires in
     omega (arith, last_within (length args.s.now) last.is c.requires.last_within)
 
 pub slice_bounds-place_entry-end : goal.slice_bounds-place_entry-end
 slice_bounds-place_entry-end c =
     let last = c.in-After in
     let args = c.args in
-    let pre = c.requires in
     omega (arith, last_within (length args.s.now) last.is c.requires.last_within)
 
 pub returns-in-Nothing : goal.returns-in-Nothing
@@ -35,8 +32,7 @@ returns-in-Nothing c =
 pub returns-in-After : goal.returns-in-After
 unfolding name_of
 returns-in-After c =
-    let r = (let place_entry = c.place_entry in
-    let is-folder2 = c.is_folder-in-After in
+    let r = (let is-folder2 = c.is_folder-in-After in
     let is-folder = c.is_folder in
     let last = c.in-After in
     let args = c.args in

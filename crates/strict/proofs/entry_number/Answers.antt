@@ -1,5 +1,4 @@
 -- `strict::entry_number` meets its contract. Assumes nothing.
-use borrow.Author.Rules.{rules}
 use mathlib.Core.Path.{sym, ◌∙◌}
 use Rattle.entry.specs.Record.{name_of}
 use Rattle.strict.specs.Strict.{text_of}
@@ -10,7 +9,6 @@ pub returns-then-mode_permitted : goal.returns-then-mode_permitted
 unfolding text_of name_of
 returns-then-mode_permitted c =
     let args = c.args in
-    let pre = c.requires in
     let mode-permitted = c.mode_permitted in
     let if1 = c.if-mode_permitted in
     entry_named args.rules args.s.now args.at args.e (sym mode-permitted.ensures ∙ if1.true) c.requires.e_value c.name_number.ensures

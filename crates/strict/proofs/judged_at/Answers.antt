@@ -1,5 +1,4 @@
 -- `strict::judged_at` meets its contract. Assumes nothing.
-use borrow.Author.Rules.{rules}
 use mathlib.Core.Path.{sym, ◌∙◌}
 use Rattle.strict.proofs.Judging.{seen-broken, seen-bad, seen-good}
 use Rattle.strict.proofs.Strictly.{decoded_within, decoded_free}

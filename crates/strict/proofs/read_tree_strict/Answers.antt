@@ -1,5 +1,4 @@
 -- `strict::read_tree_strict` meets its contract. Assumes nothing.
-use borrow.Author.Rules.{rules}
 use mathlib.Core.Path.{sym, ◌∙◌}
 use Rattle.rules.specs.Rules.{git_rules}
 use Rattle.rules.proofs.Laws.{rule_bytes}
@@ -22,8 +21,7 @@ returns-in-Shut c =
 
 pub returns-in-Open : goal.returns-in-Open
 returns-in-Open c =
-    let r = (let finish = c.finish in
-    let count_strict = c.count_strict in
+    let r = (let count_strict = c.count_strict in
     let enum_told = c.in-Open in
     let rule_bounds = c.rule_bounds in
     let args = c.args in

@@ -1,5 +1,4 @@
 -- `strict::seen_at` meets its contract. Assumes nothing.
-use borrow.Author.Rules.{rules}
 use native.Mathlib.Omega.{arith}
 use Rattle.strict.proofs.Scanned.{scan_starts, scan-within, scan_kept}
 use Rattle.strict.proofs.seen_at.Goals as goal

@@ -1,5 +1,4 @@
 -- `text_import::finish` meets its contract. Assumes nothing.
-use borrow.Author.Rules.{rules}
 use mathlib.Core.Path.{sym, ap, ◌∙◌}
 use Rattle.ground.specs.declared.Verdict.{Verdict}
 use Rattle.text_import.specs.Import.{texts}
@@ -10,7 +9,6 @@ use Rattle.text_import.proofs.finish.Goals as goal
 pub returns-then-number-ne-DONE : goal.returns-then-number-ne-DONE
 returns-then-number-ne-DONE c =
     let args = c.args in
-    let pre = c.requires in
     let judge_list = c.judge_list-verdict in
     let if1 = c.if-number-ne-DONE in
     let w = with_refused args.rules args.h args.text.now args.out.now c.requires.text_len_bound.0 c.requires.text_len_bound.2 _
@@ -20,7 +18,6 @@ returns-then-number-ne-DONE c =
 pub measure-need-requires : goal.measure-need-requires
 measure-need-requires c =
     let args = c.args in
-    let pre = c.requires in
     let judge_list = c.judge_list-verdict in
     let w = with_list args.rules args.h args.text.now c.requires.text_len_bound.0 _ _ c.requires.list_value judge_list.ensures.list in
     record { text_len_bound = (c.requires.text_len_bound.0, c.requires.text_len_bound.1, w.0); all_read = w.1 }
@@ -28,7 +25,6 @@ measure-need-requires c =
 pub returns-then-out-need : goal.returns-then-out-need
 returns-then-out-need c =
     let args = c.args in
-    let pre = c.requires in
     let judge_list = c.judge_list-verdict in
     let if1 = c.if-number-ne-DONE in
     let measure = c.measure-need in
@@ -43,7 +39,6 @@ returns-then-out-need c =
 pub write_all-requires : goal.write_all-requires
 write_all-requires c =
     let args = c.args in
-    let pre = c.requires in
     let judge_list = c.judge_list-verdict in
     let w = with_list args.rules args.h args.text.now c.requires.text_len_bound.0 _ _ c.requires.list_value judge_list.ensures.list in
     record { text_len_bound = (c.requires.text_len_bound.0, c.requires.text_len_bound.1, w.0); all_read = w.1 }
@@ -51,7 +46,6 @@ write_all-requires c =
 pub returns : goal.returns
 returns c =
     let args = c.args in
-    let pre = c.requires in
     let judge_list = c.judge_list-verdict in
     let if1 = c.if-number-ne-DONE in
     let measure = c.measure-need in

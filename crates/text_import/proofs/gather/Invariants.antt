@@ -1,5 +1,4 @@
 -- `text_import::gather` meets its contract. Assumes nothing.
-use borrow.Author.Rules.{rules}
 use Prim.Native.Nat.{◌-◌}
 use Rattle.ground.specs.Verdict.{most_records}
 use Rattle.text_import.proofs.Walk.{Gathering}

@@ -1,5 +1,4 @@
 -- `text_import::import_lent` meets its contract. Assumes nothing.
-use borrow.Author.Rules.{rules}
 use mathlib.Core.Path.{sym, ◌∙◌}
 use Rattle.text_import.proofs.Lent.{lent-shut, lent-whole, lent_began}
 use Rattle.text_import.proofs.import_lent.Goals as goal
@@ -24,7 +23,6 @@ returns-in-Open c =
     let r = (let args = c.args in
     let bounds = c.bounds in
     let enum_told = c.in-Open in
-    let import-open = c.import_open in
     lent-whole args.rules args.h args.text.now args.out.now args.list.now (sym bounds.ensures ∙ enum_told.is) _ _ _
     (c.import_open.ensures.answer, (c.import_open.ensures.out, c.import_open.ensures.list))) in
     record { answer = r.0; out = r.1.0; list = r.1.1 }

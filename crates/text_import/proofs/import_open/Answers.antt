@@ -1,5 +1,4 @@
 -- `text_import::import_open` meets its contract. Assumes nothing.
-use borrow.Author.Rules.{rules}
 use mathlib.Core.Path.{sym}
 use lib.Seq.{length-take-le}
 use Rattle.text_import.specs.Import.{texts}

@@ -9,7 +9,6 @@ loop-i-init c = writing_start _ _ _ _ _
 
 pub slice_bounds-write_one-count : goal.slice_bounds-write_one-count
 slice_bounds-write_one-count c =
-    let pre = c.requires in
     let loop = c.loop-i in
     let loop-test = c.loop-i-test in
     let place_of = c.place_of-place in
@@ -17,7 +16,6 @@ slice_bounds-write_one-count c =
 
 pub slice_bounds-write_one-start : goal.slice_bounds-write_one-start
 slice_bounds-write_one-start c =
-    let pre = c.requires in
     let loop = c.loop-i in
     let loop-test = c.loop-i-test in
     let place_of = c.place_of-place in
@@ -25,7 +23,6 @@ slice_bounds-write_one-start c =
 
 pub write_one-at-requires : goal.write_one-at-requires
 write_one-at-requires c =
-    let pre = c.requires in
     let loop = c.loop-i in
     let loop-test = c.loop-i-test in
     let place_of = c.place_of-place in
@@ -34,7 +31,6 @@ write_one-at-requires c =
 
 pub loop-i-preserved : goal.loop-i-preserved
 loop-i-preserved c =
-    let pre = c.requires in
     let loop = c.loop-i in
     let loop-test = c.loop-i-test in
     let place_of = c.place_of-place in

@@ -1,5 +1,4 @@
 -- `text_import::write_all` meets its contract. Assumes nothing.
-use borrow.Author.Rules.{rules}
 use Prim.Native.Nat.{◌-◌}
 use lib.ListN.{length}
 use Rattle.text_import.proofs.Bytes.{Writing}

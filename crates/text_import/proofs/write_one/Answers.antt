@@ -1,5 +1,4 @@
 -- `text_import::write_one` meets its contract. Assumes nothing.
-use borrow.Author.Rules.{rules}
 use native.Mathlib.Omega.{arith}
 use Rattle.ground.proofs.Laws.{id-is, id_small}
 use Rattle.text_import.proofs.Bytes.{one-places, one-digits, one-sizes, one-put}
@@ -9,7 +8,6 @@ use Rattle.text_import.proofs.write_one.Goals as goal
 pub overflow_sub-tab : goal.overflow_sub-tab
 overflow_sub-tab c =
     let args = c.args in
-    let pre = c.requires in
     let name-from = c.name_from-from in
     let name-end = c.name_end-end in
     omega (arith, (one-places args.rules args.h args.b.now c.requires.b_value.0 name-from.ensures name-end.ensures).0)
@@ -20,7 +18,6 @@ overflow_mul-id c = omega (arith, (id_small _ (id-is _ c.requires.b_value.1)).1)
 pub overflow_sub-id : goal.overflow_sub-id
 overflow_sub-id c =
     let args = c.args in
-    let pre = c.requires in
     let name-from = c.name_from-from in
     let name-end = c.name_end-end in
     omega (arith, (one-places args.rules args.h args.b.now c.requires.b_value.0 name-from.ensures name-end.ensures).0)
@@ -28,7 +25,6 @@ overflow_sub-id c =
 pub slice_bounds-put_named-count : goal.slice_bounds-put_named-count
 slice_bounds-put_named-count c =
     let args = c.args in
-    let pre = c.requires in
     let name-from = c.name_from-from in
     let name-end = c.name_end-end in
     (one-places args.rules args.h args.b.now c.requires.b_value.0 name-from.ensures name-end.ensures).1
@@ -36,7 +32,6 @@ slice_bounds-put_named-count c =
 pub slice_bounds-put_named-start : goal.slice_bounds-put_named-start
 slice_bounds-put_named-start c =
     let args = c.args in
-    let pre = c.requires in
     let name-from = c.name_from-from in
     let name-end = c.name_end-end in
     (one-places args.rules args.h args.b.now c.requires.b_value.0 name-from.ensures name-end.ensures).1
@@ -44,7 +39,6 @@ slice_bounds-put_named-start c =
 pub slice_bounds-put_named-end : goal.slice_bounds-put_named-end
 slice_bounds-put_named-end c =
     let args = c.args in
-    let pre = c.requires in
     let name-from = c.name_from-from in
     let name-end = c.name_end-end in
     omega (arith, (one-places args.rules args.h args.b.now c.requires.b_value.0 name-from.ensures name-end.ensures).2)
@@ -52,7 +46,6 @@ slice_bounds-put_named-end c =
 pub put_named-last-requires : goal.put_named-last-requires
 put_named-last-requires c =
     let args = c.args in
-    let pre = c.requires in
     let name-from = c.name_from-from in
     let name-end = c.name_end-end in
     (c.requires.at_bound.0, omega (arith, (one-sizes args.rules args.h args.b.now c.requires.b_value.0 name-from.ensures name-end.ensures 0 0 _ refl).0, c.requires.at_bound.1))
@@ -60,7 +53,6 @@ put_named-last-requires c =
 pub slice_bounds-put_id-end : goal.slice_bounds-put_id-end
 slice_bounds-put_id-end c =
     let args = c.args in
-    let pre = c.requires in
     let name-from = c.name_from-from in
     let name-end = c.name_end-end in
     (one-places args.rules args.h args.b.now c.requires.b_value.0 name-from.ensures name-end.ensures).3
@@ -68,7 +60,6 @@ slice_bounds-put_id-end c =
 pub put_id-requires : goal.put_id-requires
 put_id-requires c =
     let args = c.args in
-    let pre = c.requires in
     let name-from = c.name_from-from in
     let name-end = c.name_end-end in
     let w = one-digits args.rules args.h args.b.now c.requires.b_value.0 name-from.ensures name-end.ensures in
@@ -77,7 +68,6 @@ put_id-requires c =
 pub overflow_add-result : goal.overflow_add-result
 overflow_add-result c =
     let args = c.args in
-    let pre = c.requires in
     let name-from = c.name_from-from in
     let name-end = c.name_end-end in
     let put-named = c.put_named-last in
@@ -91,7 +81,6 @@ overflow_add-result c =
 pub returns : goal.returns
 returns c =
     let r = (let args = c.args in
-    let pre = c.requires in
     let name-from = c.name_from-from in
     let name-end = c.name_end-end in
     let front-mode = c.front_mode in

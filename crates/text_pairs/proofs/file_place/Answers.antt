@@ -8,7 +8,6 @@ use Rattle.text_pairs.proofs.file_place.Goals as goal
 pub returns-then-j-eq0 : goal.returns-then-j-eq0
 returns-then-j-eq0 c =
     let args = c.args in
-    let pre = c.requires in
     let if1 = c.if-j-eq0 in
     count-first (below_by (key_at args.text.now 9 0)) (key_strict _) args.list.now c.requires.ascends args.x args.j c.requires.j_in_bounds.0
     (above args.text.now args.x c.requires.j_in_bounds.2 c.requires.j_in_bounds.1) if1.true
@@ -16,7 +15,6 @@ returns-then-j-eq0 c =
 pub returns-then-below : goal.returns-then-below
 returns-then-below c =
     let args = c.args in
-    let pre = c.requires in
     let if1 = c.if-j-eq0 in
     let below = c.below in
     let if2 = c.if-below in

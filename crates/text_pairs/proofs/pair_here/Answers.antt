@@ -12,7 +12,6 @@ returns-then-z-eq0 c =
 
 pub file_place-k-requires : goal.file_place-k-requires
 file_place-k-requires c =
-    let pre = c.requires in
     let if1 = c.if-z-eq0 in
     let w = folder-file _ if1.false in
     record { ascends = c.requires.ascends; j_in_bounds = (c.requires.j_in_bounds, w.0, w.1) }

@@ -1,5 +1,4 @@
 -- `text_record::front_mode` meets its contract. Assumes nothing.
-use borrow.Author.Rules.{rules}
 use mathlib.Core.Path.{sym, ◌∙◌}
 use Rattle.text_record.proofs.Laws.{mode-plain, mode-group, mode_other}
 use Rattle.text_record.proofs.front_mode.Goals as goal

@@ -1,5 +1,4 @@
 -- `text_record::record_number` meets its contract. Assumes nothing.
-use borrow.Author.Rules.{rules}
 use native.Mathlib.Omega.{arith}
 use Rattle.ground.proofs.Laws.{place-from}
 use Rattle.text_record.proofs.Laws.{number-none, number_open, number-said}

@@ -1,5 +1,4 @@
 -- `text_record::said_number` meets its contract. Assumes nothing.
-use borrow.Author.Rules.{rules}
 use Rattle.text_record.proofs.Laws.{said-mode, said-word, said-name}
 use Rattle.text_record.proofs.said_number.Goals as goal
 

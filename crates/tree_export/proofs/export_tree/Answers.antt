@@ -1,5 +1,4 @@
 -- `tree_export::export_tree` meets its contract. Assumes nothing.
-use borrow.Author.Rules.{rules}
 use mathlib.Core.Path.{sym, ◌∙◌}
 use Rattle.output.proofs.Laws.{refused-both, fitted-both}
 use Rattle.strict.proofs.Laws.{strict-refuses}

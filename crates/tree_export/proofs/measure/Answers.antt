@@ -1,5 +1,4 @@
 -- `tree_export::measure` meets its contract. Assumes nothing.
-use borrow.Author.Rules.{rules}
 use Rattle.tree_export.proofs.Laws.{measured-bad, measured-fine, began_here}
 use Rattle.tree_export.proofs.measure.Goals as goal
 
@@ -15,6 +14,5 @@ pub returns : goal.returns
 returns c =
     let if1 = c.if-number-ne-DONE in
     let walk = c.walk-count in
-    let at-settle = c in
     let args = c.args in
     measured-fine args.rules args.h args.bytes.now _ c.settle-verdict.ensures if1.false _ walk.ensures.place

@@ -6,20 +6,17 @@ use Rattle.tree_export.proofs.put_record.Goals as goal
 pub put_digits-name-requires : goal.put_digits-name-requires
 put_digits-name-requires c =
     let args = c.args in
-    let pre = c.requires in
     let put_front = c.put_front-hex in
     (id-fits args.h args.s.now args.e c.requires.name_start_bound c.requires.h_value.0, omega (arith, put_front.ensures.1, c.requires.h_value.2))
 
 pub overflow_add-result : goal.overflow_add-result
 overflow_add-result c =
-    let pre = c.requires in
     let put_front = c.put_front-hex in
     let put-digits = c.put_digits-name in
     omega (arith, put_front.ensures.1, put-digits.ensures.1, c.requires.h_value.2, c.requires.h_value.1, c.requires.name_start_bound.1)
 
 pub overflow_add-result-2 : goal.overflow_add-result-2
 overflow_add-result-2 c =
-    let pre = c.requires in
     let put_front = c.put_front-hex in
     let put-digits = c.put_digits-name in
     omega (arith, put_front.ensures.1, put-digits.ensures.1, c.requires.h_value.2, c.requires.h_value.1, c.requires.name_start_bound.1)
@@ -27,7 +24,6 @@ overflow_add-result-2 c =
 pub returns : goal.returns
 returns c =
     let args = c.args in
-    let pre = c.requires in
     let put_front = c.put_front-hex in
     let put-digits = c.put_digits-name in
     let put_ended = c.put_ended in

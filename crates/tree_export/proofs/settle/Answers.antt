@@ -1,5 +1,4 @@
 -- `tree_export::settle` meets its contract. Assumes nothing.
-use borrow.Author.Rules.{rules}
 use mathlib.Core.Path.{refl}
 use Rattle.tree_export.proofs.Laws.{settled-some, settled_other}
 use Prim.Native.Nat.{ℕ}

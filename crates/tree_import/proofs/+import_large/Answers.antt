@@ -27,7 +27,6 @@ pub returns : goal.returns
 returns t c =
     let r = (let args = c.args in
     let pre = c.requires in
-    let import_lent = c.import_lent in
     let e = c.import_lent.ensures in
     both_most args.rules args.h args.text.now pre.0 pre.1 args.out.now _ _ _ e.answer e.out
     (room_for 1048576 most_records (omega arith))) in

@@ -1,5 +1,4 @@
 -- `tree_import::import_open` meets its contract. Assumes nothing.
-use borrow.Author.Rules.{rules}
 use Rattle.text_import.proofs.Lent.{both-other, left_alone}
 use Rattle.tree_import.proofs.Laws.{both-after}
 use Rattle.tree_import.proofs.import_open.Goals as goal
@@ -20,7 +19,6 @@ returns c =
     let pre = c.requires in
     let import-small = c.import_small-a in
     let if1 = c.if-number-ne-FEW_RECORDS in
-    let import-large = c.import_large in
     both-after args.rules args.h args.text.now (left_alone args.rules args.h args.text.now pre.0 pre.1 args.out.now 1024 _ _
     import-small.ensures.answer import-small.ensures.out if1.false) _ _ (c.import_large.ensures.answer, c.import_large.ensures.out)) in
     record { answer = r.0; out = r.1 }

@@ -1,5 +1,4 @@
 -- `tree_import::import_tree` meets its contract. Assumes nothing.
-use borrow.Author.Rules.{rules}
 use mathlib.Core.Path.{sym, ◌∙◌}
 use lib.ListN.{length}
 use Rattle.output.proofs.Laws.{refused-both}
@@ -31,7 +30,6 @@ returns-in-Open c =
     let longer = c.longer in
     let rule_bounds = c.rule_bounds in
     let enum_told = c.in-Open in
-    let opened = c.import_open in
     both-whole args.rules args.h args.text.now args.out.now _ _
     (import-open args.rules args.h args.text.now (length args.out.now) _ longer.ensures (sym rule_bounds.ensures ∙ enum_told.is))
     (c.import_open.ensures.answer, c.import_open.ensures.out)) in

@@ -1,10 +1,8 @@
 -- `tree_write::fill` meets its contract. Assumes nothing.
-use Rattle.tree_write.specs.Write.{written}
 use Rattle.tree_write.proofs.Laws.{step, written_next, written-end}
 use Rattle.entry.proofs.Laws.{well_parts}
 use native.Mathlib.Nat.{le_trans}
 use native.Mathlib.Omega.{arith}
-use mathlib.Core.Bool.{true}
 use mathlib.Core.Path.{refl, sym, ◌∙◌}
 use Prim.Native.Nat.{◌-◌}
 use Rattle.tree_write.proofs.fill.Goals as goal
@@ -16,17 +14,13 @@ pub write_entry-at-requires : goal.write_entry-at-requires
 write_entry-at-requires c =
     let loop-test = c.loop-i-test in
     let loop = c.loop-i in
-    let pre = c.requires in
     let s = step _ _ _ _ _ _ loop-test.true c.entry_at-e.ensures _ loop.invariant.3 c.requires.records_value in
     record { mode_bound = well_parts _ _ _ s.0; e_in_bounds = rw loop.invariant.2 (le_trans s.1 c.requires.records_in_bounds) }
 
 pub loop-i-preserved : goal.loop-i-preserved
 loop-i-preserved c =
     let write-entry = c.write_entry-at in
-    let at-entry-at = c in
     let loop-test = c.loop-i-test in
-    let at-loop = c in
-    let at_pre = c in
     let l = c.loop-i in
     let s = step _ _ _ _ _ _ loop-test.true c.entry_at-e.ensures _ l.invariant.3 c.requires.records_value in
     let p = write-entry.ensures.value in

@@ -1,5 +1,5 @@
 -- `tree_write::measure` meets its contract. Assumes nothing.
-use Rattle.tree_write.specs.Write.{measured, refusal}
+use Rattle.tree_write.specs.Write.{refusal}
 use Rattle.tree_write.proofs.Laws.{measured_end, measured-bad, measured-next, refusal_well, sized, size-le, sum_fits, sum_next}
 use Rattle.ground.specs.Verdict.{verdict, refused}
 use Rattle.entry.specs.Record.{many}
@@ -25,7 +25,6 @@ returns-then-number-ne-DONE c =
 
 pub entry_size-sum-requires : goal.entry_size-sum-requires
 entry_size-sum-requires c =
-    let at-args = c in
     let a = c.args in
     let pre = c.requires in
     sized a.h a.bytes.now _ (refusal_well _ _ _ _ (sym c.refuse-number.ensures ∙ c.if-number-ne-DONE.false)) pre.1 pre.0
@@ -33,10 +32,8 @@ entry_size-sum-requires c =
 pub overflow_add-sum : goal.overflow_add-sum
 overflow_add-sum c =
     let refuse = c.refuse-number in
-    let at-entry-at = c in
     let e = c.entry_at-e.result in
     let loop = c.loop-i in
-    let at-args = c in
     let a = c.args in
     let pre = c.requires in
     let w = refusal_well a.h a.bytes.now e a.writing (sym refuse.ensures ∙ c.if-number-ne-DONE.false) in
@@ -51,9 +48,6 @@ loop-i-preserved c =
     let refuse = c.refuse-number in
     let if1 = c.if-number-ne-DONE in
     let entry-size = c.entry_size-sum in
-    let at-entry-at = c in
-    let at-loop = c in
-    let at-args = c in
     let a = c.args in
     let e = c.entry_at-e.result in
     let z : refusal a.writing a.h a.bytes.now e ≡ 0 = sym refuse.ensures ∙ if1.false in

@@ -26,9 +26,6 @@ unfolding name_of
 returns-then-find_nul-end c =
     let find-nul = c.find_nul in
     let if3 = c.if-find_nul-end in
-    let at-if2 = c in
-    let at-if1 = c in
-    let at-well-formed = c in
     rw c.if-writing.true (sym (no_nul _ _ _ (sym c.well_formed-2.ensures ∙ c.if-well_formed.true)
     (sym (find-nul.ensures ∙ place-count _ _) ∙ if3.true)))
 
@@ -37,9 +34,6 @@ unfolding name_of
 returns-then-writing c =
     let find-nul = c.find_nul in
     let if3 = c.if-find_nul-end in
-    let at-if2 = c in
-    let at-if1 = c in
-    let at-well-formed = c in
     rw c.if-writing.true (sym (nul_inside _ _ _ (sym c.well_formed-2.ensures ∙ c.if-well_formed.true)
     (λ q. if3.false (find-nul.ensures ∙ place-count _ _ ∙ q))))
 

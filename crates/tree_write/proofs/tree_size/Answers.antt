@@ -6,7 +6,6 @@ use Rattle.tree_write.proofs.tree_size.Goals as goal
 
 pub measure-requires : goal.measure-requires
 measure-requires c =
-    let at-args = c in
     let a = c.args in
     within a.h a.bytes.now a.records.now _ (omega arith) (sym c.bounds.ensures ∙ c.in-Open.is)
 

@@ -13,17 +13,14 @@ use Rattle.tree_write.proofs.write_entry.Goals as goal
 pub put_mode-n-requires : goal.put_mode-n-requires
 unfolding entry_size
 put_mode-n-requires c =
-    let pre = c.requires in
     (c.requires.mode_bound.0, omega (arith, c.requires.e_in_bounds))
 
 pub overflow_add-last : goal.overflow_add-last
 overflow_add-last c =
-    let at-args = c in
     record { fits = lt_of_le_of_lt c.requires.mode_bound.3 c.well_formed.1.1.0.0 }
 
 pub overflow_add-name : goal.overflow_add-name
 overflow_add-name c =
-    let at-args = c in
     let put-mode = c.put_mode-n in
     let a = c.args in
     record {
@@ -33,7 +30,6 @@ overflow_add-name c =
 
 pub overflow_add-name-2 : goal.overflow_add-name-2
 overflow_add-name-2 c =
-    let at-args = c in
     let put-mode = c.put_mode-n in
     let a = c.args in
     record {
@@ -46,7 +42,6 @@ overflow_sub-next c = c.requires.mode_bound.1
 
 pub overflow_add-next : goal.overflow_add-next
 overflow_add-next c =
-    let at-args = c in
     let put-mode = c.put_mode-n in
     let a = c.args in
     record {
@@ -56,7 +51,6 @@ overflow_add-next c =
 
 pub overflow_add-next-2 : goal.overflow_add-next-2
 overflow_add-next-2 c =
-    let at-args = c in
     let put-mode = c.put_mode-n in
     let a = c.args in
     record {
@@ -84,7 +78,6 @@ slice_bounds-put-end c = c.requires.mode_bound.3
 
 pub overflow_add-result : goal.overflow_add-result
 overflow_add-result c =
-    let at-args = c in
     let put-mode = c.put_mode-n in
     let a = c.args in
     record {
@@ -96,9 +89,6 @@ pub returns : goal.returns
 unfolding name_of
 returns c =
     let put = c.put in
-    let at-put-ended = c in
-    let at-put-mode = c in
-    let at-args = c in
     let a = c.args in
     let p = c.requires.mode_bound in
     let m = c.put_mode-n.ensures in record {

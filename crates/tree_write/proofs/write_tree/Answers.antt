@@ -16,8 +16,6 @@ pub measure-requires : goal.measure-requires
 measure-requires c =
     let bounds = c.bounds in
     let enum_told = c.in-Open in
-    let at-longer = c in
-    let at-args = c in
     let a = c.args in
     within a.h a.bytes.now a.records.now _ (omega (arith, c.longer.ensures)) (sym bounds.ensures ∙ enum_told.is)
 
@@ -25,9 +23,6 @@ pub returns-then-number-ne-DONE : goal.returns-then-number-ne-DONE
 returns-then-number-ne-DONE c =
     let r = (let measure = c.measure in
     let fit = c.fit-a in
-    let at-enum-told = c in
-    let at_Bounds = c in
-    let at-longer = c in
     let a = c.args in
     refused-both _ _ _ (answer-fits a.h a.bytes.now a.records.now (length a.out.now) _ c.longer.ensures measure.result
     fit.result measure.ensures fit.ensures (sym c.bounds.ensures ∙ c.in-Open.is)) c.if-number-ne-DONE.true) in
@@ -45,12 +40,8 @@ fill-requires c =
 pub returns : goal.returns
 returns c =
     let r = (let fill = c.fill in
-    let at-if1 = c in
     let fit = c.fit-a in
     let measure = c.measure in
-    let at-enum-told = c in
-    let at_Bounds = c in
-    let at-longer = c in
     let a = c.args in
     fitted-both fit.result measure.result _ a.out.now _ (answer-fits a.h a.bytes.now a.records.now (length a.out.now) _
     c.longer.ensures measure.result fit.result measure.ensures fit.ensures

@@ -3,7 +3,6 @@
 use native.Mathlib.Omega.{arith}
 use native.Mathlib.Nat.{pos_of_ne-zero}
 use mathlib.Core.Path.{sym, ◌∙◌}
-use Prim.Native.Nat.{◌+◌}
 use lib.ListN.{length}
 use Rattle.merge.proofs.Laws as merging
 use Rattle.opening.proofs.Laws.{both-within}

@@ -1,6 +1,6 @@
 -- The cycle of `walk::compare_folders`, `walk::compare_entries` and `walk::compare_inside`: the levels to go fall, then the entries left.
 -- Assumes nothing.
-use Prim.Native.Nat.{ℕ, ◌+◌}
+use Prim.Native.Nat.{◌+◌}
 use Rattle.walk.specs.Walk.{compare_folders}
 use Rattle.walk.specs.Code.{folders_in}
 use Rattle.walk.proofs.Turning as turning

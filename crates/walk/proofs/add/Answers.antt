@@ -9,13 +9,11 @@ use Rattle.walk.proofs.add.Goals as goal
 pub returns-then-n-ge-MOST_RECORDS : goal.returns-then-n-ge-MOST_RECORDS
 returns-then-n-ge-MOST_RECORDS c =
     let args = c.args in
-    let pre = c.requires in
     let if1 = c.if-n-ge-MOST_RECORDS in record { by_index = λ prefix e. doing.did_full args.m _ args.items.now args.paths.now (item_of args.bundle.now prefix args.c) if1.true; added = (c.requires.small, omega arith, omega arith) }
 
 pub overflow_add-end : goal.overflow_add-end
 overflow_add-end c =
     let args = c.args in
-    let pre = c.requires in
     let if1 = c.if-n-ge-MOST_RECORDS in
     let joined = c.joined in
     let f = turning.add-fits args.m args.pl _ _ c.requires.small c.requires.pl_bound_2 (omega (arith, c.requires.bundle_len_bound, c.requires.change_within.0, c.requires.change_within.1))
@@ -25,7 +23,6 @@ overflow_add-end c =
 pub returns : goal.returns
 returns c =
     let args = c.args in
-    let pre = c.requires in
     let if1 = c.if-n-ge-MOST_RECORDS in
     let joined = c.joined in
     let put_item = c.put_item in

@@ -11,11 +11,9 @@ returns-then-is_word c =
 pub returns-then-is_word-2 : goal.returns-then-is_word-2
 returns-then-is_word-2 c =
     let args = c.args in
-    let first = c in
     sym (set-two args.s.now args.at (sym c.is_word.ensures ∙ c.if-is_word.false) (sym c.is_word-2.ensures ∙ c.if-is_word-2.true))
 
 pub returns : goal.returns
 returns c =
     let args = c.args in
-    let first = c in
     sym (set-none args.s.now args.at (sym c.is_word.ensures ∙ c.if-is_word.false) (sym c.is_word-2.ensures ∙ c.if-is_word-2.false))

@@ -6,13 +6,11 @@ use Rattle.mode.proofs.EntryMode.from_bytes.Goals as goal
 
 pub returns-in-Mode : goal.returns-in-Mode
 returns-in-Mode c =
-    let read = c in
     let gate = sym c.sizes.ensures ∙ c.in-Open.is in
     ap alone (sym c.in-Mode.is ∙ c.extract_at.ensures) ∙ sym (alone_open _ gate)
 
 pub returns-in-Bad : goal.returns-in-Bad
 returns-in-Bad c =
-    let read = c in
     let gate = sym c.sizes.ensures ∙ c.in-Open.is in
     ap alone (sym c.in-Bad.is ∙ c.extract_at.ensures) ∙ sym (alone_open _ gate)
 

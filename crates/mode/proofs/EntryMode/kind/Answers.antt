@@ -8,13 +8,11 @@ use Rattle.mode.proofs.EntryMode.kind.Goals as goal
 pub returns-then-value-eq-EXECUTE : goal.returns-then-value-eq-EXECUTE
 unfolding kind_of
 returns-then-value-eq-EXECUTE c =
-    let p = c in
     rw (sym c.sort.ensures ∙ c.in-32768.is, executes-told _ _ c.value.ensures, eq-eqb _ _ c.if-value-eq-EXECUTE.true)
 
 pub returns-in-32768 : goal.returns-in-32768
 unfolding kind_of
 returns-in-32768 c =
-    let p = c in
     rw (sym c.sort.ensures ∙ c.in-32768.is, executes-told _ _ c.value.ensures, ne_eqb _ _ c.if-value-eq-EXECUTE.false)
 
 pub returns-in-40960 : goal.returns-in-40960
