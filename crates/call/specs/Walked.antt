@@ -1,5 +1,5 @@
--- The first demand of a call that is proved by a walk of its code. Its contract is an assertion of the logic, in any world that the code may run in, and no
--- plain claim is read off it: so what follows from it is said in the logic. Assumes nothing.
+-- The first demand of a call, said of its contract as an assertion of the logic, in any world that the code may run in: no plain claim is read off it, so
+-- what follows from it is said in the logic. Assumes nothing.
 use Rattle.std.specs.Prelude.{ℕ, ◌≡◌, List}
 use seplogic.Ra.Ura.{Ura}
 use base.Logic.{SProp, ent, sep, emp}

@@ -27,7 +27,7 @@ use Rattle.record_slice.proofs.bisect_array.Reads as array-reads
 use Rattle.record_slice.specs.contracts.bisect_records as records-fn
 
 module _ (object : Bor (List ℕ)) (h : ℕ) (name : Bor (List ℕ)) (folder : Bool) where
-  -- ---- the contract of `bisect_records`, for which no `Reads` is generated
+  -- ---- the contract of `bisect_records`, as the logic has it
 
   -- what it says of the answer r
   abbrev pub Said : Bor (List EntryRecord) → Looked → Type 0

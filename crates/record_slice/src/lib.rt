@@ -1,6 +1,5 @@
-// The lookup of crate lookup over records that are structs (docs/FORMAT.md, "Lookup"): the search of crate probe, stepped over a lent slice of them.
-// The borrow checker covers no function that holds a slice of structs, so `bisect_records` and its callers are proved by a walk of their code.
-// `bisect_array` is the one such caller: it takes the records by value, and whoever calls it is covered.
+// The lookup of crate lookup over records that are structs (docs/FORMAT.md, "Lookup"): the search of crate probe, stepped over a lent slice of
+// them (`bisect_records`), or over the first of an array that is passed by value (`bisect_array`).
 #![tactic(auto)]
 
 ghost use Rattle.std.specs.Prelude.{◌≡◌, min, take};
