@@ -82,12 +82,12 @@ by-flip x y =
 -- ---- where it is decided
 
 -- what stands at i of a name
-pub next-byte : (s : List ℕ) (i : ℕ) (tree : Bool) → i < length s → next (drop i s) tree ≡ get_or s i 0 + 1
+pub next-byte : (s : List ℕ) (i : ℕ) (folder : Bool) → i < length s → next (drop i s) folder ≡ get_or s i 0 + 1
 unfolding next
-next-byte s i tree h = rw (drop-cons s i 0, add-one)
+next-byte s i folder h = rw (drop-cons s i 0, add-one)
 
-pub next_past : (s : List ℕ) (i : ℕ) (tree : Bool) → length s ≤ i → next (drop i s) tree ≡ next [] tree
-next_past s i tree h = rw drop_of_length-le
+pub next_past : (s : List ℕ) (i : ℕ) (folder : Bool) → length s ≤ i → next (drop i s) folder ≡ next [] folder
+next_past s i folder h = rw drop_of_length-le
 
 -- first bytes that differ decide
 differ : (x y : ℕ) (rest : Order) → (x ≡ y → ⊥) → then_by (by_number x y) rest ≡ by_number (suc x) (suc y)

@@ -19,7 +19,7 @@ then_by Above r = Above
 unfoldable pub next : List ℕ → Bool → ℕ
 next [] true = 48
 next [] false = 0
-next (x ∷ rest) tree = suc x
+next (x ∷ rest) folder = suc x
 
 -- byte by byte while both names go on; where one has ended, by that one position, and no further
 unfoldable pub name_order : List ℕ → Bool → List ℕ → Bool → Order
