@@ -23,8 +23,8 @@ turned past Over = Keep past
 turned past Behind = First past
 
 unfoldable pub turn_of : List ℕ → List ℕ → Bool → Bool → Decoded → Turn
-turn_of s name tree placed (Broken v) = End
-turn_of s name tree placed (Whole e next) = turned next.at (fate_of (name_of s e) (folder_of e) name tree placed)
+turn_of s name folder placed (Broken v) = End
+turn_of s name folder placed (Whole e next) = turned next.at (fate_of (name_of s e) (folder_of e) name folder placed)
 
 unfoldable pub turn_at : ℕ → List ℕ → ℕ → List ℕ → Bool → Bool → Turn
 turn_at h s at name tree placed = turn_of s name tree placed (decode h at (drop at s))

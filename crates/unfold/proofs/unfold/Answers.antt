@@ -49,8 +49,11 @@ returns-then-has_form c =
     let plain-into = c.plain_into in
     let g = told (λ (k : ℕ). size_gate k 0) longer.ensures sizes.ensures enum_told.is in
     let p = plan_stores args.bytes.now args.x (length args.out.now) g (sym well-formed.ensures ∙ if1.true)
-    (sym has-form.ensures ∙ if2.true) _ plain-len.ensures if3.false in record { answer = sym (answer-stores _ args.out.now _ p _ plain-len.ensures); out = plain-into.ensures ∙ sym
-          (after-stores _ args.out.now _ p (omega (arith, plain-len.ensures, if3.false))) }
+    (sym has-form.ensures ∙ if2.true) _ plain-len.ensures if3.false in record {
+      answer = sym (answer-stores _ args.out.now _ p _ plain-len.ensures);
+      out = plain-into.ensures ∙ sym
+          (after-stores _ args.out.now _ p (omega (arith, plain-len.ensures, if3.false)));
+    }
 
 pub returns-then-well_formed : goal.returns-then-well_formed
 returns-then-well_formed c =
