@@ -2,7 +2,7 @@
 // line. A read or a write that fails is the caller's error.
 #![tactic(auto)]
 
-ghost use Rattle.std.specs.Prelude.{IfOk, ◌≤◌, length};
+ghost use Rattle.std.specs.Prelude.{IfOk, IfSome, ◌≤◌, length};
 
 use ground::{Answer, BOUND, DONE, FINE, Verdict};
 use std::io;
@@ -24,7 +24,9 @@ pub fn read_full(input: &mut impl Read, bytes: &mut [u8]) -> io::Result<usize>
 }
 
 // How many bytes the input has, which are read to the front of the lent ones; none where it has more than those.
-pub fn read_whole(input: &mut impl Read, bytes: &mut [u8]) -> io::Result<Option<usize>> {
+pub fn read_whole(input: &mut impl Read, bytes: &mut [u8]) -> io::Result<Option<usize>>
+    ensures { IfOk result (λ read. IfSome read (λ n. n ≤ length bytes.new)) }
+{
     let mut more = [0u8; 1];
     let n = read_full(input, bytes)?;
     if input.read(&mut more)? != 0 {
