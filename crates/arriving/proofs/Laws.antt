@@ -34,7 +34,7 @@ use Rattle.arriving.specs.declared.Phase.{Phase}
 use Rattle.arriving.specs.declared.Phase.TheVariants.{Head, Name, Id}
 use Rattle.arriving.specs.declared.Marks.{Marks}
 use Rattle.arriving.specs.declared.Check.{Check}
-use Rattle.arriving.specs.Feed.{together, refuse, meet, sharing, name_marks, name_held, longer, is_over, judged, leaves_none, placing, ends_next, next_entry, placed, closed, closed_ends, id_marks, id_ends, body, bodies, head_step, over_in, over, turn_in, byte_step, feed_of, fresh, start_of, head_part, end_in, finish_of, most_held, body_in}
+use Rattle.arriving.specs.Feed.{together, refuse, meet, name_marks, name_held, longer, is_over, judged, leaves_none, placing, ends_next, next_entry, placed, closed, closed_ends, id_marks, id_ends, body, bodies, head_step, over_in, over, turn_in, byte_step, feed_of, fresh, start_of, head_part, end_in, finish_of, most_held, body_in}
 
 -- ---- how a name stands
 

@@ -1,6 +1,6 @@
 -- `piece_first::bodies` meets its contract. Assumes nothing.
 use mathlib.Core.Path.{◌≡◌}
-use Prim.Native.Nat.{◌+◌, ◌-◌, ◌≤◌}
+use Prim.Native.Nat.{◌+◌, ◌≤◌}
 use lib.ListN.{drop}
 use Rattle.arriving.specs.Feed.{together, bodies}
 use Rattle.piece_first.proofs.bodies.Given as goal

@@ -1,6 +1,5 @@
 -- `piece_name::stand_level` meets its contract. Assumes nothing.
 use native.Mathlib.Omega.{arith}
-use mathlib.Core.Path.{◌∙◌}
 use borrow.Author.Tests.{eq-eqb, ne_eqb}
 use Rattle.piece_name.proofs.Names.{level_past, level_met, shares-within}
 use Rattle.piece_name.proofs.stand_level.Goals as goal
