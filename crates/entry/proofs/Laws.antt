@@ -22,6 +22,7 @@ use Rattle.entry.specs.Decode.{broken_at, short_part, record_at, decode, decode_
 use Rattle.entry.specs.declared.EntryRecord.{EntryRecord}
 use Rattle.entry.specs.declared.Cursor.{Cursor}
 use Rattle.std.specs.Prelude.{Err, None, Ok, Option, Some}
+use Rattle.ground.proofs.Pairs.{some_parts, ok_parts}
 
 -- ---- records in flat numbers
 
@@ -118,7 +119,7 @@ unfolding read_mode_at
 mode-moved s at m rest e = go (read_mode (drop at s)) refl e
   where
     go : (r : Option (EntryMode × ℕ)) → read_mode (drop at s) ≡ r → moved at r ≡ Some (m, rest) → (n : ℕ) × (read_mode (drop at s) ≡ Some (m, n)) × (rest ≡ at + n)
-    go (Some (k, n)) q e = let a : k ≡ m = cc in let z : at + n ≡ rest = cc in (n, rw a at q, omega arith)
+    go (Some (k, n)) q e = let w = some_parts e in (n, rw w.0 at q, sym w.1)
     go None q e = let z : ◌≡◌ {A = ℕ} 0 1 = cc in absurd (omega arith)
 
 module _ (s : List ℕ) (h at : ℕ) where
@@ -185,8 +186,9 @@ decode-parts h at b e next d = go (read_mode b) refl d
     last : (m : EntryMode) (n : ℕ) → read_mode b ≡ Some (m, n) → (v : Bool) → leb (count_to 0 (drop n b) + 1 + h) (length (drop n b)) ≡ v
         → pick v (Ok (record_at at m.internal n (count_to 0 (drop n b)), record { at = at + n + (count_to 0 (drop n b) + 1 + h) })) (broken_at at (short_part (length (drop n b) - count_to 0 (drop n b)))) ≡ Ok (e, next) → Parts h at b e next
     last m n q true p d =
-        let r : record_at at m.internal n (count_to 0 (drop n b)) ≡ e = cc in
-        let k : ◌≡◌ {A = Cursor} (record { at = at + n + (count_to 0 (drop n b) + 1 + h) }) next = cc in
+        let both = ok_parts d in
+        let r : record_at at m.internal n (count_to 0 (drop n b)) ≡ e = both.0 in
+        let k : ◌≡◌ {A = Cursor} (record { at = at + n + (count_to 0 (drop n b) + 1 + h) }) next = both.1 in
         let w : m.internal ≡ e.mode = ap (λ (x : EntryRecord). x.mode) r in
         record {
           size = n;

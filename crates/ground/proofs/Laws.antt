@@ -79,7 +79,7 @@ module _ (bytes records : ℕ) where
   unfolding size_gate
   size_open e = go (leb bytes most_bytes) refl (leb records most_records) refl e
     where
-      go : (a : Bool) → leb bytes most_bytes ≡ a → (b : Bool) → leb records most_records ≡ b → pick (a && b) (Ok tt) (Err (verdict 2 0)) ≡ Ok tt
+      go : (a : Bool) → leb bytes most_bytes ≡ a → (b : Bool) → leb records most_records ≡ b → pick (a && b) (Ok (tt {0})) (Err (verdict 2 0)) ≡ Ok tt
           → (bytes ≤ most_bytes) × (records ≤ most_records)
       go true p true q e = (leb-true bytes most_bytes p, leb-true records most_records q)
       go true p false q e = let z : ◌≡◌ {A = ℕ} 0 1 = cc in absurd (omega arith)
@@ -113,7 +113,7 @@ module _ (h bytes records : ℕ) where
   unfolding gate_of size_gate
   gate_shut v e = go (id_length h) (leb bytes most_bytes && leb records most_records) e
     where
-      go : (a b : Bool) → pick a (pick b (Ok tt) (Err (verdict 2 0))) (Err (verdict 1 0)) ≡ Err v → (v ≡ verdict 1 0) ⊎ (v ≡ verdict 2 0)
+      go : (a b : Bool) → pick a (pick b (Ok (tt {0})) (Err (verdict 2 0))) (Err (verdict 1 0)) ≡ Err v → (v ≡ verdict 1 0) ⊎ (v ≡ verdict 2 0)
       go true true e = let z : ◌≡◌ {A = ℕ} 0 1 = cc in absurd (omega arith)
       go true false e = inr (cc)
       go false b e = inl (cc)

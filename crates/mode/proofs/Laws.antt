@@ -20,6 +20,7 @@ use Rattle.mode.specs.declared.EntryMode.{EntryMode}
 pub use Rattle.mode_text.proofs.Laws.{text_six, text-count, text_le, rest_more, rest_end, Parts, mode_le, text-is}
 pub use Rattle.mode_table.proofs.Laws.{row-text-is}
 use Rattle.std.specs.Prelude.{Err, None, Ok, Option, Some}
+use Rattle.ground.proofs.Pairs.{some_parts}
 
 -- ---- masks and tests
 
@@ -93,10 +94,9 @@ module _ (i : List ℕ) (some : length i ≡ 0 → ⊥) (k : ℕ) (e : k ≡ tex
 -- a mode is made from its own bits alone
 made-from : (r : Option (ℕ × ℕ)) (m n : ℕ) → made r ≡ Some (record { internal = m }, n) → r ≡ Some (m, n)
 made-from (Some (v, k)) m n e =
-    let j : ◌≡◌ {A = EntryMode} (record { internal = v }) (record { internal = m }) = cc in
-    let a : v ≡ m = ap (λ (y : EntryMode). y.internal) j in
-    let b : k ≡ n = cc in
-    rw (a, b)
+    let w = some_parts e in
+    let a : v ≡ m = ap (λ (y : EntryMode). y.internal) w.0 in
+    rw (a, w.1)
 made-from None m n e = let z : ◌≡◌ {A = ℕ} 0 1 = cc in absurd (omega arith)
 
 module _ (b : List ℕ) (m n : ℕ) (e : read_mode b ≡ Some (record { internal = m }, n)) where

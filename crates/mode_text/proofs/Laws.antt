@@ -18,6 +18,7 @@ use Rattle.mode_text.specs.Read.{octal_from, has_six, text_len, settle, rest_at,
 use Rattle.mode_text.specs.Write.{six_digits, trimmed, write_mode, short, shown, mode_text}
 use Rattle.mode_text.specs.declared.ShortText.{ShortText}
 use Rattle.std.specs.Prelude.{None, Option, Some}
+use Rattle.ground.proofs.Pairs.{some_parts}
 
 -- ---- octal digits from a place on: a digit, a byte below the digits, one above them, the end
 
@@ -121,7 +122,7 @@ read-parts b m n e = go (ltb 0 (length b)) refl (leb (text_len b) 7) refl (octal
     go : (u : Bool) → ltb 0 (length b) ≡ u → (v : Bool) → leb (text_len b) 7 ≡ v → (o : Option ℕ) → octal_from 0 (take (text_len b) b) ≡ o
         → pick (u && v) (text_of (get_or b 0 0) (rest_at (text_len b) (length b)) o) None ≡ Some (m, n) → Parts b m n
     go true p true q (Some x) r e =
-        record { some = ltb-true _ _ p; few = leb-true _ _ q; sum = x; digits = r; made = cc; rest = cc }
+        let w = some_parts e in record { some = ltb-true _ _ p; few = leb-true _ _ q; sum = x; digits = r; made = w.0; rest = sym w.1 }
     go true p true q None r e = let z : ◌≡◌ {A = ℕ} 0 1 = cc in absurd (omega arith)
     go true p false q o r e = let z : ◌≡◌ {A = ℕ} 0 1 = cc in absurd (omega arith)
     go false p v q o r e = let z : ◌≡◌ {A = ℕ} 0 1 = cc in absurd (omega arith)
