@@ -7,7 +7,7 @@ ghost use Rattle.arriving.specs.Feed.{most_held};
 ghost use Rattle.piece_run.specs.Runs.{going, one_more, all_of};
 
 use arriving::{Last, MOST_HELD};
-use doubles::Placed;
+use doubles::Misplaced;
 use ground::MOST_RECORDS;
 use piece_place::place;
 use piece_seen::seen_at;
@@ -30,33 +30,29 @@ fn one_entry(held: &mut [u8; 4096], ends: &mut [u32; 4097], r: Run, piece: &[u8]
     ensures held { held.new ≡ (one_more piece.now h (going r held.old ends.old)).held }
     ensures ends { ends.new ≡ (one_more piece.now h (going r held.old ends.old)).ends }
 {
-    let i = r.next;
-    let e = seen_at(piece, i, h);
-    let start = e.start;
-    let end = e.end;
-    if end == 0 {
+    let Some(e) = seen_at(piece, r.next, h) else {
         return r;
-    }
-    let last = r.last;
-    match place(held, ends, last, r.ended, &piece[start..end], e.folder) {
-        Placed::Fine(k) => Run {
-            next: end + 1 + h,
+    };
+    match place(
+        held,
+        ends,
+        r.last,
+        r.ended,
+        &piece[e.start..e.end],
+        e.folder,
+    ) {
+        Ok(k) => Run {
+            next: e.end + 1 + h,
             count: r.count + 1,
             last: Last {
-                size: end - start,
+                size: e.end - e.start,
                 folder: e.folder,
             },
             ended: k,
             double: false,
         },
-        Placed::NotAfter => r,
-        Placed::Double => Run {
-            next: i,
-            count: r.count,
-            last,
-            ended: r.ended,
-            double: true,
-        },
+        Err(Misplaced::NotAfter) => r,
+        Err(Misplaced::Double) => Run { double: true, ..r },
     }
 }
 

@@ -9,21 +9,21 @@ loop-left-init c =
     let pre = c.requires in
     walking_start _ _ _ _ _ _ pre.3
 
-pub loop-left-preserved-in-End : goal.loop-left-preserved-in-End
-loop-left-preserved-in-End c =
+pub loop-left-preserved-in-None : goal.loop-left-preserved-in-None
+loop-left-preserved-in-None c =
     let loop = c.loop-left in
     let loop-test = c.loop-left-test in
     let is-tree = c.is_tree-tree in
     let turn_at = c.turn_at in
-    walking_end _ _ _ _ _ _ _ _ _ _ _ _ loop.invariant loop-test.true _ is-tree.ensures _ turn_at.ensures c.in-End.is
+    walking_end _ _ _ _ _ _ _ _ _ _ _ _ loop.invariant loop-test.true _ is-tree.ensures _ turn_at.ensures c.in-None.is
 
-pub loop-left-preserved-in-Drop : goal.loop-left-preserved-in-Drop
-loop-left-preserved-in-Drop c =
+pub loop-left-preserved-in-Some : goal.loop-left-preserved-in-Some
+loop-left-preserved-in-Some c =
     let loop = c.loop-left in
     let loop-test = c.loop-left-test in
     let is-tree = c.is_tree-tree in
     let turn_at = c.turn_at in
-    walking_drop _ _ _ _ _ _ _ _ _ _ _ _ loop.invariant loop-test.true _ is-tree.ensures _ turn_at.ensures _ c.in-Drop.is
+    walking_drop _ _ _ _ _ _ _ _ _ _ _ _ loop.invariant loop-test.true _ is-tree.ensures _ turn_at.ensures _ c.in-Some.is
 
 pub slice_bounds-put-count : goal.slice_bounds-put-count
 slice_bounds-put-count c =
@@ -31,7 +31,7 @@ slice_bounds-put-count c =
     let loop-test = c.loop-left-test in
     let is-tree = c.is_tree-tree in
     let turn_at = c.turn_at in
-    let next2 = c.in-Keep in
+    let next2 = c.in-Some in
     let d = keep_leads _ _ _ _ _ _ _ _ _ _ _ _ loop.invariant loop-test.true _ is-tree.ensures _ turn_at.ensures _ next2.is in
     omega (arith, d.0, d.1)
 
@@ -41,7 +41,7 @@ slice_bounds-put-start c =
     let loop-test = c.loop-left-test in
     let is-tree = c.is_tree-tree in
     let turn_at = c.turn_at in
-    let next2 = c.in-Keep in
+    let next2 = c.in-Some in
     let d = keep_leads _ _ _ _ _ _ _ _ _ _ _ _ loop.invariant loop-test.true _ is-tree.ensures _ turn_at.ensures _ next2.is in
     omega (arith, d.0, d.1)
 
@@ -51,7 +51,7 @@ slice_bounds-put-end c =
     let loop-test = c.loop-left-test in
     let is-tree = c.is_tree-tree in
     let turn_at = c.turn_at in
-    let next2 = c.in-Keep in
+    let next2 = c.in-Some in
     let d = keep_leads _ _ _ _ _ _ _ _ _ _ _ _ loop.invariant loop-test.true _ is-tree.ensures _ turn_at.ensures _ next2.is in
     omega (arith, d.0, d.1)
 
@@ -61,7 +61,7 @@ overflow_sub-used c =
     let loop-test = c.loop-left-test in
     let is-tree = c.is_tree-tree in
     let turn_at = c.turn_at in
-    let next2 = c.in-Keep in
+    let next2 = c.in-Some in
     let d = keep_leads _ _ _ _ _ _ _ _ _ _ _ _ loop.invariant loop-test.true _ is-tree.ensures _ turn_at.ensures _ next2.is in
     omega (arith, d.0, d.1)
 
@@ -71,7 +71,7 @@ overflow_add-used c =
     let loop-test = c.loop-left-test in
     let is-tree = c.is_tree-tree in
     let turn_at = c.turn_at in
-    let next2 = c.in-Keep in
+    let next2 = c.in-Some in
     let pre = c.requires in
     let inv = loop.invariant in
     let d = keep_leads _ _ _ _ _ _ _ _ _ _ _ _ loop.invariant loop-test.true _ is-tree.ensures _ turn_at.ensures _ next2.is in
@@ -83,13 +83,13 @@ overflow_add-kept c =
     let inv = loop.invariant in
     omega (arith, inv.few, inv.fewer)
 
-pub loop-left-preserved-in-Keep : goal.loop-left-preserved-in-Keep
-loop-left-preserved-in-Keep c =
+pub loop-left-preserved-in-Some : goal.loop-left-preserved-in-Some
+loop-left-preserved-in-Some c =
     let loop = c.loop-left in
     let turn_at = c.turn_at in
     let is-tree = c.is_tree-tree in
     let loop-test = c.loop-left-test in
-    let next2 = c.in-Keep in
+    let next2 = c.in-Some in
     let pre = c.requires in
     let put = c.put in
     let taken = loop-test.true in
@@ -104,61 +104,61 @@ put_new-from-requires c =
     let inv = loop.invariant in
     (pre.0, pre.1, omega (arith, inv.small, inv.few))
 
-pub slice_bounds-put-count-in-First : goal.slice_bounds-put-count-in-First
-slice_bounds-put-count-in-First c =
+pub slice_bounds-put-count-in-Some : goal.slice_bounds-put-count-in-Some
+slice_bounds-put-count-in-Some c =
     let loop = c.loop-left in
     let loop-test = c.loop-left-test in
     let is-tree = c.is_tree-tree in
     let turn_at = c.turn_at in
-    let next3 = c.in-First in
+    let next3 = c.in-Some in
     let d = first_leads _ _ _ _ _ _ _ _ _ _ _ _ loop.invariant loop-test.true _ is-tree.ensures _ turn_at.ensures _ next3.is in
     omega (arith, d.0, d.1)
 
-pub slice_bounds-put-start-in-First : goal.slice_bounds-put-start-in-First
-slice_bounds-put-start-in-First c =
+pub slice_bounds-put-start-in-Some : goal.slice_bounds-put-start-in-Some
+slice_bounds-put-start-in-Some c =
     let loop = c.loop-left in
     let loop-test = c.loop-left-test in
     let is-tree = c.is_tree-tree in
     let turn_at = c.turn_at in
-    let next3 = c.in-First in
+    let next3 = c.in-Some in
     let d = first_leads _ _ _ _ _ _ _ _ _ _ _ _ loop.invariant loop-test.true _ is-tree.ensures _ turn_at.ensures _ next3.is in
     omega (arith, d.0, d.1)
 
-pub slice_bounds-put-end-in-First : goal.slice_bounds-put-end-in-First
-slice_bounds-put-end-in-First c =
+pub slice_bounds-put-end-in-Some : goal.slice_bounds-put-end-in-Some
+slice_bounds-put-end-in-Some c =
     let loop = c.loop-left in
     let loop-test = c.loop-left-test in
     let is-tree = c.is_tree-tree in
     let turn_at = c.turn_at in
-    let next3 = c.in-First in
+    let next3 = c.in-Some in
     let d = first_leads _ _ _ _ _ _ _ _ _ _ _ _ loop.invariant loop-test.true _ is-tree.ensures _ turn_at.ensures _ next3.is in
     omega (arith, d.0, d.1)
 
-pub overflow_sub-used-in-First : goal.overflow_sub-used-in-First
-overflow_sub-used-in-First c =
+pub overflow_sub-used-in-Some : goal.overflow_sub-used-in-Some
+overflow_sub-used-in-Some c =
     let loop = c.loop-left in
     let loop-test = c.loop-left-test in
     let is-tree = c.is_tree-tree in
     let turn_at = c.turn_at in
-    let next3 = c.in-First in
+    let next3 = c.in-Some in
     let d = first_leads _ _ _ _ _ _ _ _ _ _ _ _ loop.invariant loop-test.true _ is-tree.ensures _ turn_at.ensures _ next3.is in
     omega (arith, d.0, d.1)
 
-pub overflow_add-used-in-First : goal.overflow_add-used-in-First
-overflow_add-used-in-First c =
+pub overflow_add-used-in-Some : goal.overflow_add-used-in-Some
+overflow_add-used-in-Some c =
     let pre = c.requires in
     let is-tree = c.is_tree-tree in
     let loop = c.loop-left in
     let loop-test = c.loop-left-test in
     let turn_at = c.turn_at in
-    let next3 = c.in-First in
+    let next3 = c.in-Some in
     let put-new = c.put_new-from in
     let inv = loop.invariant in
     let d = first_leads _ _ _ _ _ _ _ _ _ _ _ _ loop.invariant loop-test.true _ is-tree.ensures _ turn_at.ensures _ next3.is in
     omega (arith, d.0, d.1, put-new.ensures.next.1, inv.small, inv.few, inv.fewer, pre.2)
 
-pub overflow_add-kept-in-First : goal.overflow_add-kept-in-First
-overflow_add-kept-in-First c =
+pub overflow_add-kept-in-Some : goal.overflow_add-kept-in-Some
+overflow_add-kept-in-Some c =
     let loop = c.loop-left in
     let inv = loop.invariant in
     omega (arith, inv.few, inv.fewer)
@@ -170,9 +170,9 @@ loop-left-preserved c =
     let loop = c.loop-left in
     let loop-test = c.loop-left-test in
     let turn_at = c.turn_at in
-    let next3 = c.in-First in
+    let next3 = c.in-Some in
     let put-new = c.put_new-from in
-    let put2 = c.put-in-First in
+    let put2 = c.put-in-Some in
     let taken = loop-test.true in
     let next = next3.is in
     let put = put2 in

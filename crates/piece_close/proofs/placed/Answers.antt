@@ -1,21 +1,22 @@
 -- `piece_close::placed` meets its contract. Assumes nothing.
+use mathlib.Core.Path.{ap, ◌∙◌}
+use Rattle.std.specs.Prelude.{Err}
 use Rattle.piece_close.proofs.Laws.{placed-fine, placed_double, placed-not}
 use Rattle.piece_close.proofs.placed.Goals as goal
 
-pub returns-in-Fine : goal.returns-in-Fine
-returns-in-Fine c =
-    let args = c.args in
-    let p = c.in-Fine in
-    placed-fine args.m args.at args.l args.p _ p.is c.next_entry.ensures
+pub returns-in-Ok : goal.returns-in-Ok
+returns-in-Ok c =
+    let x = c.args in
+    placed-fine x.m x.at x.l x.p _ c.in-Ok.is c.next_entry.ensures
 
-pub returns-in-Double : goal.returns-in-Double
-returns-in-Double c =
-    let args = c.args in
-    let enum_told = c.in-Double in
-    placed_double args.m args.at args.l args.p enum_told.is c.refused.ensures
+pub returns-in-Err-Double : goal.returns-in-Err-Double
+returns-in-Err-Double c =
+    let x = c.args in
+    let e = c.in-Err-Double in
+    placed_double x.m x.at x.l x.p (e.is ∙ ap Err e.field-0-is) c.refused.ensures
 
-pub returns-in-NotAfter : goal.returns-in-NotAfter
-returns-in-NotAfter c =
-    let args = c.args in
-    let enum-told2 = c.in-NotAfter in
-    placed-not args.m args.at args.l args.p enum-told2.is c.refused-in-NotAfter.ensures
+pub returns-in-Err-NotAfter : goal.returns-in-Err-NotAfter
+returns-in-Err-NotAfter c =
+    let x = c.args in
+    let e = c.in-Err-NotAfter in
+    placed-not x.m x.at x.l x.p (e.is ∙ ap Err e.field-0-is) c.refused-in-Err-NotAfter.ensures
