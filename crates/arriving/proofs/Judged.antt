@@ -29,7 +29,8 @@ use Rattle.arriving.specs.declared.Line.{Line}
 use Rattle.arriving.proofs.Level.{stand_order, by_stand}
 use Rattle.arriving.proofs.Runs.{stored_past, line_of}
 use Rattle.doubles.specs.declared.Misplaced.TheVariants.{Double}
-use Rattle.std.specs.Prelude.{Err, Ok}
+use Rattle.std.specs.Prelude.{Err, Ok, Result}
+use Rattle.doubles.specs.declared.Misplaced.{Misplaced}
 
 -- the held name is that of the entry before, if there is one; else it is empty and no folder's
 abbrev pub Holds : List ℕ → Last → List Entry → Type 0
@@ -172,7 +173,7 @@ module _ (ends : List ℕ) (ended : ℕ) (last : Last) (e : Entry) (long : lengt
       let m : min ended (length ends) ≡ 0 = omega arith in
       record { n = 0; answer = rw (m, p, q) (same folder); tracks = rw (m, p, q) (tracks_first ends e) }
     where
-      same : (v : Bool) → pick (v && false) (Err Double) (Ok 0) ≡ Ok 0
+      same : (v : Bool) → pick {A = Result ℕ Misplaced} (v && false) (Err Double) (Ok 0) ≡ Ok 0
       same true = refl
       same false = refl
 

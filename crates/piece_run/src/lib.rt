@@ -49,13 +49,15 @@ fn one_entry(held: &mut [u8; 4096], ends: &mut [u32; 4097], r: Run, piece: &[u8]
             ended: k,
             double: false,
         },
-        Err(Misplaced::NotAfter) => r,
-        Err(Misplaced::Double) => Run {
-            next: i,
-            count: r.count,
-            last,
-            ended: r.ended,
-            double: true,
+        Err(why) => match why {
+            Misplaced::NotAfter => r,
+            Misplaced::Double => Run {
+                next: i,
+                count: r.count,
+                last,
+                ended: r.ended,
+                double: true,
+            },
         },
     }
 }

@@ -23,7 +23,7 @@ use Rattle.rules.specs.Rules.{is_text, group_row, modes_of, permitted, name_numb
 use Rattle.rules.specs.Gate.{rule_gate}
 use Rattle.rules.specs.Code.{is_group}
 pub use Rattle.names.proofs.Laws.{name-empty, number-bad, number-slash, number-slashless}
-use Rattle.std.specs.Prelude.{Err, None, Ok, Some}
+use Rattle.std.specs.Prelude.{Err, None, Ok, Some, Result, ⊤}
 
 -- ---- a mode text
 
@@ -126,7 +126,7 @@ module _ (k h bytes records : ℕ) (other : is_set k ≡ false) where
   unfolding rule_gate gate_of
   rule_other e = rw other (go (id_length h) e)
     where
-      go : (v : Bool) → pick v (size_gate 0 0) (Err (verdict 1 0)) ≡ Ok tt → pick v (Err (verdict 19 0)) (Err (verdict 1 0)) ≡ Err (verdict 19 0)
+      go : (v : Bool) → pick v (size_gate 0 0) (Err (verdict 1 0)) ≡ Ok tt → pick {A = Result ⊤ Verdict} v (Err (verdict 19 0)) (Err (verdict 1 0)) ≡ Err (verdict 19 0)
       go true e = refl
       go false e = let z : ◌≡◌ {A = ℕ} 0 1 = cc in absurd (omega arith)
 
@@ -134,7 +134,7 @@ module _ (k h bytes records : ℕ) (other : is_set k ≡ false) where
   unfolding rule_gate gate_of size_gate
   rule_id v e = rw other (go (id_length h) e)
     where
-      go : (b : Bool) → pick b (Ok tt) (Err (verdict 1 0)) ≡ Err v → pick b (Err (verdict 19 0)) (Err (verdict 1 0)) ≡ Err v
+      go : (b : Bool) → pick {A = Result ⊤ Verdict} b (Ok tt) (Err (verdict 1 0)) ≡ Err v → pick {A = Result ⊤ Verdict} b (Err (verdict 19 0)) (Err (verdict 1 0)) ≡ Err v
       go true e = let z : ◌≡◌ {A = ℕ} 0 1 = cc in absurd (omega arith)
       go false e = e
 
@@ -144,7 +144,7 @@ pub rule_shut : (P : Verdict → Type 0) → P (verdict 1 0) → P (verdict 19 0
 unfolding rule_gate size_gate
 rule_shut P one nineteen two k h bytes records v e = go (id_length h) (is_set k) (leb bytes most_bytes && leb records most_records) e
   where
-    go : (a b c : Bool) → pick a (pick b (pick c (Ok tt) (Err (verdict 2 0))) (Err (verdict 19 0))) (Err (verdict 1 0)) ≡ Err v → P v
+    go : (a b c : Bool) → pick {A = Result ⊤ Verdict} a (pick b (pick c (Ok tt) (Err (verdict 2 0))) (Err (verdict 19 0))) (Err (verdict 1 0)) ≡ Err v → P v
     go false b c e = let y : verdict 1 0 ≡ v = cc in rw y at one
     go true false c e = let y : verdict 19 0 ≡ v = cc in rw y at nineteen
     go true true false e = let y : verdict 2 0 ≡ v = cc in rw y at two

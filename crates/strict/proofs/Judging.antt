@@ -110,8 +110,8 @@ pub seen-kept : (k : ℕ) (s : List ℕ) (at : ℕ) (d : Result (EntryRecord × 
     → (d ≡ Ok (e, next)) × (0 ≡ entry_no k s at e)
 seen-kept k s at (Ok (a, b)) e next q = go (eqb (entry_no k s at a) 0) refl q
   where
-    go : (v : Bool) → eqb (entry_no k s at a) 0 ≡ v → pick v (Ok (a, b)) (Err (verdict (entry_no k s at a) at)) ≡ Ok (e, next)
-        → (Ok (a, b) ≡ Ok (e, next)) × (0 ≡ entry_no k s at e)
+    go : (v : Bool) → eqb (entry_no k s at a) 0 ≡ v → pick {A = Result (EntryRecord × Cursor) Verdict} v (Ok (a, b)) (Err (verdict (entry_no k s at a) at)) ≡ Ok (e, next)
+        → (◌≡◌ {A = Result (EntryRecord × Cursor) Verdict} (Ok (a, b)) (Ok (e, next))) × (0 ≡ entry_no k s at e)
     go true p q =
         let x : a ≡ e = cc in
         let y : b ≡ next = cc in

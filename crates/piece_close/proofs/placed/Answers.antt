@@ -1,4 +1,9 @@
 -- `piece_close::placed` meets its contract. Assumes nothing.
+use Prim.Native.Nat.{ℕ}
+use mathlib.Core.Path.{◌≡◌, ap, ◌∙◌}
+use Rattle.std.specs.Prelude.{Result, Err}
+use Rattle.doubles.specs.declared.Misplaced.{Misplaced}
+use Rattle.doubles.specs.declared.Misplaced.TheVariants.{Double, NotAfter}
 use Rattle.piece_close.proofs.Laws.{placed-fine, placed_double, placed-not}
 use Rattle.piece_close.proofs.placed.Goals as goal
 
@@ -8,14 +13,14 @@ returns-in-Ok c =
     let p = c.in-Ok in
     placed-fine args.m args.at args.l args.p _ p.is c.next_entry.ensures
 
-pub returns-in-Err : goal.returns-in-Err
-returns-in-Err c =
+pub returns-in-Double : goal.returns-in-Double
+returns-in-Double c =
     let args = c.args in
-    let enum_told = c.in-Err in
-    placed_double args.m args.at args.l args.p enum_told.is c.refused.ensures
+    let is = c.in-Err.is ∙ ap (λ (x : Misplaced). Err x) c.in-Double.is in
+    placed_double args.m args.at args.l args.p is c.refused.ensures
 
-pub returns-in-Err : goal.returns-in-Err
-returns-in-Err c =
+pub returns-in-NotAfter : goal.returns-in-NotAfter
+returns-in-NotAfter c =
     let args = c.args in
-    let enum-told2 = c.in-Err in
-    placed-not args.m args.at args.l args.p enum-told2.is c.refused-in-Err.ensures
+    let is = c.in-Err.is ∙ ap (λ (x : Misplaced). Err x) c.in-NotAfter.is in
+    placed-not args.m args.at args.l args.p is c.refused-in-NotAfter.ensures

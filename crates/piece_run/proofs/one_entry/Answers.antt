@@ -1,5 +1,8 @@
 -- `piece_run::one_entry` meets its contract. Assumes nothing.
+use mathlib.Core.Path.{ap, ◌∙◌}
 use native.Mathlib.Omega.{arith}
+use Rattle.std.specs.Prelude.{Err}
+use Rattle.doubles.specs.declared.Misplaced.{Misplaced}
 use Rattle.piece_run.proofs.Runs.{seen-inside, more-none, more-fine, more-not, more_double}
 use Rattle.piece_run.proofs.one_entry.Goals as goal
 
@@ -63,22 +66,22 @@ returns-in-Ok c =
     place.result _ _ (c.place.ensures.placed, (c.place.ensures.ends, c.place.ensures.held)) k.k k.is) in
     record { run = r.0; held = r.1.0; ends = r.1.1 }
 
-pub returns-in-Err : goal.returns-in-Err
-returns-in-Err c =
+pub returns-in-NotAfter : goal.returns-in-NotAfter
+returns-in-NotAfter c =
     let r = (let args = c.args in
     let seen_at = c.seen_at-e in
     let if1 = c.if-end-eq0 in
     let place = c.place in
     more-not args.piece.now args.h args.r args.held.now args.ends.now seen_at.result seen_at.ensures if1.false
-    place.result _ _ (c.place.ensures.placed, (c.place.ensures.ends, c.place.ensures.held)) c.in-Err.is) in
+    place.result _ _ (c.place.ensures.placed, (c.place.ensures.ends, c.place.ensures.held)) (c.in-Err.is ∙ ap (λ (m : Misplaced). Err m) c.in-NotAfter.is)) in
     record { run = r.0; held = r.1.0; ends = r.1.1 }
 
-pub returns-in-Err : goal.returns-in-Err
-returns-in-Err c =
+pub returns-in-Double : goal.returns-in-Double
+returns-in-Double c =
     let r = (let args = c.args in
     let seen_at = c.seen_at-e in
     let if1 = c.if-end-eq0 in
     let place = c.place in
     more_double args.piece.now args.h args.r args.held.now args.ends.now seen_at.result seen_at.ensures if1.false
-    place.result _ _ (c.place.ensures.placed, (c.place.ensures.ends, c.place.ensures.held)) c.in-Err.is) in
+    place.result _ _ (c.place.ensures.placed, (c.place.ensures.ends, c.place.ensures.held)) (c.in-Err.is ∙ ap (λ (m : Misplaced). Err m) c.in-Double.is)) in
     record { run = r.0; held = r.1.0; ends = r.1.1 }
