@@ -1,4 +1,4 @@
--- Runs of stores, a copy within one list, and a path that is stored. Assumes nothing.
+-- Runs of stores, and a path that is stored. Assumes nothing.
 use Prim.Native.Nat.{ℕ, suc, ◌+◌, ◌*◌, ◌/◌, ◌≤◌, ◌<◌}
 use mathlib.Core.Bool.{Bool, true, false, ◌&&◌}
 use mathlib.Core.Path.{◌≡◌, ap, sym, ◌∙◌}
@@ -47,13 +47,6 @@ module _ (l : List ℕ) (n start end : ℕ) (c : Change) where
   pub numbers-room : (m : List ℕ) → m ≡ put_numbers l n start end c → 6 * (n + 1) ≤ length l → m ≡ sets l (6 * n) (numbers_at start end c)
   unfolding put_numbers
   numbers-room m e h = let f : n < length l / 6 = omega arith in e ∙ rw (lt-ltb _ _ f)
-
--- ---- a copy within one list, from before its place
-
-pub get_d_paste : (d : List ℕ) (at : ℕ) (s : List ℕ) (n i : ℕ) → i < at → at ≤ length d → get_or (paste d at s n) i 0 ≡ get_or d i 0
-get_d_paste d at s n i h g =
-    let l : i < length (take at d) = omega (arith, length-take-le at d g) in
-    rw (append_assoc) (get_or-append (take at d) (take n s ++ drop (at + n) d) 0 i l) ∙ get_or-take at d i 0 h
 
 -- ---- room for a folder's path and a slash
 

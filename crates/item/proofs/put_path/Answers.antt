@@ -17,8 +17,8 @@ returns-then-has_room c =
     let a = c.args in
     let all : a.ps + a.pl - a.ps ≡ a.pl = omega arith in
     c.put-then-has_room.ensures
-        ∙ path_full a.paths.now a.m a.ps a.pl a.name.now c.if-pl-eq0.false c.has_room.result c.has_room.ensures c.if-has_room.true _
-        (c.copy_within.ensures.after ∙ ap (λ (k : ℕ). paste a.paths.now a.m (drop a.ps a.paths.now) k) all)
+    ∙ path_full a.paths.now a.m a.ps a.pl a.name.now c.if-pl-eq0.false c.has_room.result c.has_room.ensures c.if-has_room.true _
+    (c.copy_within.ensures.after ∙ ap (λ (k : ℕ). paste a.paths.now a.m (drop a.ps a.paths.now) k) all)
 
 pub returns-else-has_room : goal.returns-else-has_room
 returns-else-has_room c =
