@@ -6,8 +6,7 @@ ghost use Rattle.bundle.specs.Bundle.{check_of};
 ghost use Rattle.border_bundle.specs.Border.{object_asked, checked_numbers, object_numbers};
 
 use finding::find_object;
-use frame::Placed;
-use ground::{FINE, Gate, NOT_THERE, Verdict, longer, sizes};
+use ground::{FINE, NOT_THERE, Verdict, longer, sizes};
 
 // An object of a bundle: its kind, and where its bytes begin and end; zeros on a refusal.
 #[derive(Clone, Copy)]
@@ -39,14 +38,14 @@ pub fn object_of(bytes: &[u8], id: &[u8]) -> Object
     ensures { result ≡ object_asked bytes.now id.now }
 {
     match sizes(longer(bytes.len(), id.len()), 0) {
-        Gate::Shut(v) => Object {
+        Err(v) => Object {
             verdict: v,
             kind: 0,
             start: 0,
             end: 0,
         },
-        Gate::Open => match find_object(bytes, id) {
-            Placed::Absent => Object {
+        Ok(()) => match find_object(bytes, id) {
+            None => Object {
                 verdict: Verdict {
                     number: NOT_THERE,
                     ..FINE
@@ -55,7 +54,7 @@ pub fn object_of(bytes: &[u8], id: &[u8]) -> Object
                 start: 0,
                 end: 0,
             },
-            Placed::At(f) => Object {
+            Some(f) => Object {
                 verdict: FINE,
                 kind: f.kind,
                 start: f.start,

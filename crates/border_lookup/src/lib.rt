@@ -15,7 +15,7 @@ pub fn name_order(a: &[u8], atree: bool, b: &[u8], btree: bool) -> i8
     ensures { result ≡ order_number (name_order a.now atree b.now btree) }
 {
     let o = order::name_order(a, atree, b, btree);
-    o.number()
+    order::order_number(o)
 }
 
 // Hands over the answer of a lookup, and returns its number.

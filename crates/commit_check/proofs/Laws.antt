@@ -14,8 +14,6 @@ use Rattle.ground.specs.Basics.{pick}
 use Rattle.ground.specs.Verdict.{verdict, fine, gate_of}
 use Rattle.ground.proofs.Laws.{and_left, and_right, gate_open, gate_fine}
 use Rattle.ground.specs.declared.Verdict.{Verdict}
-use Rattle.ground.specs.declared.Gate.{Gate}
-use Rattle.ground.specs.declared.Gate.TheVariants.{Open, Shut}
 use Rattle.hex_digits.specs.Hex.{is_hex}
 use Rattle.extra_header.specs.Extra.{folded_form}
 use Rattle.header.specs.Record.{width, header_at, well_formed, header_value}
@@ -28,6 +26,7 @@ use Rattle.unfold.proofs.Laws.{form-any, form_folded}
 use Rattle.grammar.specs.Named.{id_named, records_from}
 use Rattle.commit_check.specs.Sound.{Sound}
 use Rattle.commit_check.specs.Check.{headers_of, ranged, id_fits, encoding_fits, header_fits, tests, late_tests, last_tests, passing, judged, after, checked}
+use Rattle.std.specs.Prelude.{Err, Ok, Result, ⊤}
 
 -- ---- one record
 
@@ -274,15 +273,15 @@ module _ (h : ℕ) (bytes : List ℕ) (p : CommitParts) (parents headers : List 
   -- ---- behind the gate
 
   module _ (room longest most : ℕ) (e : longest ≡ max (length bytes) room) (f : most ≡ max (length parents) (length headers / width)) where
-    pub checked-shut : (v : Verdict) → gate_of h longest most ≡ Shut v → checked h bytes p parents headers room ≡ v
+    pub checked-shut : (v : Verdict) → gate_of h longest most ≡ Err v → checked h bytes p parents headers room ≡ v
     unfolding checked after
     checked-shut v g = rw (← e, ← f, g)
 
-    pub checked_open : gate_of h longest most ≡ Open → checked h bytes p parents headers room ≡ judged row
+    pub checked_open : gate_of h longest most ≡ Ok tt → checked h bytes p parents headers room ≡ judged row
     unfolding checked after
     checked_open g = rw (← e, ← f, g)
 
-    module _ (g : gate_of h longest most ≡ Open) (k : ℕ) (q : k ≡ passing row) where
+    module _ (g : gate_of h longest most ≡ Ok tt) (k : ℕ) (q : k ≡ passing row) where
       pub checked-stop : k < length parents + 5 + length headers / width → checked h bytes p parents headers room ≡ verdict 10 k
       checked-stop l = checked_open g ∙ judged-stop row k q (rw row-length l)
 
@@ -304,7 +303,7 @@ pass_both (t ∷ a) b e =
 
 module _ (h : ℕ) (bytes : List ℕ) (p : CommitParts) (parents headers : List ℕ) (room : ℕ) where
   -- the gate was open, and every record passes
-  passed : gate_of h (max (length bytes) room) (max (length parents) (length headers / width)) ≡ Open → passing (row h bytes p parents headers) ≡ length (row h bytes p parents headers)
+  passed : gate_of h (max (length bytes) room) (max (length parents) (length headers / width)) ≡ Ok tt → passing (row h bytes p parents headers) ≡ length (row h bytes p parents headers)
       → Sound h bytes p parents headers room
   passed g e =
       let o = gate_open h (max (length bytes) room) (max (length parents) (length headers / width)) g in
@@ -341,10 +340,10 @@ module _ (h : ℕ) (bytes : List ℕ) (p : CommitParts) (parents headers : List 
       most : ℕ
       most = max (length parents) (length headers / width)
 
-      go : (g : Gate) → gate_of h longest most ≡ g → Sound h bytes p parents headers room
-      go Open e =
+      go : (g : Result ⊤ Verdict) → gate_of h longest most ≡ g → Sound h bytes p parents headers room
+      go (Ok tt) e =
           passed e (judged-passes (row h bytes p parents headers) (ap (λ (v : Verdict). v.number) (sym (checked_open h bytes p parents headers room longest most refl refl e)) ∙ z))
-      go (Shut v) e = absurd (shut-refuses h longest most v e (ap (λ (u : Verdict). u.number) (sym (checked-shut h bytes p parents headers room longest most refl refl v e)) ∙ z))
+      go (Err v) e = absurd (shut-refuses h longest most v e (ap (λ (u : Verdict). u.number) (sym (checked-shut h bytes p parents headers room longest most refl refl v e)) ∙ z))
 
 -- and such a commit is not refused
 pub sound-checked : (h : ℕ) (bytes : List ℕ) (p : CommitParts) (parents headers : List ℕ) (room : ℕ) → Sound h bytes p parents headers room

@@ -7,7 +7,7 @@ ghost use Rattle.header.specs.Record.{width};
 ghost use Rattle.commit_check.specs.Check.{headers_of, ranged, id_fits, encoding_fits, header_fits, tests, late_tests, last_tests, passing, checked};
 
 use extra_header::is_folded;
-use ground::{BAD_RECORD, FINE, Gate, Verdict, bounds, longer};
+use ground::{BAD_RECORD, FINE, Verdict, bounds, longer};
 use header::{CommitParts, HEADER_WIDTH, HeaderRecord, header_at, well_formed};
 use hex_digits::is_hex;
 
@@ -165,8 +165,8 @@ pub fn check_commit(
     let n = parents.len();
     let m = headers.len() / HEADER_WIDTH;
     match bounds(h, longer(bytes.len(), room), longer(n, m)) {
-        Gate::Shut(v) => v,
-        Gate::Open => {
+        Err(v) => v,
+        Ok(()) => {
             let k = count_all(bytes, h, parts, parents, headers);
             if k < n + 5 + m {
                 return Verdict {

@@ -8,13 +8,6 @@ use ground::byte_at;
 use hex_digits::is_hex;
 use scan::{find_byte, same_bytes};
 
-// A line's value, from its first byte to its LF; or that there is no such line.
-#[derive(Clone, Copy)]
-pub enum Line {
-    Value(usize, usize),
-    Missing,
-}
-
 // Whether a word and one space stand at a place.
 fn word_at(s: &[u8], at: usize, word: &[u8]) -> bool
     ensures { result ≡ word_at word.now s.now at }
@@ -61,16 +54,16 @@ pub fn id_line(s: &[u8], at: usize, word: &[u8], h: usize) -> bool
 }
 
 // The line at a place: the word, a space, and the value up to LF.
-pub fn value_line(s: &[u8], at: usize, word: &[u8]) -> Line
+pub fn value_line(s: &[u8], at: usize, word: &[u8]) -> Option<(usize, usize)>
     ensures { result ≡ line_at word.now s.now at }
 {
     if word_at(s, at, word) {
         let from = at + word.len() + 1;
         let lf = find_byte(s, from, b'\n');
         if lf < s.len() {
-            return Line::Value(from, lf);
+            return Some((from, lf));
         }
-        return Line::Missing;
+        return None;
     }
-    Line::Missing
+    None
 }

@@ -11,10 +11,10 @@ use lib.Seq.{drop-cons, take-add, take-take, get_or-take}
 use Rattle.scan.specs.Word.{word, Bytes, WordOf}
 use Rattle.scan.proofs.Word.{part_length}
 use Rattle.order.specs.Order.{by_number, opposite, next, name_order}
-use Rattle.order.specs.declared.Order.{Order}
-use Rattle.order.specs.declared.Order.TheVariants.{Below, Same, Above}
 use Rattle.order.proofs.Laws.{by_lt, by_gt, by-eq, order_flip}
 use Rattle.compare.specs.Told.{turned, Within, Ready, Told}
+use Rattle.std.specs.declared.cmp.Ordering.{Ordering}
+use Rattle.std.specs.declared.cmp.Ordering.TheVariants.{Equal, Greater, Less}
 
 -- ---- bytes turned round
 
@@ -46,7 +46,7 @@ turned_front k b bs h =
 
 -- the lists that two words are made of stand as the words do, turned round
 word_below : (k : ℕ) (bs cs p q : List ℕ) (s t : Bool) → length bs ≡ length cs → length bs ≤ k → Bytes bs → Bytes cs
-    → turned k (word bs) < turned k (word cs) → name_order (bs ++ p) s (cs ++ q) t ≡ Below
+    → turned k (word bs) < turned k (word cs) → name_order (bs ++ p) s (cs ++ q) t ≡ Less
 unfolding Bytes name_order
 word_below k [] [] p q s t n l u v h = absurd (omega arith)
 word_below k [] (c ∷ cs) p q s t n l u v h = absurd (omega arith)
@@ -114,18 +114,18 @@ module _ (a b : List ℕ) (i k u v : ℕ) (r : Ready a b i k) (l : k ≤ 8) (p :
       (ap (turned 8) (sym p.value) ∙ e ∙ ap (turned 8) q.value)
 
   -- equal words: the names agree past them
-  pub words_same : u ≡ v → Told a b (i + k) Same
+  pub words_same : u ≡ v → Told a b (i + k) Equal
   unfolding Told
   words_same e = rw (take-add i k a, take-add i k b, r.1, same-list (ap (turned 8) e))
 
   -- the lesser word, turned round, is of the name that is below
-  word_order : turned 8 u < turned 8 v → (s t : Bool) → name_order a s b t ≡ Below
+  word_order : turned 8 u < turned 8 v → (s t : Bool) → name_order a s b t ≡ Less
   word_order h s t =
       let w = word_below 8 (take k (drop i a)) (take k (drop i b)) (drop k (drop i a)) (drop k (drop i b)) s t (left-length ∙ sym right-length)
       (omega (arith, left-length)) p.bytes q.bytes (rw (← p.value, ← q.value) h) in
       past i a b s t (omega (arith, r.0.0)) (omega (arith, r.0.1)) r.1 ∙ (rw (take-append-drop k (drop i a), take-append-drop k (drop i b)) at w)
 
-  pub words_below : {x y : ℕ} → x ≡ turned 8 u → y ≡ turned 8 v → x < y → Told a b (i + k) Below
+  pub words_below : {x y : ℕ} → x ≡ turned 8 u → y ≡ turned 8 v → x < y → Told a b (i + k) Less
   unfolding Told
   words_below f g h = word_order (rw (← f, ← g) h)
 
@@ -135,7 +135,7 @@ module _ (a b : List ℕ) (i k u v : ℕ) (r : Ready a b i k) (l : k ≤ 8) (p :
 
 -- the greater word is of the name that is above
 pub words_above : (a b : List ℕ) (i k u v : ℕ) → Ready a b i k → k ≤ 8 → WordOf (take k (drop i a)) u → WordOf (take k (drop i b)) v
-    → {x y : ℕ} → x ≡ turned 8 u → y ≡ turned 8 v → (u ≡ v → ⊥) → y ≤ x → Told a b (i + k) Above
+    → {x y : ℕ} → x ≡ turned 8 u → y ≡ turned 8 v → (u ≡ v → ⊥) → y ≤ x → Told a b (i + k) Greater
 unfolding Told
 words_above a b i k u v r l p q {x} {y} f g d h s t =
     elim (dec_lt y x) [
@@ -147,27 +147,27 @@ words_above a b i k u v r l p q {x} {y} f g d h s t =
 
 -- ---- what is told, passed on
 
-module _ (a b : List ℕ) (j : ℕ) {r : Order} (t : Told a b j r) where
-  pub told_below : (k : ℕ) → r ≡ Below → Told a b k Below
+module _ (a b : List ℕ) (j : ℕ) {r : Ordering} (t : Told a b j r) where
+  pub told_below : (k : ℕ) → r ≡ Less → Told a b k Less
   unfolding Told
   told_below k e = subst (Told a b j) e t
 
-  pub told_above : (k : ℕ) → r ≡ Above → Told a b k Above
+  pub told_above : (k : ℕ) → r ≡ Greater → Told a b k Greater
   unfolding Told
   told_above k e = subst (Told a b j) e t
 
-  pub told_same : r ≡ Same → take j a ≡ take j b
+  pub told_same : r ≡ Equal → take j a ≡ take j b
   unfolding Told
   told_same e = subst (Told a b j) e t
 
 -- names that do not agree in so many bytes are told by these, however many there are
-pub told_differ : (a b : List ℕ) (j n : ℕ) (r : Order) → Told a b j r → (take j a ≡ take j b → ⊥) → Told a b n r
+pub told_differ : (a b : List ℕ) (j n : ℕ) (r : Ordering) → Told a b j r → (take j a ≡ take j b → ⊥) → Told a b n r
 unfolding Told
-told_differ a b j n Below t d = t
-told_differ a b j n Same t d = absurd (d t)
-told_differ a b j n Above t d = t
+told_differ a b j n Less t d = t
+told_differ a b j n Equal t d = absurd (d t)
+told_differ a b j n Greater t d = t
 
-pub told_at : (a b : List ℕ) (j k : ℕ) (r : Order) → j ≡ k → Told a b j r → Told a b k r
+pub told_at : (a b : List ℕ) (j k : ℕ) (r : Ordering) → j ≡ k → Told a b j r → Told a b k r
 told_at a b j k r e t = subst (λ (x : ℕ). Told a b x r) e t
 
 -- the names go on after what agrees, or at a place before
@@ -183,11 +183,11 @@ module _ (a b : List ℕ) (i : ℕ) (h : i < length a) (k : i < length b) (e : t
   by_front : (s t : Bool) → name_order a s b t ≡ name_order (get_or a i 0 ∷ drop (suc i) a) s (get_or b i 0 ∷ drop (suc i) b) t
   by_front s t = past i a b s t (omega arith) (omega arith) e ∙ rw (drop-cons a i 0 h, drop-cons b i 0 k)
 
-  pub byte-below : (n : ℕ) → get_or a i 0 < get_or b i 0 → Told a b n Below
+  pub byte-below : (n : ℕ) → get_or a i 0 < get_or b i 0 → Told a b n Less
   unfolding Told name_order
   byte-below n l s t = by_front s t ∙ rw (by_lt {x = get_or a i 0} {y = get_or b i 0} l)
 
-  pub byte_above : (n : ℕ) → get_or b i 0 < get_or a i 0 → Told a b n Above
+  pub byte_above : (n : ℕ) → get_or b i 0 < get_or a i 0 → Told a b n Greater
   unfolding Told name_order
   byte_above n l s t = by_front s t ∙ rw (by_gt {x = get_or a i 0} {y = get_or b i 0} l)
 
@@ -225,16 +225,16 @@ by_end a b n s t h e =
     ∙ at-end (drop n a) (drop n b) s t (omega (arith, length-drop n a, length-drop n b))
 
 -- bytes that agree, as they are told
-pub told-from : (a b : List ℕ) (i n : ℕ) → i ≡ n → take i a ≡ take i b → Told a b n Same
+pub told-from : (a b : List ℕ) (i n : ℕ) → i ≡ n → take i a ≡ take i b → Told a b n Equal
 unfolding Told
 told-from a b i n h e = subst (λ (x : ℕ). take x a ≡ take x b) h e
 
 -- the order, where the first bytes decide it
-module _ (a b : List ℕ) (n : ℕ) (s t : Bool) {r : Order} (w : Told a b n r) where
-  pub order_below : r ≡ Below → Below ≡ name_order a s b t
+module _ (a b : List ℕ) (n : ℕ) (s t : Bool) {r : Ordering} (w : Told a b n r) where
+  pub order_below : r ≡ Less → Less ≡ name_order a s b t
   unfolding Told
   order_below e = sym (told_below a b n w n e s t)
 
-  pub order_above : r ≡ Above → Above ≡ name_order a s b t
+  pub order_above : r ≡ Greater → Greater ≡ name_order a s b t
   unfolding Told
   order_above e = sym (told_above a b n w n e s t)

@@ -5,13 +5,13 @@ ghost use Rattle.std.specs.Prelude.{◌≡◌, ◌≤◌, min, length};
 ghost use Rattle.doubles.specs.Stack.{kept_of, open_at, marks_at, is_double, open_of, place_of, marks_of};
 
 use ground::shorter;
-use order::{Order, by_next};
+use order::by_next;
 use scan::common_start;
+use std::cmp::Ordering;
 
-// Where an entry stands: after the one before and of a new name, with so many names open; or not.
+// Why an entry is refused where it stands: it is not after the one before, or its name was there already.
 #[derive(Clone, Copy)]
-pub enum Placed {
-    Fine(usize),
+pub enum Misplaced {
     NotAfter,
     Double,
 }
@@ -77,16 +77,16 @@ pub fn open_entry(
     was: bool,
     size: usize,
     folder: bool,
-) -> Placed
+) -> Result<usize, Misplaced>
     ensures placed { result ≡ open_of marks.old n p len was size folder }
     ensures marks { marks.new ≡ marks_at marks.old (min n (length marks.old)) p len was }
 {
     let m = shorter(n, marks.len());
     let k = open_next(marks, m, p, len, was);
     if is_double(marks, k, size, folder) {
-        return Placed::Double;
+        return Err(Misplaced::Double);
     }
-    Placed::Fine(k)
+    Ok(k)
 }
 
 // An entry after one whose name is at hand, by one walk along the two names.
@@ -97,14 +97,14 @@ pub fn place_entry(
     was: bool,
     name: &[u8],
     folder: bool,
-) -> Placed
+) -> Result<usize, Misplaced>
     ensures placed { result ≡ place_of marks.old n last.now was name.now folder }
     ensures marks { marks.new ≡ marks_of marks.old n last.now was name.now folder }
 {
     let p = common_start(last, name);
     match by_next(last, was, name, folder, p) {
-        Order::Below => open_entry(marks, n, p, last.len(), was, name.len(), folder),
-        Order::Same => Placed::NotAfter,
-        Order::Above => Placed::NotAfter,
+        Ordering::Less => open_entry(marks, n, p, last.len(), was, name.len(), folder),
+        Ordering::Equal => Err(Misplaced::NotAfter),
+        Ordering::Greater => Err(Misplaced::NotAfter),
     }
 }

@@ -6,7 +6,7 @@ ghost use Rattle.std.proofs.lemmas.List.Edits.{sets};
 ghost use Rattle.ground.specs.Verdict.{counted, stored};
 ghost use Rattle.hex_of_id.specs.Hex.{hex_of, hex_answer};
 
-use ground::{Answer, DONE, FINE, Gate, bounds};
+use ground::{Answer, DONE, FINE, bounds};
 use hex_letter::digit_of;
 use output::fit;
 
@@ -43,13 +43,13 @@ pub fn hex_of_id(id: &[u8], out: &mut [u8]) -> Answer
     ensures out_after { out.new ≡ stored (hex_answer id.now (length out.old)).verdict (hex_of id.now) out.old }
 {
     match bounds(id.len(), out.len(), 0) {
-        Gate::Shut(v) => {
+        Err(v) => {
             return Answer {
                 verdict: v,
                 count: 0,
             };
         }
-        Gate::Open => {}
+        Ok(()) => {}
     }
     let a = fit(out.len(), count_digits(id));
     let number = a.verdict.number;

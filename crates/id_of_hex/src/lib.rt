@@ -7,7 +7,7 @@ ghost use Rattle.ground.specs.Verdict.{stored};
 ghost use Rattle.hex_digits.specs.Hex.{is_hex};
 ghost use Rattle.id_of_hex.specs.Id.{bytes_of, halved, digits_read, id_answer};
 
-use ground::{Answer, BAD_RECORD, DONE, FINE, Gate, Verdict, bounds};
+use ground::{Answer, BAD_RECORD, DONE, FINE, Verdict, bounds};
 use hex_digits::{hex_digit, is_hex};
 use output::fit;
 
@@ -63,13 +63,13 @@ pub fn id_of_hex(digits: &[u8], out: &mut [u8]) -> Answer
     ensures out_after { out.new ≡ stored (id_answer digits.now (length out.old)).verdict (bytes_of digits.now) out.old }
 {
     match bounds(half(digits.len()), out.len(), 0) {
-        Gate::Shut(v) => {
+        Err(v) => {
             return Answer {
                 verdict: v,
                 count: 0,
             };
         }
-        Gate::Open => {}
+        Ok(()) => {}
     }
     let a = fit(out.len(), read_digits(digits));
     let number = a.verdict.number;

@@ -9,7 +9,7 @@ ghost use Rattle.ground.specs.Verdict.{stored};
 ghost use Rattle.lookups.specs.Many.{width, many, no_sought, sought_of, well_sought, one_answer, first_bad, kept, all_kept, first_gate, unless_bad, many_answer, answers_after};
 
 use entry_record::WIDTH;
-use ground::{Answer, BAD_RECORD, DONE, FEW_RECORDS, FINE, Gate, Verdict, bounds, longer};
+use ground::{Answer, BAD_RECORD, DONE, FEW_RECORDS, FINE, Verdict, bounds, longer};
 use lookup::{Looked, bisect_entry};
 
 // The numbers of a sought name, and those of a stored answer.
@@ -166,20 +166,20 @@ fn look_all(
 }
 
 // Refusals 1, 2 and 4, by the lengths of what is lent: the longest bytes, the records, the names and the answers.
-fn begins(h: usize, bytes: usize, records: usize, n: usize, room: usize) -> Gate
+fn begins(h: usize, bytes: usize, records: usize, n: usize, room: usize) -> Result<(), Verdict>
     ensures { result ≡ first_gate h bytes records n room }
 {
     match bounds(h, bytes, longer(records, longer(n, room))) {
-        Gate::Shut(v) => Gate::Shut(v),
-        Gate::Open => {
+        Err(v) => Err(v),
+        Ok(()) => {
             if room < n {
-                return Gate::Shut(Verdict {
+                return Err(Verdict {
                     number: FEW_RECORDS,
                     place: n,
                     ..FINE
                 });
             }
-            Gate::Open
+            Ok(())
         }
     }
 }
@@ -204,10 +204,10 @@ pub fn bisect_entries(
         sought.len() / EACH,
         answers.len() / EACH,
     ) {
-        Gate::Shut(v) => Answer {
+        Err(v) => Answer {
             verdict: v,
             count: 0,
         },
-        Gate::Open => look_all(object, h, records, names, sought, answers),
+        Ok(()) => look_all(object, h, records, names, sought, answers),
     }
 }

@@ -3,7 +3,7 @@
 // then by Git's order to write those that are kept.
 #![tactic(auto)]
 
-ghost use Rattle.std.specs.Prelude.{◌≡◌, true, false, [], ◌∷◌, ◌++◌, ◌+◌, ◌*◌, ◌/◌, ◌≤◌, ◌<◌, length, take, drop, set};
+ghost use Rattle.std.specs.Prelude.{◌≡◌, Ok, true, false, [], ◌∷◌, ◌++◌, ◌+◌, ◌*◌, ◌/◌, ◌≤◌, ◌<◌, length, take, drop, set};
 ghost use Rattle.std.proofs.lemmas.List.Edits.{sets};
 ghost use Rattle.ground.specs.Basics.{pick};
 ghost use Rattle.ground.specs.Verdict.{verdict, most_bytes, most_records, stored};
@@ -11,18 +11,17 @@ ghost use Rattle.entry.specs.Record.{name_of};
 ghost use Rattle.entry.specs.Decode.{decode};
 ghost use Rattle.reading.specs.Listing.{listing, tally, records_in};
 ghost use Rattle.reading.specs.Whole.{in_room as noRoom};
-ghost use Rattle.reading.specs.declared.Counted.TheVariants.{Total};
 ghost use Rattle.keys.specs.Key.{key_at, below_by};
 ghost use Rattle.sorting.specs.Sort.{Ascends, sort_by};
 ghost use Rattle.fate.specs.Fate.{own_text};
 ghost use Rattle.mend.specs.Mend.{fates_of, mended, not_mended, in_room, counted_answer, mend_answer};
 ghost use Rattle.mend_kept.specs.Code.{Inside, chosen, element_of, elements, Lowest, Known, has_name, earlier, code_fate, code_fates, kept_size, code_size, bytes_at, all_bytes};
 
-use entry::{Cursor, Decoded, EntryRecord};
+use entry::{Cursor, EntryRecord};
 use entry_record::is_folder;
 use fate::{fate_of, may_stay, own_text};
 use ground::{
-    Answer, DONE, FEW_RECORDS, FINE, Gate, MOST_RECORDS, SHORT_OUTPUT, Verdict, bounds, longer,
+    Answer, DONE, FEW_RECORDS, FINE, MOST_RECORDS, SHORT_OUTPUT, Verdict, bounds, longer,
 };
 use keys::below;
 use output::{put, put_ended};
@@ -100,10 +99,10 @@ fn gather(s: &[u8], h: usize, fates: &[usize], second: bool, list: &mut [u32]) -
         }
         let c = Cursor { at };
         match c.decode(s, h) {
-            Decoded::Broken(_) => {
+            Err(_) => {
                 return m;
             }
-            Decoded::Whole(e, next) => {
+            Ok((e, next)) => {
                 let taken = choose(s, fates, second, n, e);
                 let x = element(second, e);
                 m = push(list, m, taken, x);
@@ -129,8 +128,8 @@ fn same_name(s: &[u8], h: usize, y: u32, name: &[u8]) -> bool
 {
     let c = Cursor { at: y as usize / 2 };
     match c.decode(s, h) {
-        Decoded::Broken(_) => false,
-        Decoded::Whole(e, _) => {
+        Err(_) => false,
+        Ok((e, _)) => {
             let start = e.name_start;
             let end = e.name_end;
             same_bytes(&s[start..end], name)
@@ -200,10 +199,10 @@ fn settle(s: &[u8], h: usize, list: &[u32], fates: &mut [usize]) -> usize
         }
         let c = Cursor { at };
         match c.decode(s, h) {
-            Decoded::Broken(_) => {
+            Err(_) => {
                 return size;
             }
-            Decoded::Whole(e, next) => {
+            Ok((e, next)) => {
                 let fate = entry_fate(s, h, list, e);
                 put_at(fates, n, fate);
                 size += kept_size(fate, h, e);
@@ -237,8 +236,8 @@ fn write_one(out: &mut [u8], at: usize, s: &[u8], h: usize, x: u32) -> usize
 {
     let c = Cursor { at: x as usize / 2 };
     match c.decode(s, h) {
-        Decoded::Broken(_) => at,
-        Decoded::Whole(e, next) => {
+        Err(_) => at,
+        Ok((e, next)) => {
             let name = put_own(out, at, e.mode);
             let start = e.name_start;
             let end = next.at;
@@ -312,7 +311,7 @@ fn mend_with(
     list: &mut [u32],
 ) -> Mended
     requires s_len_bound { (length s.now ≤ most_bytes) × (20 ≤ h) × (h ≤ 32) }
-    requires s_value { tally 0 (listing h s.now) ≡ Total count }
+    requires s_value { tally 0 (listing h s.now) ≡ Ok count }
     requires count_in_bounds { (count ≤ length fates.old) × (count ≤ length list.old) × (length list.old ≤ most_records) }
     ensures answer { result ≡ in_room (length out.old) (length (mended h s.now)) count }
     ensures fates { fates.new ≡ stored result.verdict (fates_of h s.now) fates.old }
@@ -341,7 +340,7 @@ fn mend_own<const N: usize>(
     out: &mut [u8],
 ) -> Mended
     requires s_len_bound { (length s.now ≤ most_bytes) × (20 ≤ h) × (h ≤ 32) }
-    requires s_value { tally 0 (listing h s.now) ≡ Total count }
+    requires s_value { tally 0 (listing h s.now) ≡ Ok count }
     requires count_in_bounds { (count ≤ length fates.old) × (count ≤ N) × (N ≤ most_records) }
     ensures answer { result ≡ in_room (length out.old) (length (mended h s.now)) count }
     ensures fates { fates.new ≡ stored result.verdict (fates_of h s.now) fates.old }
@@ -355,7 +354,7 @@ fn mend_own<const N: usize>(
 // lays no function that calls itself into its callers: only such an object takes this one's stack.
 fn mend_large(s: &[u8], h: usize, count: usize, fates: &mut [usize], out: &mut [u8]) -> Mended
     requires s_len_bound { (length s.now ≤ most_bytes) × (20 ≤ h) × (h ≤ 32) }
-    requires s_value { tally 0 (listing h s.now) ≡ Total count }
+    requires s_value { tally 0 (listing h s.now) ≡ Ok count }
     requires count_in_bounds { (count ≤ length fates.old) × (count ≤ most_records) }
     ensures answer { result ≡ in_room (length out.old) (length (mended h s.now)) count }
     ensures fates { fates.new ≡ stored result.verdict (fates_of h s.now) fates.old }
@@ -411,8 +410,8 @@ pub fn mend_tree(bytes: &[u8], h: usize, fates: &mut [usize], out: &mut [u8]) ->
     ensures out { out.new ≡ stored (mend_answer h bytes.now (length fates.old) (length out.old)).verdict (mended h bytes.now) out.old }
 {
     match bounds(h, longer(bytes.len(), out.len()), fates.len()) {
-        Gate::Shut(v) => no_mending(v),
-        Gate::Open => {
+        Err(v) => no_mending(v),
+        Ok(()) => {
             let mut none = [0usize; 1];
             let a = read_tree(bytes, h, &mut none);
             mend_read(bytes, h, a, fates, out)

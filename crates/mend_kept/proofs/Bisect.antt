@@ -12,16 +12,12 @@ use borrow.Author.Tests.{lt-ltb, ltb-true}
 use Rattle.ground.specs.Scan.{same_bytes}
 use Rattle.ground.proofs.Laws.{and_left, and_right, same_test, same_true, same_refl}
 use Rattle.order.specs.Order.{name_order}
-use Rattle.order.specs.declared.Order.{Order}
-use Rattle.order.specs.declared.Order.TheVariants.{Same}
 use Rattle.order.proofs.Laws.{order_self}
 use Rattle.entry.specs.Record.{name_of}
 use Rattle.entry.specs.Decode.{decode}
 use Rattle.entry.specs.declared.EntryRecord.{EntryRecord}
 use Rattle.entry.specs.declared.Cursor.{Cursor}
 use Rattle.ground.specs.declared.Verdict.{Verdict}
-use Rattle.entry.specs.declared.Decoded.{Decoded}
-use Rattle.entry.specs.declared.Decoded.TheVariants.{Whole, Broken}
 use Rattle.keys.specs.Key.{decide, key_at, below_by}
 use Rattle.keys.specs.Strict.{Strict}
 use Rattle.keys.proofs.Keys.{key_strict}
@@ -29,6 +25,9 @@ use Rattle.sorting.specs.Sort.{Ascends}
 use Rattle.sorting.proofs.Sorted.{ascends_pair, up-below, up-then-below}
 use Rattle.sorting.proofs.Repeats.{same-below, between}
 use Rattle.mend_kept.specs.Code.{Lowest, Known, has_name, earlier}
+use Rattle.std.specs.Prelude.{Err, Ok, Result}
+use Rattle.std.specs.declared.cmp.Ordering.{Ordering}
+use Rattle.std.specs.declared.cmp.Ordering.TheVariants.{Equal}
 
 -- ---- the search
 
@@ -73,8 +72,8 @@ module _ (key : ℕ → List ℕ) (x : ℕ) where
   below_less : (y : ℕ) → key y ≡ key x → below_by key y x ≡ true → y < x
   unfolding below_by
   below_less y e b =
-      let z : name_order (key y) false (key x) false ≡ Same = rw e (order_self (key x) false) in
-      ltb-true y x (ap (λ (o : Order). decide o (ltb y x)) (sym z) ∙ b)
+      let z : name_order (key y) false (key x) false ≡ Equal = rw e (order_self (key x) false) in
+      ltb-true y x (ap (λ (o : Ordering). decide o (ltb y x)) (sym z) ∙ b)
 
   module _ (l : List ℕ) (up : Ascends (below_by key) l) where
     pub earlier-none : Lowest (below_by key) l x 0 → false ≡ earlier key l x
@@ -118,11 +117,11 @@ repeated-last h s list name x k known e g =
     a ∙ rw (← w.3, ← e) (earlier-last (key_at s 32 0) x list known.up k g)
 
 -- whether an entry that was decoded has a name
-pub has-broken : (s name : List ℕ) (d : Decoded) (v : Verdict) → d ≡ Broken v → false ≡ has_name s name d
+pub has-broken : (s name : List ℕ) (d : Result (EntryRecord × Cursor) Verdict) (v : Verdict) → d ≡ Err v → false ≡ has_name s name d
 unfolding has_name
 has-broken s name d v q = sym (ap (has_name s name) q)
 
-pub has-whole : (s name : List ℕ) (d : Decoded) (e : EntryRecord) (next : Cursor) → d ≡ Whole e next
+pub has-whole : (s name : List ℕ) (d : Result (EntryRecord × Cursor) Verdict) (e : EntryRecord) (next : Cursor) → d ≡ Ok (e, next)
     → same_bytes (take (e.name_end - e.name_start) (drop e.name_start s)) name ≡ has_name s name d
 unfolding has_name name_of
 has-whole s name d e next q = sym (ap (has_name s name) q)

@@ -2,7 +2,7 @@
 // A line for each of the 16 sorts: the sort in octal, and the sum over its 4,096 modes.
 #![tactic(auto)]
 
-use mode::{EntryMode, ModeAnswer, ModeRead};
+use mode::{EntryMode, ModeAnswer};
 use mode_table::EntryKind;
 use mode_text::ShortText;
 use std::io;
@@ -43,10 +43,10 @@ fn take_text(sum: u64, t: ShortText) -> u64 {
     all
 }
 
-fn take_read(sum: u64, r: ModeRead) -> u64 {
+fn take_read(sum: u64, r: Option<(EntryMode, usize)>) -> u64 {
     match r {
-        ModeRead::Mode(m, n) => take(take(sum, m.internal as u64), n as u64),
-        ModeRead::Bad => take(take(sum, 65536), 0),
+        Some((m, n)) => take(take(sum, m.internal as u64), n as u64),
+        None => take(take(sum, 65536), 0),
     }
 }
 
@@ -62,11 +62,11 @@ fn kind_place(k: EntryKind) -> u64 {
 }
 
 // A text, a space and the letter a, read.
-fn read_back(t: ShortText) -> ModeRead {
+fn read_back(t: ShortText) -> Option<(EntryMode, usize)> {
     let b = t.bytes;
     let n = t.len;
     if 6 < n {
-        return ModeRead::Bad;
+        return None;
     }
     let mut line = [b[0], b[1], b[2], b[3], b[4], b[5], 0, 0];
     line[n] = 32;
@@ -123,10 +123,10 @@ fn answered(rt: &impl Print, a: ModeAnswer, rest: u64) -> io::Result<()> {
     say(rt, b"\n")
 }
 
-fn rest_of(r: ModeRead) -> u64 {
+fn rest_of(r: Option<(EntryMode, usize)>) -> u64 {
     match r {
-        ModeRead::Mode(_, n) => n as u64,
-        ModeRead::Bad => 0,
+        Some((_, n)) => n as u64,
+        None => 0,
     }
 }
 

@@ -16,9 +16,8 @@ use Rattle.ground.specs.Verdict.{verdict, refused, stored, gate_of}
 use Rattle.ground.proofs.Laws.{gate_shut, stored-done, stored_refused, sets_append, sets_front}
 use Rattle.ground.specs.declared.Verdict.{Verdict}
 use Rattle.ground.specs.declared.Answer.{Answer}
-use Rattle.ground.specs.declared.Gate.{Gate}
-use Rattle.ground.specs.declared.Gate.TheVariants.{Open, Shut}
 use Rattle.output.specs.Output.{fitted, gated}
+use Rattle.std.specs.Prelude.{Err, Ok, Result, ⊤}
 
 -- ---- a run of stores
 
@@ -106,23 +105,23 @@ fitted-both r m l out after e f z n s =
 -- ---- the gate
 
 -- a gate that is shut refuses
-pub shut-refuses : (h bytes records : ℕ) (v : Verdict) → gate_of h bytes records ≡ Shut v → v.number ≡ 0 → ⊥
+pub shut-refuses : (h bytes records : ℕ) (v : Verdict) → gate_of h bytes records ≡ Err v → v.number ≡ 0 → ⊥
 shut-refuses h bytes records v e z =
     ⊎_elim (λ q. omega (arith, ap (λ (x : Verdict). x.number) q)) (λ q. omega (arith, ap (λ (x : Verdict). x.number) q)) (gate_shut h bytes records v e)
 
-pub gated-shut : (g : Gate) (v : Verdict) (a : Answer) → g ≡ Shut v → gated g a ≡ refused v
+pub gated-shut : (g : Result ⊤ Verdict) (v : Verdict) (a : Answer) → g ≡ Err v → gated g a ≡ refused v
 unfolding gated
 gated-shut g v a e = rw e
 
-pub gated_open : (g : Gate) (a : Answer) → g ≡ Open → gated g a ≡ a
+pub gated_open : (g : Result ⊤ Verdict) (a : Answer) → g ≡ Ok tt → gated g a ≡ a
 unfolding gated
 gated_open g a e = rw e
 
 -- a call that is done began
-pub gated-done : (h bytes records : ℕ) (a : Answer) → (gated (gate_of h bytes records) a).verdict.number ≡ 0 → gate_of h bytes records ≡ Open
+pub gated-done : (h bytes records : ℕ) (a : Answer) → (gated (gate_of h bytes records) a).verdict.number ≡ 0 → gate_of h bytes records ≡ Ok tt
 unfolding gated
 gated-done h bytes records a = go (gate_of h bytes records) refl
   where
-    go : (g : Gate) → gate_of h bytes records ≡ g → (gated g a).verdict.number ≡ 0 → g ≡ Open
-    go Open e z = refl
-    go (Shut v) e z = absurd (shut-refuses h bytes records v e z)
+    go : (g : Result ⊤ Verdict) → gate_of h bytes records ≡ g → (gated g a).verdict.number ≡ 0 → g ≡ Ok tt
+    go (Ok tt) e z = refl
+    go (Err v) e z = absurd (shut-refuses h bytes records v e z)

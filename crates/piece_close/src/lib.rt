@@ -8,7 +8,7 @@ ghost use Rattle.arriving.specs.Feed.{refuse, judged, leaves_none, closed_ends};
 ghost use Rattle.piece_close.specs.Closing.{next_at, placed_by, closed_at};
 
 use arriving::{Last, Line, Marks, Phase};
-use doubles::{Placed, open_entry};
+use doubles::{Misplaced, open_entry};
 use ground::{FINE, MOST_RECORDS, ORDER, SAME_NAME, Verdict};
 use piece_judge::judge;
 use piece_marks::fresh;
@@ -73,13 +73,15 @@ fn leaves_none(last: Last) -> bool
 }
 
 // The marks after an entry that stands so among the names that are open.
-fn placed(m: Marks, at: usize, l: Line, p: Placed) -> Marks
+fn placed(m: Marks, at: usize, l: Line, p: Result<usize, Misplaced>) -> Marks
     ensures { result ≡ placed_by m at l p }
 {
     match p {
-        Placed::Fine(n) => next_entry(m, at, l, n),
-        Placed::Double => refused(m, SAME_NAME),
-        Placed::NotAfter => refused(m, ORDER),
+        Ok(n) => next_entry(m, at, l, n),
+        Err(why) => match why {
+            Misplaced::Double => refused(m, SAME_NAME),
+            Misplaced::NotAfter => refused(m, ORDER),
+        },
     }
 }
 

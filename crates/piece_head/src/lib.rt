@@ -7,7 +7,7 @@ ghost use Rattle.piece_head.specs.Head.{begun_at, begin_at, head_at};
 
 use arriving::{Line, Marks, Phase, Stand, Taken};
 use ground::{BOUND, BROKEN_ENTRY, FINE, NO_MODE, Verdict};
-use mode::{EntryMode, ModeRead};
+use mode::EntryMode;
 use piece_marks::{fresh, is_full, placed_at};
 use rules::mode_permitted;
 
@@ -45,7 +45,7 @@ fn begin(m: Marks, at: usize, head: [u8; 8]) -> Taken
     ensures { result ≡ begin_at m at head (read_mode head) }
 {
     match EntryMode::extract_at(&head, 0) {
-        ModeRead::Bad => {
+        None => {
             let first = m.first;
             let marks = fresh(
                 m.h,
@@ -58,7 +58,7 @@ fn begin(m: Marks, at: usize, head: [u8; 8]) -> Taken
             );
             Taken { marks, next: 8 }
         }
-        ModeRead::Mode(mode, n) => {
+        Some((mode, n)) => {
             let marks = begun(m, at, head, mode, n);
             Taken { marks, next: n }
         }

@@ -8,7 +8,7 @@ ghost use Rattle.arriving.specs.Feed.{fresh, placed_at, over_in};
 
 use arriving::{Last, Marks, Phase};
 use ground::{BOUND, BROKEN_ENTRY, FINE, MOST_RECORDS, NO_MODE, Verdict, shorter};
-use mode::{EntryMode, ModeRead};
+use mode::EntryMode;
 
 // The marks where nothing has come, or where nothing but a refusal is kept.
 pub fn fresh(h: usize, rules: u16, verdict: Verdict) -> Marks
@@ -62,7 +62,7 @@ pub fn is_full(k: usize, count: usize) -> bool
 }
 
 // The mode that so many of the first bytes tell.
-fn read_head(head: [u8; 8], k: usize) -> ModeRead
+fn read_head(head: [u8; 8], k: usize) -> Option<(EntryMode, usize)>
     ensures { result ≡ read_mode (take k head) }
 {
     let n = shorter(k, 8);
@@ -88,7 +88,7 @@ pub fn over(m: Marks) -> Marks
             }
             let head = m.head;
             match read_head(head, k) {
-                ModeRead::Bad => {
+                None => {
                     let first = m.first;
                     fresh(
                         m.h,
@@ -100,7 +100,7 @@ pub fn over(m: Marks) -> Marks
                         },
                     )
                 }
-                ModeRead::Mode(_, _) => fresh(
+                Some((_, _)) => fresh(
                     m.h,
                     m.rules,
                     Verdict {

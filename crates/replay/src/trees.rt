@@ -6,7 +6,7 @@ use crate::wide::{five, four, seven, wide};
 use entry::EntryRecord;
 use entry_record::entry_at;
 use lookup::Looked;
-use mode::{EntryMode, ModeRead};
+use mode::EntryMode;
 use output::put;
 use record_slice::{ROOM, bisect_array};
 use std::num::wrapping_add_usize;
@@ -14,8 +14,8 @@ use std::num::wrapping_add_usize;
 // Where the rest begins behind a mode text that an entry begins with, and 0 where there is none.
 fn rest(text: &[u8]) -> usize {
     match EntryMode::extract_at(text, 0) {
-        ModeRead::Mode(_, rest) => rest,
-        ModeRead::Bad => 0,
+        Some((_, rest)) => rest,
+        None => 0,
     }
 }
 

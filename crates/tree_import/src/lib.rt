@@ -8,7 +8,7 @@ ghost use Rattle.output.specs.Output.{fitted};
 ghost use Rattle.text_import.specs.Import.{texts, imported, counted_of, import_answer};
 ghost use Rattle.text_import.specs.Lent.{lent_answer};
 
-use ground::{Answer, FEW_RECORDS, Gate, MOST_BYTES, longer};
+use ground::{Answer, FEW_RECORDS, MOST_BYTES, longer};
 use rules::rule_bounds;
 use text_import::import_lent;
 
@@ -57,10 +57,10 @@ pub fn import_tree(text: &[u8], h: usize, rules: u16, out: &mut [u8]) -> Answer
     ensures out { out.new ≡ stored (import_answer rules h text.now (length out.old)).verdict (imported (texts rules h text.now)) out.old }
 {
     match rule_bounds(rules, h, longer(text.len(), out.len()), 0) {
-        Gate::Shut(v) => Answer {
+        Err(v) => Answer {
             verdict: v,
             count: 0,
         },
-        Gate::Open => import_open(text, h, rules, out),
+        Ok(()) => import_open(text, h, rules, out),
     }
 }

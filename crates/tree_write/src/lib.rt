@@ -11,7 +11,7 @@ ghost use Rattle.tree_write.specs.Write.{written, entry_size, refusal, measured,
 
 use entry::EntryRecord;
 use entry_record::{WIDTH, entry_at, well_formed};
-use ground::{Answer, BAD_RECORD, DONE, FINE, Gate, NUL_IN_NAME, Verdict, bounds, longer};
+use ground::{Answer, BAD_RECORD, DONE, FINE, NUL_IN_NAME, Verdict, bounds, longer};
 use mode::EntryMode;
 use mode_text::ShortText;
 use output::{fit, put, put_ended};
@@ -172,13 +172,13 @@ pub fn tree_size(bytes: &[u8], h: usize, records: &[usize]) -> Answer
     ensures { result ≡ tree_size h bytes.now records.now }
 {
     match bounds(h, bytes.len(), records.len() / WIDTH) {
-        Gate::Shut(v) => {
+        Err(v) => {
             return Answer {
                 verdict: v,
                 count: 0,
             };
         }
-        Gate::Open => return measure(bytes, h, records, false),
+        Ok(()) => return measure(bytes, h, records, false),
     }
 }
 
@@ -188,13 +188,13 @@ pub fn write_tree(bytes: &[u8], h: usize, records: &[usize], out: &mut [u8]) -> 
     ensures out_after { out.new ≡ stored (tree_answer h bytes.now records.now (length out.old)).verdict (written h bytes.now (records_of records.now)) out.old }
 {
     match bounds(h, longer(bytes.len(), out.len()), records.len() / WIDTH) {
-        Gate::Shut(v) => {
+        Err(v) => {
             return Answer {
                 verdict: v,
                 count: 0,
             };
         }
-        Gate::Open => {}
+        Ok(()) => {}
     }
     let a = fit(out.len(), measure(bytes, h, records, true));
     let number = a.verdict.number;

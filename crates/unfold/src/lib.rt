@@ -6,7 +6,7 @@ ghost use Rattle.std.proofs.lemmas.List.Edits.{sets};
 ghost use Rattle.unfold.specs.Unfold.{has_form, skips, plain_of, unfold_answer, unfold_after};
 
 use extra_header::is_folded;
-use ground::{Answer, BAD_RECORD, FINE, Gate, SHORT_OUTPUT, Verdict, longer, sizes};
+use ground::{Answer, BAD_RECORD, FINE, SHORT_OUTPUT, Verdict, longer, sizes};
 use header::{HeaderRecord, well_formed};
 
 // Whether a value has the form that its mark says.
@@ -76,8 +76,8 @@ pub fn unfold(bytes: &[u8], x: HeaderRecord, out: &mut [u8]) -> Answer
     ensures out { out.new ≡ unfold_after bytes.now x out.old }
 {
     match sizes(longer(bytes.len(), out.len()), 0) {
-        Gate::Shut(verdict) => Answer { verdict, count: 0 },
-        Gate::Open => {
+        Err(verdict) => Answer { verdict, count: 0 },
+        Ok(()) => {
             if well_formed(x, bytes.len()) {
                 let from = x.value_start;
                 let to = x.value_end;

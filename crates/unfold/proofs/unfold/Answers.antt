@@ -9,20 +9,20 @@ use Rattle.unfold.proofs.Laws.{plan_shut, plan_record, plan_form, plan_short, pl
 use Rattle.unfold.proofs.unfold.Goals as goal
 
 pub slice_bounds-v-count : goal.slice_bounds-v-count
-slice_bounds-v-count c = omega (arith, well_parts _ _ (sym c.well_formed-in-Open.ensures ∙ c.if-well_formed.true))
+slice_bounds-v-count c = omega (arith, well_parts _ _ (sym c.well_formed-in-Ok.ensures ∙ c.if-well_formed.true))
 
 pub slice_bounds-v-start : goal.slice_bounds-v-start
-slice_bounds-v-start c = omega (arith, well_parts _ _ (sym c.well_formed-in-Open.ensures ∙ c.if-well_formed.true))
+slice_bounds-v-start c = omega (arith, well_parts _ _ (sym c.well_formed-in-Ok.ensures ∙ c.if-well_formed.true))
 
 pub slice_bounds-v-end : goal.slice_bounds-v-end
-slice_bounds-v-end c = omega (arith, well_parts _ _ (sym c.well_formed-in-Open.ensures ∙ c.if-well_formed.true))
+slice_bounds-v-end c = omega (arith, well_parts _ _ (sym c.well_formed-in-Ok.ensures ∙ c.if-well_formed.true))
 
 pub returns-then-out-need : goal.returns-then-out-need
 returns-then-out-need c =
     let has-form = c.has_form in
     let if1 = c.if-well_formed in
-    let well-formed = c.well_formed-in-Open in
-    let enum_told = c.in-Open in
+    let well-formed = c.well_formed-in-Ok in
+    let enum_told = c.in-Ok in
     let sizes = c.sizes in
     let longer = c.longer in
     let args = c.args in
@@ -39,8 +39,8 @@ returns-then-has_form c =
     let args = c.args in
     let longer = c.longer in
     let sizes = c.sizes in
-    let enum_told = c.in-Open in
-    let well-formed = c.well_formed-in-Open in
+    let enum_told = c.in-Ok in
+    let well-formed = c.well_formed-in-Ok in
     let if1 = c.if-well_formed in
     let has-form = c.has_form in
     let if2 = c.if-has_form in
@@ -58,8 +58,8 @@ returns-then-has_form c =
 pub returns-then-well_formed : goal.returns-then-well_formed
 returns-then-well_formed c =
     let if1 = c.if-well_formed in
-    let well-formed = c.well_formed-in-Open in
-    let enum_told = c.in-Open in
+    let well-formed = c.well_formed-in-Ok in
+    let enum_told = c.in-Ok in
     let sizes = c.sizes in
     let longer = c.longer in
     let args = c.args in
@@ -68,12 +68,12 @@ returns-then-well_formed c =
     (sym c.has_form.ensures ∙ c.if-has_form.false) in
     record { answer = sym (answer-refuses _ args.out.now _ p); out = sym (after-refuses _ args.out.now _ p) }
 
-pub returns-in-Shut : goal.returns-in-Shut
-returns-in-Shut c =
+pub returns-in-Err : goal.returns-in-Err
+returns-in-Err c =
     let sizes = c.sizes in
     let longer = c.longer in
     let args = c.args in
-    let g = told (λ (k : ℕ). size_gate k 0) longer.ensures sizes.ensures c.in-Shut.is in
+    let g = told (λ (k : ℕ). size_gate k 0) longer.ensures sizes.ensures c.in-Err.is in
     let p = plan_shut args.bytes.now args.x (length args.out.now) _ g in
     record { answer = sym (answer-refuses _ args.out.now _ p); out = sym (after-refuses _ args.out.now _ p) }
 
@@ -82,6 +82,6 @@ returns-else-well_formed c =
     let sizes = c.sizes in
     let longer = c.longer in
     let args = c.args in
-    let g = told (λ (k : ℕ). size_gate k 0) longer.ensures sizes.ensures c.in-Open.is in
-    let p = plan_record args.bytes.now args.x (length args.out.now) g (sym c.well_formed-in-Open.ensures ∙ c.if-well_formed.false) in
+    let g = told (λ (k : ℕ). size_gate k 0) longer.ensures sizes.ensures c.in-Ok.is in
+    let p = plan_record args.bytes.now args.x (length args.out.now) g (sym c.well_formed-in-Ok.ensures ∙ c.if-well_formed.false) in
     record { answer = sym (answer-refuses _ args.out.now _ p); out = sym (after-refuses _ args.out.now _ p) }
