@@ -19,10 +19,7 @@ fn fold_end(s: &[u8], start: usize) -> usize
     ensures { result ≡ fold_end s.now start }
 {
     let mut at = start;
-    while at < s.len() {
-        if s[at] != b' ' {
-            return at;
-        }
+    while at < s.len() && s[at] == b' ' {
         let lf = find_byte(s, at + 1, b'\n');
         if s.len() <= lf {
             return start;
@@ -41,13 +38,7 @@ pub fn extra_at(s: &[u8], at: usize) -> Extra
         return Extra::No;
     }
     let space = find_byte(s, at, b' ');
-    if space <= at {
-        return Extra::No;
-    }
-    if lf <= space {
-        return Extra::No;
-    }
-    if s.len() <= lf {
+    if space <= at || lf <= space || s.len() <= lf {
         return Extra::No;
     }
     let value = space + 1;
@@ -87,8 +78,5 @@ pub fn is_folded(v: &[u8]) -> bool
     }
     let rest = n + 1;
     let end = fold_end(v, rest);
-    if end <= rest {
-        return false;
-    }
-    end == v.len()
+    rest < end && end == v.len()
 }
