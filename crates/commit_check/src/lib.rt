@@ -72,17 +72,17 @@ fn count_last(bytes: &[u8], parts: CommitParts, headers: &[usize], before: usize
     ensures { result ≡ before + passing (last_tests bytes.now parts (headers_of headers.now)) }
 {
     let m = headers.len() / HEADER_WIDTH;
-    if is_encoding(bytes.len(), parts) {
-        let k = count_headers(bytes, headers);
-        if k < m {
-            return before + 1 + k;
-        }
-        if is_range(parts.message_start, parts.message_end, bytes.len()) {
-            return before + 2 + m;
-        }
+    if !is_encoding(bytes.len(), parts) {
+        return before;
+    }
+    let k = count_headers(bytes, headers);
+    if k < m {
+        return before + 1 + k;
+    }
+    if !is_range(parts.message_start, parts.message_end, bytes.len()) {
         return before + 1 + m;
     }
-    before
+    before + 2 + m
 }
 
 // Author, committer and what follows them.
@@ -90,13 +90,13 @@ fn count_late(bytes: &[u8], parts: CommitParts, headers: &[usize], before: usize
     requires { (before ≤ 1048577) × (length headers.now / width ≤ most_records) }
     ensures { result ≡ before + passing (late_tests bytes.now parts (headers_of headers.now)) }
 {
-    if is_range(parts.author_start, parts.author_end, bytes.len()) {
-        if is_range(parts.committer_start, parts.committer_end, bytes.len()) {
-            return count_last(bytes, parts, headers, before + 2);
-        }
+    if !is_range(parts.author_start, parts.author_end, bytes.len()) {
+        return before;
+    }
+    if !is_range(parts.committer_start, parts.committer_end, bytes.len()) {
         return before + 1;
     }
-    before
+    count_last(bytes, parts, headers, before + 2)
 }
 
 // How many records pass before the first that does not: tree, parents, author, committer, encoding, headers, message.
@@ -111,14 +111,14 @@ fn count_all(
     requires width_len_bound { length headers.now / width ≤ most_records }
     ensures { result ≡ passing (tests h bytes.now parts parents.now (headers_of headers.now)) }
 {
-    if is_id(bytes, h, parts.tree) {
-        let i = count_ids(bytes, h, parents);
-        if i < parents.len() {
-            return i + 1;
-        }
-        return count_late(bytes, parts, headers, parents.len() + 1);
+    if !is_id(bytes, h, parts.tree) {
+        return 0;
     }
-    0
+    let i = count_ids(bytes, h, parents);
+    if i < parents.len() {
+        return i + 1;
+    }
+    count_late(bytes, parts, headers, parents.len() + 1)
 }
 
 // Refusals 1, 2 and 10, which writing into so much room and measuring (with no room) share.
