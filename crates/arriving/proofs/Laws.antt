@@ -3,7 +3,8 @@ use Prim.Native.Nat.{ℕ, zero, suc, ◌+◌, ◌-◌, ◌≤◌, ◌<◌, min}
 use native.Mathlib.Numerals.{add-one}
 use native.Mathlib.Omega.{arith}
 use mathlib.Core.Path.{◌≡◌, refl, ap, sym, ◌∙◌}
-use mathlib.Core.Bool.{Bool, true, false}
+use mathlib.Core.Bool.{Bool, true, false, not}
+use mathlib.Core.Logic.{◌⊎◌, inl, inr}
 use mathlib.Core.List.{List, [], ◌∷◌}
 use lib.Dec.{eqb, ltb, leb}
 use lib.ListN.{length, get_or, set, take, drop, length-drop, drop_of_length-le}
@@ -28,7 +29,7 @@ use Rattle.arriving.specs.declared.Phase.{Phase}
 use Rattle.arriving.specs.declared.Phase.TheVariants.{Head, Name, Id}
 use Rattle.arriving.specs.declared.Marks.{Marks}
 use Rattle.arriving.specs.declared.Check.{Check}
-use Rattle.arriving.specs.Feed.{together, refuse, meet, sharing, name_marks, name_held, longer, is_over, judged, leaves_none, placing, ends_next, next_entry, placed, closed, closed_ends, id_marks, id_ends, body, bodies, head_step, over_in, over, turn_in, byte_step, feed_of, fresh, start_of, head_part, end_in, finish_of, most_held, body_in}
+use Rattle.arriving.specs.Feed.{together, refuse, meet, name_marks, name_held, longer, is_over, judged, leaves_none, placing, ends_next, next_entry, placed, closed, closed_ends, id_marks, id_ends, body, bodies, head_step, over_in, over, turn_in, byte_step, feed_of, fresh, start_of, head_part, end_in, finish_of, most_held, body_in}
 use Rattle.doubles.specs.declared.Misplaced.{Misplaced}
 use Rattle.doubles.specs.declared.Misplaced.TheVariants.{Double, NotAfter}
 use Rattle.std.specs.Prelude.{Err, None, Ok, Option, Result, Some}
@@ -62,16 +63,10 @@ module _ (last : Last) (size x b : ℕ) where
     unfolding meet next
     end_file f = rw (le-ltb size last.size h, f, lt-ltb 0 (b + 1) (omega arith))
 
-  pub meet_level : (st : Stand) → st ≡ Level → {r : Stand} → r ≡ meet Level last size x b → r ≡ meet st last size x b
-  meet_level st e q = rw e q
-
-  pub meet-over : (st : Stand) → st ≡ Over → Over ≡ meet st last size x b
+  pub meet-decided : (st : Stand) → (st ≡ Over) ⊎ (st ≡ NotOver) → st ≡ meet st last size x b
   unfolding meet
-  meet-over st e = rw e
-
-  pub meet-not : (st : Stand) → st ≡ NotOver → NotOver ≡ meet st last size x b
-  unfolding meet
-  meet-not st e = rw e
+  meet-decided st (inl e) = rw e
+  meet-decided st (inr e) = rw e
 
 -- ---- a finished name that is level
 
@@ -93,13 +88,13 @@ module _ (held : List ℕ) (last : Last) (l : Line) where
     level_file f = rw (lt-ltb l.size last.size h, f) (sym (le-ltb (get_or held l.size 0 + 1) 0 (omega arith)))
 
   module _ (h : last.size ≤ l.size) where
-    pub level_both : l.folder ≡ true → last.folder ≡ true → false ≡ is_over held last l Level
+    pub level_new : l.folder ≡ true → not last.folder ≡ is_over held last l Level
     unfolding next
-    level_both f g = rw (le-ltb l.size last.size h, f, g)
-
-    pub level_new : l.folder ≡ true → last.folder ≡ false → true ≡ is_over held last l Level
-    unfolding next
-    level_new f g = rw (le-ltb l.size last.size h, f, g)
+    level_new f = rw (le-ltb l.size last.size h, f) (go last.folder)
+      where
+        go : (v : Bool) → not v ≡ ltb (next [] v) 48
+        go true = refl
+        go false = refl
 
     pub level_none : l.folder ≡ false → false ≡ is_over held last l Level
     unfolding next
@@ -108,21 +103,6 @@ module _ (held : List ℕ) (last : Last) (l : Line) where
         go : (v : Bool) → false ≡ ltb (next [] v) 0
         go true = refl
         go false = refl
-
-  pub over_level : (st : Stand) → st ≡ Level → {r : Bool} → r ≡ is_over held last l Level → r ≡ is_over held last l st
-  over_level st e q = rw e q
-
--- ---- how much is shared
-
-module _ (size shared : ℕ) where
-  pub shares_level : (st : Stand) → st ≡ Level → size ≡ sharing st size shared
-  shares_level st e = rw e
-
-  pub shares-over : (st : Stand) → st ≡ Over → shared ≡ sharing st size shared
-  shares-over st e = rw e
-
-  pub shares-not : (st : Stand) → st ≡ NotOver → shared ≡ sharing st size shared
-  shares-not st e = rw e
 
 -- ---- what the rules say
 
@@ -375,13 +355,11 @@ module _ (held ends : List ℕ) (m : Marks) (b : ℕ) where
       unfolding byte_step
       step-first k e q = rw (eq-eqb m.verdict.number 0 z, lt-leb most_bytes m.at l) (q ∙ sym (ap (turn_in (together held ends m) b) e))
 
-      pub step_in_name : (x : Line) → m.phase ≡ Name x → c ≡ body (together held ends m) b → c ≡ byte_step (together held ends m) b
+      pub step-past_mode : ((x : Line) × (m.phase ≡ Name x)) ⊎ ((x : Line) × (left : ℕ) × (m.phase ≡ Id x left)) → c ≡ body (together held ends m) b
+          → c ≡ byte_step (together held ends m) b
       unfolding byte_step
-      step_in_name x e q = rw (eq-eqb m.verdict.number 0 z, lt-leb most_bytes m.at l) (q ∙ sym (ap (turn_in (together held ends m) b) e))
-
-      pub step_in_id : (x : Line) (left : ℕ) → m.phase ≡ Id x left → c ≡ body (together held ends m) b → c ≡ byte_step (together held ends m) b
-      unfolding byte_step
-      step_in_id x left e q = rw (eq-eqb m.verdict.number 0 z, lt-leb most_bytes m.at l) (q ∙ sym (ap (turn_in (together held ends m) b) e))
+      step-past_mode (inl (x, e)) q = rw (eq-eqb m.verdict.number 0 z, lt-leb most_bytes m.at l) (q ∙ sym (ap (turn_in (together held ends m) b) e))
+      step-past_mode (inr (x, left, e)) q = rw (eq-eqb m.verdict.number 0 z, lt-leb most_bytes m.at l) (q ∙ sym (ap (turn_in (together held ends m) b) e))
 
 -- ---- a piece
 

@@ -23,14 +23,9 @@ pub fn check_bundle(bytes: &[u8], answer: &mut [usize; 6]) -> usize
     ensures answer_after { answer.new ≡ checked_numbers (check_of bytes.now) }
 {
     let c = bundle::check_bundle(bytes);
-    let number = c.verdict.number;
-    let place = c.verdict.place;
-    let part = c.verdict.part;
-    let h = c.h;
-    let rules = c.rules;
-    let count = c.count;
-    *answer = [number, place, part, h, rules, count];
-    number
+    let v = c.verdict;
+    *answer = [v.number, v.place, v.part, c.h, c.rules, c.count];
+    v.number
 }
 
 // The object of an id: refusals 2, 15.
@@ -70,12 +65,7 @@ pub fn bundle_object(bytes: &[u8], id: &[u8], answer: &mut [usize; 6]) -> usize
     ensures answer_after { answer.new ≡ object_numbers (object_asked bytes.now id.now) }
 {
     let o = object_of(bytes, id);
-    let number = o.verdict.number;
-    let place = o.verdict.place;
-    let part = o.verdict.part;
-    let kind = o.kind;
-    let start = o.start;
-    let end = o.end;
-    *answer = [number, place, part, kind, start, end];
-    number
+    let v = o.verdict;
+    *answer = [v.number, v.place, v.part, o.kind, o.start, o.end];
+    v.number
 }

@@ -6,7 +6,7 @@ ghost use Rattle.mode.specs.Read.{read_mode};
 ghost use Rattle.arriving.specs.Feed.{start_of, head_part, finish_of};
 
 use arriving::{Marks, Phase};
-use ground::{Answer, BROKEN_ENTRY, CUT_ID, FINE, NO_MODE, NO_NUL, Verdict, shorter};
+use ground::{Answer, BROKEN_ENTRY, CUT_ID, DONE, FINE, NO_MODE, NO_NUL, Verdict, shorter};
 use mode::EntryMode;
 use piece_marks::fresh;
 use rules::rule_bounds;
@@ -57,24 +57,19 @@ fn cut(first: usize, part: usize) -> Answer
 pub fn finish(m: Marks) -> Answer
     ensures { result ≡ finish_of m }
 {
-    let verdict = m.verdict;
-    if verdict.number != 0 {
-        return Answer { verdict, count: 0 };
+    if m.verdict.number != DONE {
+        return Answer {
+            verdict: m.verdict,
+            count: 0,
+        };
     }
-    let first = m.first;
-    let phase = m.phase;
-    match phase {
-        Phase::Head(k) => {
-            if k == 0 {
-                return Answer {
-                    verdict: FINE,
-                    count: m.count,
-                };
-            }
-            let head = m.head;
-            cut(first, head_part(head, k))
-        }
-        Phase::Name(_) => cut(first, NO_NUL),
-        Phase::Id(_, _) => cut(first, CUT_ID),
+    match m.phase {
+        Phase::Head(0) => Answer {
+            verdict: FINE,
+            count: m.count,
+        },
+        Phase::Head(k) => cut(m.first, head_part(m.head, k)),
+        Phase::Name(_) => cut(m.first, NO_NUL),
+        Phase::Id(_, _) => cut(m.first, CUT_ID),
     }
 }
