@@ -30,6 +30,7 @@ use Rattle.arriving.proofs.Level.{stand_order, by_stand}
 use Rattle.arriving.proofs.Runs.{stored_past, line_of}
 use Rattle.doubles.specs.declared.Misplaced.TheVariants.{Double}
 use Rattle.std.specs.Prelude.{Err, Ok, Result}
+use Rattle.doubles.specs.declared.Misplaced.{Misplaced}
 
 -- the held name is that of the entry before, if there is one; else it is empty and no folder's
 abbrev pub Holds : List ℕ → Last → List Entry → Type 0

@@ -4,13 +4,13 @@
 
 use entry::EntryRecord;
 use entry_record::{WIDTH, entry_at};
-use ground::DONE;
+use ground::Verdict;
 use hex_of_id::hex_of_id;
 use lookup::bisect_entry;
 use mode::EntryMode;
 use mode_text::ShortText;
 use reading::read_tree;
-use saying::{read_whole, say, say_refused, say_too_long};
+use saying::{done, read_whole, say, say_refused, say_too_long};
 use std::io;
 use words::{id_length, word_at};
 
@@ -19,114 +19,61 @@ const LONGEST: usize = 135168;
 
 const MOST: usize = 6144;
 
-// The bytes from one place to another, or none where they do not lie inside.
-fn part(s: &[u8], from: usize, to: usize) -> &[u8] {
-    if s.len() < to {
-        return &s[0..0];
-    }
-    if to < from {
-        return &s[0..0];
-    }
-    &s[from..to]
-}
-
-// The bytes from a place on, at most so many.
-fn from_on(s: &[u8], from: usize, n: usize) -> &[u8] {
-    if s.len() < from {
-        return &s[0..0];
-    }
-    if s.len() - from < n {
-        return &s[from..];
-    }
-    let to = from + n;
-    &s[from..to]
-}
-
-// The numbers of the first n records, or all where there are fewer.
-fn first(records: &[usize], n: usize) -> &[usize] {
-    if records.len() / WIDTH < n {
-        return records;
-    }
-    let end = n * WIDTH;
-    &records[0..end]
-}
-
-fn text(rt: &impl Print, t: ShortText) -> io::Result<()> {
-    let bytes = t.bytes;
-    say(rt, part(&bytes, 0, t.len))?;
+// A text, and a space behind it.
+fn say_text(rt: &impl Print, t: ShortText) -> io::Result<()> {
+    say(rt, t.bytes.get(..t.len).unwrap_or_default())?;
     say(rt, b" ")
 }
 
 // Mode, word and id.
-fn found(rt: &impl Print, s: &[u8], h: usize, e: EntryRecord) -> io::Result<()> {
+fn say_entry(rt: &impl Print, object: &[u8], h: usize, e: EntryRecord) -> io::Result<()> {
     let mut digits = [0u8; 64];
     let mode = EntryMode {
         internal: (e.mode % 65536) as u16,
     };
-    text(rt, mode.as_bytes())?;
-    text(rt, mode.as_str())?;
-    let a = hex_of_id(from_on(s, e.id_start, h), &mut digits);
-    say(rt, part(&digits, 0, a.count))?;
+    say_text(rt, mode.as_bytes())?;
+    say_text(rt, mode.as_str())?;
+    let id = object.get(e.id_start..e.id_start.saturating_add(h));
+    let a = hex_of_id(id.unwrap_or_default(), &mut digits);
+    say(rt, digits.get(..a.count).unwrap_or_default())?;
     say(rt, b"\n")
 }
 
-fn look(
-    rt: &impl Print,
-    s: &[u8],
-    h: usize,
-    records: &[usize],
-    name: &[u8],
-    folder: bool,
-) -> io::Result<()> {
-    let a = bisect_entry(s, h, records, name, folder);
-    let v = a.verdict;
-    if v.number != DONE {
-        return say_refused(rt, v);
-    }
-    found(rt, s, h, entry_at(records, a.index))
-}
-
-// A slash at the end says that a folder is sought.
-fn sought(rt: &impl Print, s: &[u8], h: usize, records: &[usize], name: &[u8]) -> io::Result<()> {
-    let n = name.len();
-    if n == 0 {
-        return look(rt, s, h, records, name, false);
-    }
-    let last = n - 1;
-    if name[last] == b'/' {
-        return look(rt, s, h, records, &name[0..last], true);
-    }
-    look(rt, s, h, records, name, false)
-}
-
-fn seek(rt: &impl Print, object: &[u8], h: usize, name: &[u8]) -> io::Result<()> {
-    let mut records = [0usize; MOST * WIDTH];
-    let a = read_tree(object, h, &mut records);
-    let v = a.verdict;
-    if v.number != DONE {
-        return say_refused(rt, v);
-    }
-    sought(rt, object, h, first(&records, a.count), name)
+// The entry that has a name. A slash at the name's end says that a folder is sought.
+fn sought(object: &[u8], h: usize, name: &[u8]) -> Result<EntryRecord, Verdict> {
+    let mut numbers = [0usize; MOST * WIDTH];
+    let read = read_tree(object, h, &mut numbers);
+    done(read.verdict)?;
+    let records = numbers
+        .get(..read.count.saturating_mul(WIDTH))
+        .unwrap_or_default();
+    let (name, folder) = match name.strip_suffix(b"/") {
+        Some(front) => (front, true),
+        None => (name, false),
+    };
+    let a = bisect_entry(object, h, records, name, folder);
+    done(a.verdict)?;
+    Ok(entry_at(records, a.index))
 }
 
 // The words, the empty line behind them, and the object.
 fn work(rt: &impl Print, s: &[u8]) -> io::Result<()> {
     let ids = id_length(s);
-    let name = word_at(s, ids.next);
-    let blank = word_at(s, name.next);
-    seek(
-        rt,
-        part(s, blank.next, s.len()),
-        ids.h,
-        part(s, name.start, name.end),
-    )
+    let word = word_at(s, ids.next);
+    let blank = word_at(s, word.next);
+    let name = s.get(word.start..word.end).unwrap_or_default();
+    let object = s.get(blank.next..).unwrap_or_default();
+    match sought(object, ids.h, name) {
+        Ok(e) => say_entry(rt, object, ids.h, e),
+        Err(v) => say_refused(rt, v),
+    }
 }
 
 // Reads standard input; longer than it may be it is 2.
 fn main(rt: HostRuntime) -> io::Result<()> {
     let mut all = [0u8; LONGEST];
     match read_whole(&mut rt.stdin(), &mut all)? {
-        Some(n) => work(&rt, part(&all, 0, n)),
+        Some(n) => work(&rt, all.get(..n).unwrap_or_default()),
         None => say_too_long(&rt),
     }
 }

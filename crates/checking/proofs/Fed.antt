@@ -446,7 +446,7 @@ module _ (more : Bool) (rs h : ℕ) (big : 20 ≤ h) (s tail : List ℕ) where
 
                 double : before· ≡ true → Same
                 unfolding placed
-                double p = refuses 16 ends· (placing· Err Double (answer· true p)) (said true p)
+                double p = refuses 16 ends· (placing· (Err Double) (answer· true p)) (said true p)
 
                 kept : before· ≡ false → Same
                 unfolding placed tally

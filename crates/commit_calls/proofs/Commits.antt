@@ -27,6 +27,7 @@ use Rattle.commit_calls.specs.Calls.{of_commit}
 use Rattle.commit_calls.specs.First.{OfCommits}
 use Rattle.call.proofs.Laws.{answers_once, Of, done, zero, wider, two-lists, keeps, keeps-writes, keeps-stores, each-pick, each_within, each-size, each_gate}
 use Rattle.std.specs.Prelude.{Err, None, Ok, Option, Result, Some}
+use Rattle.commit_fields.specs.declared.Refusal as commit
 
 -- every way to unfold: a value, 2, 10, 8
 pub each_plan : (Q : Plan → Type 0) → ((v : List ℕ) → Q (stores v)) → Q (refuses (verdict 2 0)) → Q (refuses (verdict 10 0))
@@ -48,7 +49,7 @@ plan_kept out (stores v) z = absurd (z refl)
 plan_kept out (refuses v) z = refl
 
 -- every way to read an author's or committer's line: its value, 11, 12
-each_person : (Q : Result (ℕ × ℕ) Refusal → Type 0) → ((a e : ℕ) → Q (Ok (a, e))) → (s : List ℕ) (at : ℕ) (word : List ℕ) (field : ℕ)
+each_person : (Q : Result (ℕ × ℕ) commit.Refusal → Type 0) → ((a e : ℕ) → Q (Ok (a, e))) → (s : List ℕ) (at : ℕ) (word : List ℕ) (field : ℕ)
     → Q (Err (refusal 11 at field)) → Q (Err (refusal 12 at 0)) → Q (actor_at s at word field)
 unfolding actor_at actor_of
 each_person Q value s at word field eleven twelve = go (line_at word s at)
@@ -58,7 +59,7 @@ each_person Q value s at word field eleven twelve = go (line_at word s at)
     go (Some (a, e)) = each-pick Q (is_actor (part a e s)) (Ok (a, e)) (Err (refusal 12 at 0)) (value a e) twelve
 
 -- every way to read a commit: its parts, 1, 2, 11, 12, 4
-module _ (Q : Result Found Refusal → Type 0) (whole : (f : Found) → Q (Ok f)) (eleven : (at field : ℕ) → Q (Err (refusal 11 at field)))
+module _ (Q : Result Found commit.Refusal → Type 0) (whole : (f : Found) → Q (Ok f)) (eleven : (at field : ℕ) → Q (Err (refusal 11 at field)))
     (twelve : (at : ℕ) → Q (Err (refusal 12 at 0))) (s : List ℕ) (h : ℕ) where
   each-people : (n at : ℕ) → Q (people_of s n at)
   unfolding people_of with_author with_committer ending_of blank_of
@@ -74,7 +75,7 @@ module _ (Q : Result Found Refusal → Type 0) (whole : (f : Found) → Q (Ok f)
   unfolding fields_of
   each-fields = each-pick Q (id_at tree_word h s 0) _ (Err (refusal 11 0 1)) (each-people _ _) (eleven 0 1)
 
-pub each_outcome : (Q : Result Found Refusal → Type 0) → ((f : Found) → Q (Ok f)) → Q (Err (refusal 1 0 0)) → Q (Err (refusal 2 0 0))
+pub each_outcome : (Q : Result Found commit.Refusal → Type 0) → ((f : Found) → Q (Ok f)) → Q (Err (refusal 1 0 0)) → Q (Err (refusal 2 0 0))
     → ((at field : ℕ) → Q (Err (refusal 11 at field))) → ((at : ℕ) → Q (Err (refusal 12 at 0)))
     → (s : List ℕ) (h np nh : ℕ) → ((n : ℕ) → (np < n) ⊎ (nh < n) → Q (Err (refusal 4 n 0))) → Q (outcome_of s h np nh)
 unfolding outcome_of gated_by room_of
@@ -86,7 +87,7 @@ each_outcome Q whole one two eleven twelve s h np nh four =
         each_within Q f.parents np _ (Err (refusal 4 f.parents 0))
         (λ p. each_within Q f.headers nh (Ok f) (Err (refusal 4 f.headers 0)) (λ q. whole f) (λ l. four f.headers (inr l))) (λ l. four f.parents (inl l))
 
-pub outcome_kept : (s : List ℕ) (h : ℕ) (ps hs : List ℕ) (o : Result Found Refusal) → Refusal (answer_in o).verdict → parents_in h ps o ∷ headers_in s hs o ∷ [] ≡ ps ∷ hs ∷ []
+pub outcome_kept : (s : List ℕ) (h : ℕ) (ps hs : List ℕ) (o : Result Found commit.Refusal) → Refusal (answer_in o).verdict → parents_in h ps o ∷ headers_in s hs o ∷ [] ≡ ps ∷ hs ∷ []
 unfolding answer_in parents_in headers_in
 outcome_kept s h ps hs (Ok f) z = absurd (z refl)
 outcome_kept s h ps hs (Err r) z = refl

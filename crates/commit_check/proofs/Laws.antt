@@ -7,7 +7,7 @@ use mathlib.Core.Path.{◌≡◌, refl, ap, sym, ◌∙◌}
 use mathlib.Core.Bool.{Bool, true, false}
 use mathlib.Core.List.{List, [], ◌∷◌, ◌++◌, map}
 use lib.Dec.{eqb, leb}
-use lib.ListN.{length, get_or, drop, length-append, length-map, length-drop, drop_of_length-le}
+use lib.ListN.{length, get_or, drop, length-append, length-map, length-drop}
 use lib.Seq.{drop-cons}
 use borrow.Author.Tests.{eq-eqb, ne_eqb, eqb-true, le-leb, lt-leb, leb-true}
 use Rattle.ground.specs.Basics.{pick}
@@ -31,14 +31,6 @@ use Rattle.std.specs.Prelude.{Err, Ok, Result, ⊤}
 -- ---- one record
 
 module _ (from to len : ℕ) where
-  pub range_back : to < from → ranged from to len ≡ false
-  unfolding ranged
-  range_back p = simp (lt-leb from to p)
-
-  pub range-is : from ≤ to → ranged from to len ≡ leb to len
-  unfolding ranged
-  range-is p = simp (le-leb from to p)
-
   pub range-parts : ranged from to len ≡ true → (from ≤ to) × (to ≤ len)
   unfolding ranged
   range-parts e = (leb-true from to (and_left (leb from to) (leb to len) e), leb-true to len (and_right (leb from to) (leb to len) e))
@@ -68,10 +60,6 @@ module _ (len : ℕ) (p : CommitParts) where
   pub encoding-one : p.encoding ≡ 1 → encoding_fits len p ≡ ranged p.encoding_start p.encoding_end len
   unfolding encoding_fits
   encoding-one e = simp (ne_eqb p.encoding 0 (λ z. omega (arith, e)), eq-eqb p.encoding 1 e)
-
-  pub encoding_other : (p.encoding ≡ 0 → ⊥) → (p.encoding ≡ 1 → ⊥) → encoding_fits len p ≡ false
-  unfolding encoding_fits
-  encoding_other a b = simp (ne_eqb p.encoding 0 a, ne_eqb p.encoding 1 b)
 
 module _ (bytes : List ℕ) (x : HeaderRecord) where
   pub header-bad : well_formed x (length bytes) ≡ false → header_fits bytes x ≡ false
@@ -112,17 +100,6 @@ pub passing_on : (a b : List Bool) → length a ≤ passing a → passing (a ++ 
 passing_on [] b p = omega arith
 passing_on (true ∷ a) b p = omega (arith, passing_on a b (omega arith))
 passing_on (false ∷ a) b p = absurd (omega arith)
-
--- the lent parents from an index on
-module _ (f : ℕ → Bool) (l : List ℕ) (i : ℕ) where
-  pub run_end : length l ≤ i → passing (map f (drop i l)) ≡ 0
-  run_end p = rw (drop_of_length-le l {i = i} p)
-
-  pub run-bad : i < length l → f (get_or l i 0) ≡ false → passing (map f (drop i l)) ≡ 0
-  run-bad p e = rw (drop-cons l i 0 p) (rw e)
-
-  pub run_more : i < length l → f (get_or l i 0) ≡ true → passing (map f (drop i l)) ≡ suc (passing (map f (drop (i + 1) l)))
-  run_more p e = rw (add-one i, drop-cons l i 0 p) (rw e)
 
 -- the lent headers from an index on, n in all
 module _ (l : List ℕ) (n i : ℕ) where

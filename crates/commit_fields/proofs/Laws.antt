@@ -29,6 +29,7 @@ use Rattle.commit_fields.specs.declared.Encoding.{Encoding}
 use Rattle.commit_fields.specs.declared.HeaderCount.{HeaderCount}
 use Rattle.commit_fields.specs.declared.Found.{Found}
 use Rattle.std.specs.Prelude.{Err, None, Ok, Option, Result, Some, ⊤}
+use Rattle.ground.proofs.Pairs.{ok_parts}
 
 -- ---- the parents
 
@@ -138,8 +139,9 @@ module _ (s : List ℕ) (at : ℕ) (w : List ℕ) (field : ℕ) where
           go false b = let z : ◌≡◌ {A = ℕ} 0 1 = cc (actor_bad from to r b) in absurd (omega arith)
           go true b =
               let k = actor_good from to r b in
-              let x : from ≡ a = cc in
-              let y : to ≡ e = cc in
+              let w = ok_parts (sym k ∙ q) in
+              let x = w.0 in
+              let y = w.1 in
               (rw (← x, ← y) r, rw (← x, ← y) b)
 
   pub actor_fits : (a e : ℕ) → actor_at s at w field ≡ Ok (a, e) → e < length s

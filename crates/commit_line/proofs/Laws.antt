@@ -14,6 +14,7 @@ use Rattle.ground.proofs.Laws.{and_left, and_right, place-from}
 use Rattle.hex_digits.specs.Hex.{is_hex}
 use Rattle.commit_line.specs.Line.{word_at, id_from, id_at, line_from, line_at}
 use Rattle.std.specs.Prelude.{None, Some}
+use Rattle.ground.proofs.Pairs.{some_parts}
 
 -- ---- a word and a space
 
@@ -94,9 +95,8 @@ line-parts w s at a e v = go (place_from 10 s (at + length w + 1)) refl (word_at
     go lf r true q true p =
         let i = ltb-true lf (length s) p in
         let k = line-value w s at q lf r i in
-        let x : a ≡ at + length w + 1 = cc in
-        let y : e ≡ lf = cc in
-        (q, x, y ∙ r, omega arith)
+        let w = some_parts (sym v ∙ k) in
+        (q, w.0, w.1 ∙ r, omega (arith, w.1))
 
 pub line-fits : (w s : List ℕ) (at a e : ℕ) → line_at w s at ≡ Some (a, e) → (a ≤ e) × (e < length s)
 line-fits w s at a e v = let k = line-parts w s at a e v in (omega (arith, k, place-from 10 s (at + length w + 1)), k.3)

@@ -2,64 +2,36 @@
 #![tactic(auto)]
 
 ghost use Rattle.std.specs.Prelude.{◌≡◌, ◌+◌, ◌≤◌, ◌<◌, length, take, drop};
-ghost use Rattle.scan.specs.Word.{WordOf};
 ghost use Rattle.order.specs.Order.{name_order};
-ghost use Rattle.compare.specs.Told.{turned, Within, Ready, Told};
+ghost use Rattle.compare.specs.Told.{NumberOf, Within, Ready, Told};
 
 use ground::shorter;
 use order::by_next;
 use std::cmp::Ordering;
 
-// A byte as a number of eight bytes.
-fn wide(x: u8) -> u64
-    ensures same { result ≡ x }
-    ensures small { result < 256 }
-{
-    x as u64
-}
-
-// Four bytes as one number, the first lowest.
-fn four(s: &[u8], i: usize) -> u64
+// Four bytes as one number, the first highest.
+fn four(s: &[u8], i: usize) -> u32
     requires { i + 4 ≤ length s.now }
-    ensures made { WordOf (take 4 (drop i s.now)) result }
-    ensures small { result < 4294967296 }
+    ensures { NumberOf 4 (take 4 (drop i s.now)) result }
 {
-    let a = wide(s[i]);
-    let b = wide(s[i + 1]);
-    let c = wide(s[i + 2]);
-    let d = wide(s[i + 3]);
-    a + b * 256 + c * 65536 + d * 16777216
+    u32::from_be_bytes([s[i], s[i + 1], s[i + 2], s[i + 3]])
 }
 
-// Eight bytes as one number, the first lowest.
+// Eight bytes as one number, the first highest.
 fn eight(s: &[u8], i: usize) -> u64
     requires { i + 8 ≤ length s.now }
-    ensures { WordOf (take 8 (drop i s.now)) result }
+    ensures { NumberOf 8 (take 8 (drop i s.now)) result }
 {
-    let low = four(s, i);
-    let high = four(s, i + 4);
-    low + high * 4294967296
-}
-
-// The two lowest bytes of a number, the lowest first.
-fn turn_2(w: u64) -> u64
-    ensures { result ≡ turned 2 w }
-{
-    w % 256 * 256 + w / 256 % 256
-}
-
-// The four lowest bytes of a number, the lowest first.
-fn turn_4(w: u64) -> u64
-    ensures { result ≡ turned 4 w }
-{
-    turn_2(w) * 65536 + turn_2(w / 65536)
-}
-
-// The eight bytes of a number, the lowest first.
-fn turn_8(w: u64) -> u64
-    ensures { result ≡ turned 8 w }
-{
-    turn_4(w) * 4294967296 + turn_4(w / 4294967296)
+    u64::from_be_bytes([
+        s[i],
+        s[i + 1],
+        s[i + 2],
+        s[i + 3],
+        s[i + 4],
+        s[i + 5],
+        s[i + 6],
+        s[i + 7],
+    ])
 }
 
 // Two names that agree up to a place, by their next four bytes.
@@ -72,7 +44,7 @@ fn order_4(a: &[u8], b: &[u8], i: usize) -> Ordering
     if x == y {
         return Ordering::Equal;
     }
-    if turn_8(x) < turn_8(y) {
+    if x < y {
         return Ordering::Less;
     }
     Ordering::Greater
@@ -88,7 +60,7 @@ fn order_8(a: &[u8], b: &[u8], i: usize) -> Ordering
     if x == y {
         return Ordering::Equal;
     }
-    if turn_8(x) < turn_8(y) {
+    if x < y {
         return Ordering::Less;
     }
     Ordering::Greater

@@ -17,8 +17,7 @@ pub fn is_path(path: &[u8]) -> bool
     ensures { result ≡ is_path (pieces path.now) }
 {
     let mut at: usize = 0;
-    let mut n: usize = 0;
-    while n < MOST_COMPONENTS {
+    for _ in 0..MOST_COMPONENTS {
         let end = find_byte(path, at, b'/');
         if end == at {
             return false;
@@ -27,7 +26,6 @@ pub fn is_path(path: &[u8]) -> bool
             return true;
         }
         at = end + 1;
-        n += 1;
     }
     false
 }

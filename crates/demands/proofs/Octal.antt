@@ -12,6 +12,7 @@ use Rattle.mode.specs.declared.EntryMode.{EntryMode}
 use Rattle.mode.proofs.Laws.{read-parts}
 use Rattle.demands.specs.Demand2.{octal, are_octal, text_in}
 use Rattle.std.specs.Prelude.{None, Option, Some}
+use Rattle.ground.proofs.Pairs.{some_parts}
 
 -- ---- modulo 65,536
 
@@ -53,9 +54,8 @@ mode-says : (first rest sum : ℕ) (bs : List ℕ) (m n : ℕ) → sum < 65536 �
     → (are_octal bs ≡ true) × (m ≡ settle ((sum * 8 ^ length bs + octal bs) % 65536) first)
 unfolding octal_from octal
 mode-says first rest sum [] m n l e =
-    let i : ◌≡◌ {A = EntryMode} (record { internal = settle sum first }) (record { internal = m }) = cc in
     let z : sum ≡ (sum * 1 + 0) % 65536 = omega arith in
-    (refl, sym (ap (λ (x : EntryMode). x.internal) i) ∙ ap (λ (v : ℕ). settle v first) z)
+    (refl, sym (ap (λ (x : EntryMode). x.internal) (some_parts e).0) ∙ ap (λ (v : ℕ). settle v first) z)
 mode-says first rest sum (b ∷ bs) m n l e =
     go (mode-says first rest ((sum * 8 + (b - 48)) % 65536) bs m n (omega arith)) (is_octal b) refl (sym (digit first rest sum b bs) ∙ e)
   where

@@ -4,212 +4,150 @@
 #![tactic(auto)]
 
 use difference::compare_trees;
-use ground::DONE;
+use ground::Verdict;
 use hex_of_id::hex_of_id;
 use id_of_hex::id_of_hex;
 use item::ITEM;
-use saying::{read_whole, say, say_refused, say_too_long};
+use saying::{done, read_whole, say, say_refused, say_too_long};
 use std::io;
 use std::io::Read;
 use words::word_at;
 
-// The bytes from one place to another, or none where they do not lie inside.
-fn part(s: &[u8], from: usize, to: usize) -> &[u8] {
-    if s.len() < to {
-        return &s[0..0];
-    }
-    if to < from {
-        return &s[0..0];
-    }
-    &s[from..to]
+// An id that was read: its first bytes, and how many there are.
+#[derive(Clone, Copy)]
+struct Id {
+    bytes: [u8; 32],
+    size: usize,
 }
 
-// The last three bits of a number as an octal digit.
-fn digit(n: usize) -> u8 {
-    (n % 8) as u8 + b'0'
-}
-
-// A mode in six octal digits.
-fn mode(rt: &impl Print, n: usize) -> io::Result<()> {
-    let text = [
-        digit(n / 32768),
-        digit(n / 4096),
-        digit(n / 512),
-        digit(n / 64),
-        digit(n / 8),
-        digit(n),
-    ];
-    say(rt, &text)?;
-    say(rt, b" ")
-}
-
-// As many zeros as an id of h bytes has digits.
-fn zeros(rt: &impl Print, h: usize) -> io::Result<()> {
-    let digits = [b'0'; 64];
-    say(rt, part(&digits, 0, 40))?;
-    if h == 32 {
-        return say(rt, part(&digits, 40, 64));
+impl Id {
+    fn as_slice(&self) -> &[u8] {
+        self.bytes.get(..self.size).unwrap_or_default()
     }
-    Ok(())
 }
 
-// The id of h bytes at a place in hex; zeros where the side is not there.
-fn id(rt: &impl Print, bundle: &[u8], h: usize, mode: usize, at: usize) -> io::Result<()> {
-    if mode == 0 {
-        return zeros(rt, h);
-    }
+// One side of an item: its mode, 0 where it is not there, and where its id stands in the bundle.
+#[derive(Clone, Copy)]
+struct Side {
+    mode: usize,
+    at: usize,
+}
+
+// The id that a text says in hex.
+fn id_of(text: &[u8]) -> Result<Id, Verdict> {
+    let mut bytes = [0u8; 32];
+    let a = id_of_hex(text, &mut bytes);
+    done(a.verdict)?;
+    Ok(Id {
+        bytes,
+        size: a.count,
+    })
+}
+
+// The id of h bytes of a side in hex; zeros where the side is not there.
+fn say_id(rt: &impl Print, bundle: &[u8], h: usize, side: Side) -> io::Result<()> {
     let mut digits = [b'0'; 64];
-    let rest = part(bundle, at, bundle.len());
-    let a = hex_of_id(part(rest, 0, h), &mut digits);
-    say(rt, part(&digits, 0, a.count))
+    let mut long = h.saturating_mul(2);
+    if side.mode != 0 {
+        let id = bundle.get(side.at..side.at.saturating_add(h));
+        long = hex_of_id(id.unwrap_or_default(), &mut digits).count;
+    }
+    say(rt, digits.get(..long).unwrap_or_default())
 }
 
 // Git's letter: added, deleted, another sort of thing, or modified.
-fn letter(rt: &impl Print, left: usize, right: usize) -> io::Result<()> {
-    if left == 0 {
-        return say(rt, b"A\t");
+fn letter(left: usize, right: usize) -> char {
+    match (left, right) {
+        (0, _) => 'A',
+        (_, 0) => 'D',
+        _ if left / 4096 != right / 4096 => 'T',
+        _ => 'M',
     }
-    if right == 0 {
-        return say(rt, b"D\t");
-    }
-    if left / 4096 != right / 4096 {
-        return say(rt, b"T\t");
-    }
-    say(rt, b"M\t")
 }
 
 // Whether Git writes a path that has this byte in quotes.
 fn is_odd(b: u8) -> bool {
-    if b < 32 {
-        return true;
-    }
-    if 126 < b {
-        return true;
-    }
-    if b == b'"' {
-        return true;
-    }
-    b == b'\\'
+    !matches!(b, b' '..=b'~') || matches!(b, b'"' | b'\\')
 }
 
-// The letter that stands for a byte behind a backslash; 0 where none does.
-fn short(b: u8) -> u8 {
+// The letter that stands for a byte behind a backslash.
+fn short(b: u8) -> Option<char> {
     match b {
-        7 => b'a',
-        8 => b'b',
-        9 => b't',
-        10 => b'n',
-        11 => b'v',
-        12 => b'f',
-        13 => b'r',
-        34 => b'"',
-        92 => b'\\',
-        _ => 0,
+        7 => Some('a'),
+        8 => Some('b'),
+        9 => Some('t'),
+        10 => Some('n'),
+        11 => Some('v'),
+        12 => Some('f'),
+        13 => Some('r'),
+        b'"' => Some('"'),
+        b'\\' => Some('\\'),
+        _ => None,
     }
 }
 
-// A byte that Git writes in quotes, escaped as it does.
-fn escaped(rt: &impl Print, b: u8) -> io::Result<()> {
-    say(rt, b"\\")?;
-    let named = short(b);
-    if named != 0 {
-        let one = [named];
-        return say(rt, &one);
+// A byte of a path in quotes, as Git writes it.
+fn say_quoted(rt: &impl Print, b: u8) -> io::Result<()> {
+    if !is_odd(b) {
+        return say(rt, &[b]);
     }
-    let n = b as usize;
-    let text = [digit(n / 64), digit(n / 8), digit(n)];
-    say(rt, &text)
+    match short(b) {
+        Some(c) => print!(rt; "\\{c}"),
+        None => print!(rt; "\\{b:03o}"),
+    }
 }
 
-// Whether Git writes a path in quotes.
-fn has_odd(s: &[u8]) -> bool {
-    let mut i: usize = 0;
-    while i < s.len() {
-        if is_odd(s[i]) {
-            return true;
-        }
-        i += 1;
+// A path as Git writes it.
+fn say_path(rt: &impl Print, s: &[u8]) -> io::Result<()> {
+    if !s.iter().any(|b| is_odd(*b)) {
+        return say(rt, s);
     }
-    false
+    say(rt, b"\"")?;
+    for b in s {
+        say_quoted(rt, *b)?;
+    }
+    say(rt, b"\"")
 }
 
-// A byte of a path in quotes.
-fn quoted(rt: &impl Print, b: u8) -> io::Result<()> {
-    if is_odd(b) {
-        return escaped(rt, b);
-    }
-    let one = [b];
-    say(rt, &one)
+// Both modes in six octal digits, both ids and the letter.
+fn say_change(rt: &impl Print, bundle: &[u8], h: usize, left: Side, right: Side) -> io::Result<()> {
+    print!(rt;
+        ":{:06o} {:06o} ",
+        left.mode % 0o1000000,
+        right.mode % 0o1000000
+    )?;
+    say_id(rt, bundle, h, left)?;
+    say(rt, b" ")?;
+    say_id(rt, bundle, h, right)?;
+    print!(rt; " {}\t", letter(left.mode, right.mode))
 }
 
-// The bytes of a path in quotes.
-fn all_quoted(rt: &impl Print, s: &[u8]) -> io::Result<()> {
-    let mut i: usize = 0;
-    while i < s.len() {
-        quoted(rt, s[i])?;
-        i += 1;
+// The line of an item: where its path starts and ends, and both modes and places.
+fn say_item(
+    rt: &impl Print,
+    bundle: &[u8],
+    h: usize,
+    paths: &[u8],
+    item: &[usize],
+) -> io::Result<()> {
+    if let [start, end, left, right, i, j] = item {
+        let left = Side {
+            mode: *left,
+            at: *i,
+        };
+        let right = Side {
+            mode: *right,
+            at: *j,
+        };
+        say_change(rt, bundle, h, left, right)?;
+        say_path(rt, paths.get(*start..*end).unwrap_or_default())?;
+        say(rt, b"\n")?;
     }
     Ok(())
 }
 
-// A path as Git writes it.
-fn path(rt: &impl Print, s: &[u8]) -> io::Result<()> {
-    if has_odd(s) {
-        say(rt, b"\"")?;
-        all_quoted(rt, s)?;
-        return say(rt, b"\"");
-    }
-    say(rt, s)
-}
-
-// Both modes, both ids and the letter.
-fn change(
-    rt: &impl Print,
-    bundle: &[u8],
-    h: usize,
-    left: usize,
-    right: usize,
-    i: usize,
-    j: usize,
-) -> io::Result<()> {
-    say(rt, b":")?;
-    mode(rt, left)?;
-    mode(rt, right)?;
-    id(rt, bundle, h, left, i)?;
-    say(rt, b" ")?;
-    id(rt, bundle, h, right, j)?;
-    say(rt, b" ")?;
-    letter(rt, left, right)
-}
-
-// The line of item i.
-fn line(
-    rt: &impl Print,
-    bundle: &[u8],
-    h: usize,
-    items: &[usize],
-    paths: &[u8],
-    i: usize,
-) -> io::Result<()> {
-    if items.len() / ITEM <= i {
-        return Ok(());
-    }
-    let at = i * ITEM;
-    change(
-        rt,
-        bundle,
-        h,
-        items[at + 2],
-        items[at + 3],
-        items[at + 4],
-        items[at + 5],
-    )?;
-    path(rt, part(paths, items[at], items[at + 1]))?;
-    say(rt, b"\n")
-}
-
 // The lines of so many items.
-fn lines(
+fn say_items(
     rt: &impl Print,
     bundle: &[u8],
     h: usize,
@@ -217,67 +155,39 @@ fn lines(
     paths: &[u8],
     count: usize,
 ) -> io::Result<()> {
-    let mut i: usize = 0;
-    while i < count {
-        line(rt, bundle, h, items, paths, i)?;
-        i += 1;
+    for item in items.chunks_exact(ITEM).take(count) {
+        say_item(rt, bundle, h, paths, item)?;
     }
     Ok(())
 }
 
+// Two trees of a bundle, by their ids in hex: how long an id is, and how many items there are.
 fn compare(
-    rt: &impl Print,
     bundle: &[u8],
     left: &[u8],
     right: &[u8],
     items: &mut [usize],
     paths: &mut [u8],
-) -> io::Result<()> {
-    let a = compare_trees(bundle, left, right, items, paths);
-    let v = a.verdict;
-    if v.number != DONE {
-        return say_refused(rt, v);
-    }
-    lines(rt, bundle, left.len(), items, paths, a.count)
+) -> Result<(usize, usize), Verdict> {
+    let left = id_of(left)?;
+    let right = id_of(right)?;
+    let a = compare_trees(bundle, left.as_slice(), right.as_slice(), items, paths);
+    done(a.verdict)?;
+    Ok((left.size, a.count))
 }
 
-// The second word, the empty line behind it, and the bundle.
-fn with_left(
-    rt: &impl Print,
-    s: &[u8],
-    at: usize,
-    left: &[u8],
-    items: &mut [usize],
-    paths: &mut [u8],
-) -> io::Result<()> {
-    let mut to = [0u8; 32];
-    let right = word_at(s, at);
-    let b = id_of_hex(part(s, right.start, right.end), &mut to);
-    let w = b.verdict;
-    if w.number != DONE {
-        return say_refused(rt, w);
-    }
-    let blank = word_at(s, right.next);
-    compare(
-        rt,
-        part(s, blank.next, s.len()),
-        left,
-        part(&to, 0, b.count),
-        items,
-        paths,
-    )
-}
-
-// The first word, and what is behind it.
+// The two words, the empty line behind them, and the bundle.
 fn differ(rt: &impl Print, s: &[u8], items: &mut [usize], paths: &mut [u8]) -> io::Result<()> {
-    let mut from = [0u8; 32];
-    let left = word_at(s, 0);
-    let a = id_of_hex(part(s, left.start, left.end), &mut from);
-    let v = a.verdict;
-    if v.number != DONE {
-        return say_refused(rt, v);
+    let first = word_at(s, 0);
+    let second = word_at(s, first.next);
+    let blank = word_at(s, second.next);
+    let left = s.get(first.start..first.end).unwrap_or_default();
+    let right = s.get(second.start..second.end).unwrap_or_default();
+    let bundle = s.get(blank.next..).unwrap_or_default();
+    match compare(bundle, left, right, items, paths) {
+        Ok((h, count)) => say_items(rt, bundle, h, items, paths, count),
+        Err(v) => say_refused(rt, v),
     }
-    with_left(rt, s, left.next, part(&from, 0, a.count), items, paths)
 }
 
 // Reads standard input into the lent bytes.
@@ -289,7 +199,7 @@ fn work(
     paths: &mut [u8],
 ) -> io::Result<()> {
     match read_whole(input, all)? {
-        Some(n) => differ(rt, part(all, 0, n), items, paths),
+        Some(n) => differ(rt, all.get(..n).unwrap_or_default(), items, paths),
         None => say_too_long(rt),
     }
 }

@@ -50,7 +50,7 @@ pub size-shut : (bytes records : ℕ) (g : Result ⊤ Verdict) (v : Verdict) →
 unfolding size_gate
 size-shut bytes records g v e k = go (leb bytes most_bytes && leb records most_records) (sym e ∙ k)
   where
-    go : (t : Bool) → pick t (Ok tt) (Err (verdict 2 0)) ≡ Err v → v.number ≡ 0 → ⊥
+    go : (t : Bool) → pick {A = Result ⊤ Verdict} t (Ok tt) (Err (verdict 2 0)) ≡ Err v → v.number ≡ 0 → ⊥
     go true q h = let z : ◌≡◌ {A = ℕ} 0 1 = cc in omega arith
     go false q h = let u : verdict 2 0 ≡ v = cc in omega (arith, ap (λ (x : Verdict). x.number) u)
 

@@ -21,16 +21,12 @@ fn kept(marks: &[u32], n: usize, p: usize) -> usize
     requires { n ≤ length marks.now }
     ensures { result ≡ kept_of marks.now p n }
 {
-    let mut k = n;
-    while 0 < k {
-        let top = k - 1;
-        let mark = marks[top] as usize;
-        if mark <= p {
-            return k;
+    for k in (0..n).rev() {
+        if marks[k] as usize <= p {
+            return k + 1;
         }
-        k = top;
     }
-    k
+    0
 }
 
 // The marks at the next name, which shares p bytes with a name of len bytes, a folder's or not.
@@ -39,10 +35,7 @@ fn open_next(marks: &mut [u32], n: usize, p: usize, len: usize, was: bool) -> us
     ensures count { result ≡ open_at marks.old n p len was }
     ensures marks { marks.new ≡ marks_at marks.old n p len was }
 {
-    if was {
-        return kept(marks, n, p);
-    }
-    if p < len {
+    if was || p < len {
         return kept(marks, n, p);
     }
     if marks.len() <= n {
@@ -57,15 +50,10 @@ fn is_double(marks: &[u32], k: usize, len: usize, folder: bool) -> bool
     requires { k ≤ length marks.now }
     ensures { result ≡ is_double marks.now k len folder }
 {
-    if folder {
-        if k == 0 {
-            return false;
-        }
-        let top = k - 1;
-        let mark = marks[top] as usize;
-        return mark == len;
+    if !folder || k == 0 {
+        return false;
     }
-    false
+    marks[k - 1] as usize == len
 }
 
 // An entry of size bytes that stands after one of len bytes, of which it shares p. The marks keep the names that are open.

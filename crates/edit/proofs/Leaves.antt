@@ -25,6 +25,7 @@ use Rattle.one_listing.specs.Lawful.{RowOk, RowsOk}
 use Rattle.one_listing.proofs.Present.{git_ok}
 use Rattle.edit.specs.Edit.{new_no}
 use Rattle.std.specs.Prelude.{Some}
+use Rattle.ground.proofs.Pairs.{some_parts}
 
 -- ---- a mode by its text
 
@@ -50,8 +51,7 @@ reads-alike : (m r : ℕ) → (m ≡ 0 → ⊥) → m < 65536 → (r ≡ 0 → �
 reads-alike m r a b c d q =
     let e : Some (record { internal = again m }, length (write_mode m) + 1) ≡ Some (record { internal = again r }, length (write_mode r) + 1)
     = sym (written_reads m [] a b) ∙ ap (λ (t : List ℕ). read_mode (t ++ 32 ∷ [])) q ∙ written_reads r [] c d in
-    let j : ◌≡◌ {A = EntryMode} (record { internal = again m }) (record { internal = again r }) = cc in
-    ap (λ (x : EntryMode). x.internal) j
+    ap (λ (x : EntryMode). x.internal) (some_parts e).0
 
 again_back : (m r : ℕ) → again m ≡ r → (r ≤ 16384) ⊎ (20480 ≤ r) → m ≡ r
 again_back m r e p = go p (λ a b. again_less m a b) (λ f. again-same m f)

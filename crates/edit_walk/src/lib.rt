@@ -68,29 +68,31 @@ fn carry(
                 left = 0;
                 continue;
             }
-            Some((Fate::Out, next)) => {
-                at = next;
-                left -= 1;
-                continue;
-            }
-            Some((Fate::Over, next)) => {
-                put(out, used, &s[at..next]);
-                used += next - at;
-                kept += 1;
-                at = next;
-                left -= 1;
-                continue;
-            }
-            Some((Fate::Behind, next)) => {
-                let from = put_new(out, used, mode, name, id);
-                put(out, from, &s[at..next]);
-                used = from + (next - at);
-                kept += 1;
-                placed = true;
-                at = next;
-                left -= 1;
-                continue;
-            }
+            Some((fate, next)) => match fate {
+                Fate::Out => {
+                    at = next;
+                    left -= 1;
+                    continue;
+                }
+                Fate::Over => {
+                    put(out, used, &s[at..next]);
+                    used += next - at;
+                    kept += 1;
+                    at = next;
+                    left -= 1;
+                    continue;
+                }
+                Fate::Behind => {
+                    let from = put_new(out, used, mode, name, id);
+                    put(out, from, &s[at..next]);
+                    used = from + (next - at);
+                    kept += 1;
+                    placed = true;
+                    at = next;
+                    left -= 1;
+                    continue;
+                }
+            },
         }
     }
     if placed {

@@ -1,6 +1,6 @@
 -- Laws of extra headers and folded values, one for each way through a definition. Assumes nothing.
 use Prim.Native.Nat.{ℕ, suc, ◌+◌, ◌<◌, ◌≤◌}
-use mathlib.Core.Path.{◌≡◌, refl, ◌∙◌}
+use mathlib.Core.Path.{◌≡◌, refl, sym, ◌∙◌}
 use mathlib.Core.Bool.{Bool, true, false}
 use mathlib.Core.List.{List, [], ◌∷◌}
 use mathlib.Core.Logic.{◌⊎◌, inl, inr}
@@ -17,6 +17,7 @@ use Rattle.extra_header.specs.Extra.{fold_from, fold_end, folded_or, extra_at, f
 use Rattle.header.specs.Record.{header_of}
 use Rattle.header.specs.declared.HeaderRecord.{HeaderRecord}
 use Rattle.std.specs.Prelude.{None, Some}
+use Rattle.ground.proofs.Pairs.{some_parts}
 
 -- ---- lines that start with a space
 
@@ -173,8 +174,9 @@ extra_parts s at x next e =
             let c = ltb-true lf (length s) r in
             let n = ltb-false (lf + 1) end t in
             let w = extra_line s at space lf i j a b c end k n in
-            let y : x ≡ header_of at space (space + 1) lf 0 = cc in
-            let z : next ≡ lf + 1 = cc in
+            let parts = some_parts (sym e ∙ w) in
+            let y = parts.0 in
+            let z = parts.1 in
             record { space = space; lf = lf; end = end; space_is = i; lf_is = j; end_is = k; named = a; spaced = b; ended = c; read = inl (n, y, z) }
         go true p true q true r true t =
             let a = ltb-true at space p in
@@ -182,8 +184,9 @@ extra_parts s at x next e =
             let c = ltb-true lf (length s) r in
             let n = ltb-true (lf + 1) end t in
             let w = extra_folded s at space lf i j a b c end k n in
-            let y : x ≡ header_of at space (space + 1) end 1 = cc in
-            let z : next ≡ end = cc in
+            let parts = some_parts (sym e ∙ w) in
+            let y = parts.0 in
+            let z = parts.1 in
             record { space = space; lf = lf; end = end; space_is = i; lf_is = j; end_is = k; named = a; spaced = b; ended = c; read = inr (n, y, z) }
 
 -- the next header starts further on, within the bytes

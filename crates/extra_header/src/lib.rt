@@ -12,10 +12,7 @@ fn fold_end(s: &[u8], start: usize) -> usize
     ensures { result ≡ fold_end s.now start }
 {
     let mut at = start;
-    while at < s.len() {
-        if s[at] != b' ' {
-            return at;
-        }
+    while at < s.len() && s[at] == b' ' {
         let lf = find_byte(s, at + 1, b'\n');
         if s.len() <= lf {
             return start;
@@ -34,13 +31,7 @@ pub fn extra_at(s: &[u8], at: usize) -> Option<(HeaderRecord, usize)>
         return None;
     }
     let space = find_byte(s, at, b' ');
-    if space <= at {
-        return None;
-    }
-    if lf <= space {
-        return None;
-    }
-    if s.len() <= lf {
+    if space <= at || lf <= space || s.len() <= lf {
         return None;
     }
     let value = space + 1;
@@ -80,8 +71,5 @@ pub fn is_folded(v: &[u8]) -> bool
     }
     let rest = n + 1;
     let end = fold_end(v, rest);
-    if end <= rest {
-        return false;
-    }
-    end == v.len()
+    rest < end && end == v.len()
 }

@@ -26,14 +26,9 @@ fn put_hex(out: &mut [u8], id: &[u8])
     requires { 2 * length id.now ≤ length out.old }
     ensures { out.new ≡ sets out.old 0 (hex_of id.now) }
 {
-    let mut i = 0;
-    while i < id.len() {
-        let b = id[i];
-        let at = 2 * i;
-        let next = at + 1;
-        out[at] = digit_of(b / 16);
-        out[next] = digit_of(b);
-        i += 1;
+    for (i, b) in id.iter().enumerate() {
+        out[2 * i] = digit_of(*b / 16);
+        out[2 * i + 1] = digit_of(*b);
     }
 }
 

@@ -103,10 +103,6 @@ pub read-hex : (d : List ℕ) → is_hex d ≡ true → digits_read d ≡ counte
 unfolding digits_read
 read-hex d e = rw e
 
-pub read-other : (d : List ℕ) → is_hex d ≡ false → digits_read d ≡ refused (verdict 10 0)
-unfolding digits_read
-read-other d e = rw e
-
 -- digits that are read are hex
 pub read_done : (d : List ℕ) → (digits_read d).verdict.number ≡ 0 → (is_hex d ≡ true) × ((digits_read d).count ≡ length d / 2)
 unfolding digits_read

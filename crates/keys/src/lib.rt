@@ -38,7 +38,7 @@ fn end(text: &[u8], width: usize, from: usize) -> usize
     text.len()
 }
 
-// Keys that compare Same so far: the shorter is below, and of one length the smaller element.
+// Keys that compare Equal so far: the shorter is below, and of one length the smaller element.
 fn below_same(a: usize, b: usize, x: u32, y: u32) -> bool
     ensures { result ≡ decide (by_number a b) (ltb x y) }
 {

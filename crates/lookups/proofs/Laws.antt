@@ -262,7 +262,7 @@ pub first-room : (h bytes records n room : ℕ) → first_gate h bytes records n
 unfolding first_gate
 first-room h bytes records n room e = go (gate_of h bytes (max records (max n room))) refl e
   where
-    last : (v : Bool) → leb n room ≡ v → pick v (Ok tt) (Err (verdict 4 n)) ≡ Ok tt → n ≤ room
+    last : (v : Bool) → leb n room ≡ v → pick {A = Result ⊤ Verdict} v (Ok tt) (Err (verdict 4 n)) ≡ Ok tt → n ≤ room
     last true q e = leb-true n room q
     last false q e = let z : ◌≡◌ {A = ℕ} 0 1 = cc in absurd (omega arith)
 
@@ -276,10 +276,10 @@ pub first-refuses : (h bytes records n room : ℕ) (v : Verdict) → first_gate 
 unfolding first_gate
 first-refuses h bytes records n room v e = go (gate_of h bytes (max records (max n room))) refl e
   where
-    number : {w : Verdict} → Err w ≡ Err v → w.number ≡ v.number
+    number : {w : Verdict} → ◌≡◌ {A = Result ⊤ Verdict} (Err w) (Err v) → w.number ≡ v.number
     number {w} q = let e : w ≡ v = cc in ap (λ (x : Verdict). x.number) e
 
-    last : (t : Bool) → pick t (Ok tt) (Err (verdict 4 n)) ≡ Err v → (v.number ≡ 1) ⊎ ((v.number ≡ 2) ⊎ (v.number ≡ 4))
+    last : (t : Bool) → pick {A = Result ⊤ Verdict} t (Ok tt) (Err (verdict 4 n)) ≡ Err v → (v.number ≡ 1) ⊎ ((v.number ≡ 2) ⊎ (v.number ≡ 4))
     last true q = let z : ◌≡◌ {A = ℕ} 0 1 = cc in absurd (omega arith)
     last false q = inr (inr (sym (number q)))
 

@@ -52,10 +52,7 @@ fn sought_at(sought: &[usize], i: usize) -> Sought
 fn well_sought(q: Sought, len: usize) -> bool
     ensures { result ≡ well_sought len q }
 {
-    if q.end < q.start {
-        return false;
-    }
-    if len < q.end {
+    if q.end < q.start || len < q.end {
         return false;
     }
     q.mark <= 1
@@ -102,8 +99,7 @@ fn each(
     ensures answers_after { result.number ≡ 0 → answers.new ≡ sets answers.old (from * width) (all_kept (one_answer h object.now records.now names.now) (drop from (sought_of sought.now))) }
 {
     let n = sought.len() / EACH;
-    let mut i = from;
-    while i < n {
+    for i in from..n {
         let q = sought_at(sought, i);
         let a = look(object, h, records, names, q);
         if a.verdict.number == BAD_RECORD {
@@ -114,7 +110,6 @@ fn each(
             };
         }
         put_answer(answers, i, a);
-        i += 1;
     }
     FINE
 }
@@ -124,14 +119,8 @@ fn copy(answers: &mut [usize], own: &[usize], count: usize)
     requires { count ≤ length answers.old }
     ensures { answers.new ≡ sets answers.old 0 (take count own.now) }
 {
-    let mut i = 0;
-    while i < count {
-        if own.len() <= i {
-            return;
-        }
-        answers[i] = own[i];
-        i += 1;
-    }
+    let n = count.min(own.len());
+    answers[..n].copy_from_slice(&own[..n]);
 }
 
 // Every name looked up, and where none is refused every answer stored, for which there is room, and their number answered.

@@ -6,6 +6,7 @@ use mathlib.Core.Path.{◌≡◌, refl, ap, sym, ◌∙◌}
 use mathlib.Core.Bool.{Bool, true, false, false≢true, ◌&&◌, ◌||◌}
 use mathlib.Core.List.{List, [], ◌∷◌}
 use lib.Dec.{ltb}
+use Rattle.std.specs.List.Sorted.{IsPartitionPoint, IsPartitionedBy}
 use lib.ListN.{length, get_or, take, drop}
 use borrow.Author.Tests.{lt-ltb, ltb-true}
 use Rattle.ground.specs.Scan.{same_bytes}
@@ -30,44 +31,13 @@ use Rattle.std.specs.declared.cmp.Ordering.TheVariants.{Equal}
 
 -- ---- the search
 
-pub record Searching (below : ℕ → ℕ → Bool) (l : List ℕ) (x low high : ℕ) : Type 0 where
-  pub order : low ≤ high
-  pub inside : high ≤ length l
-  pub under : (j : ℕ) → j < low → below (get_or l j 0) x ≡ true
-  pub over : (j : ℕ) → high ≤ j → j < length l → below (get_or l j 0) x ≡ false
-
 module _ (below : ℕ → ℕ → Bool) (l : List ℕ) (x : ℕ) where
-  pub search-start : Searching below l x 0 (length l)
-  search-start = record { order = omega arith; inside = omega arith; under = λ j p. absurd (omega arith); over = λ j p q. absurd (omega arith) }
+  -- what is below x stands before what is not
+  pub parted : Strict below → Ascends below l → IsPartitionedBy (λ y. below y x) l
+  parted strict up i j d p q t = up-then-below below strict (get_or l i d) (get_or l j d) x (ascends_pair below strict d l up i j p q) t
 
-  pub search-end : (low high : ℕ) → Searching below l x low high → high ≤ low → Lowest below l x low
-  search-end low high g p =
-      record { inside = omega (arith, g.order, g.inside); under = g.under; over = λ j q r. g.over j (omega (arith, g.order)) r }
-
-  module _ (strict : Strict below) (up : Ascends below l) (low high mid : ℕ) (g : Searching below l x low high) (p : low ≤ mid) (q : mid < high) where
-    pub search_up : below (get_or l mid 0) x ≡ true → Searching below l x (mid + 1) high
-    search_up t =
-        record {
-          order = omega arith;
-          inside = g.inside;
-          under = λ j r. up-then-below below strict (get_or l j 0) (get_or l mid 0) x
-              (ascends_pair below strict 0 l up j mid (omega arith) (omega (arith, g.inside))) t;
-          over = g.over;
-        }
-
-    pub search_down : below (get_or l mid 0) x ≡ false → Searching below l x low mid
-    search_down t =
-        record {
-          order = p;
-          inside = omega (arith, g.inside);
-          under = g.under;
-          over = λ j r k. go j r k (below (get_or l j 0) x) refl;
-        }
-      where
-        go : (j : ℕ) → mid ≤ j → j < length l → (b : Bool) → below (get_or l j 0) x ≡ b → b ≡ false
-        go j r k true e =
-            absurd (false≢true (sym t ∙ up-then-below below strict (get_or l mid 0) (get_or l j 0) x (ascends_pair below strict 0 l up mid j r k) e))
-        go j r k false e = refl
+  pub lowest : (r : ℕ) → r ≤ length l → IsPartitionPoint (λ y. below y x ≡ true) (λ y. below y x ≡ false) l r → Lowest below l x r
+  lowest r p w = record { inside = p; under = λ j q. w.0 j 0 (omega arith) q; over = λ j q k. w.1 j 0 q k }
 
 -- ---- a smaller element of the same key
 

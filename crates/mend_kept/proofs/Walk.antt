@@ -149,9 +149,6 @@ module _ (taken : Bool) (list : List ℕ) (m x : ℕ) where
   pub push_stored : taken ≡ true → (m + 1 ≡ pick taken (m + 1) m) × (set list m x ≡ pick taken (set list m x) list)
   push_stored q = (rw q refl, rw q refl)
 
-  pub push_over : taken ≡ true → length list ≤ m → (m + 1 ≡ pick taken (m + 1) m) × (list ≡ pick taken (set list m x) list)
-  push_over q p = (rw q refl, rw q (sym (set_out list m x p)))
-
   pub push_none : taken ≡ false → (m ≡ pick taken (m + 1) m) × (list ≡ pick taken (set list m x) list)
   push_none q = (rw q refl, rw q refl)
 

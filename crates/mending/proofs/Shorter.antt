@@ -27,6 +27,7 @@ use Rattle.mend_kept.proofs.Bytes.{own-most, bytes-size}
 use Rattle.mend_kept.proofs.Fates.{Reads}
 use Rattle.mend_kept.proofs.Sorts.{kept-mode}
 use Rattle.std.specs.Prelude.{Ok, Some}
+use Rattle.ground.proofs.Pairs.{some_parts}
 
 -- ---- few digits say a small number
 
@@ -39,8 +40,7 @@ module _ (first rest m n : ℕ) where
       → (v : ℕ) × (v ≤ top (length ds) b) × (settle v first ≡ m)
   unfolding octal_from
   digits-most [] sum b p e =
-      let j : ◌≡◌ {A = EntryMode} (record { internal = settle sum first }) (record { internal = m }) = cc in
-      (sum, p, ap (λ (y : EntryMode). y.internal) j)
+      (sum, p, ap (λ (y : EntryMode). y.internal) (some_parts e).0)
   digits-most (d ∷ ds) sum b p e = go (λ x q r. digits-most ds x (b * 8 + 7) q r) (leb 48 d) refl (leb d 55) refl
     where
       go : ((x : ℕ) → x ≤ b * 8 + 7 → mode_of first rest (octal_from x ds) ≡ Some (record { internal = m }, n) → (v : ℕ) × (v ≤ top (length ds) (b * 8 + 7)) × (settle v first ≡ m))

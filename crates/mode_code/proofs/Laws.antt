@@ -26,6 +26,7 @@ use Rattle.mode_round.proofs.Space.{read_small}
 use Rattle.mode_round.proofs.Again.{written_reads}
 use Rattle.mode_code.specs.Code.{coded, code_of, code_at, spaced, code_in, quick_at}
 use Rattle.std.specs.Prelude.{None, Option, Some}
+use Rattle.ground.proofs.Pairs.{some_parts}
 
 -- ---- what was read is known by its code
 
@@ -75,9 +76,9 @@ module _ (s : List ℕ) (at : ℕ) where
       go : (r : Option (EntryMode × ℕ)) → read_mode (drop at s) ≡ r → moved at r ≡ Some (m, rest)
           → (at < rest) × (rest ≤ at + 8) × (code_of r ≡ coded m.internal (rest - at))
       go (Some (k, n)) p e =
-          let same : ◌≡◌ {A = EntryMode × ℕ} (k, at + n) (m, rest) = cc in
-          let i : k.internal ≡ m.internal = ap (λ (x : EntryMode × ℕ). x.0.internal) same in
-          let z : at + n ≡ rest = ap (λ (x : EntryMode × ℕ). x.1) same in
+          let w = some_parts e in
+          let i : k.internal ≡ m.internal = ap (λ (x : EntryMode). x.internal) w.0 in
+          let z : at + n ≡ rest = w.1 in
           let q = read_next (drop at s) k.internal n p in
           let h = read_eight (drop at s) k.internal n p in
           (omega arith, omega arith, omega arith)

@@ -3,61 +3,29 @@
 #![tactic(auto)]
 
 use mode::{EntryMode, ModeAnswer};
-use mode_table::EntryKind;
 use mode_text::ShortText;
 use std::io;
 
-fn say(rt: &impl Print, s: &[u8]) -> io::Result<()> {
-    rt.write_all(s)
-}
-
-fn number(rt: &impl Print, n: u64) -> io::Result<()> {
-    say(rt, b" ")?;
-    rt.print(n)
-}
-
-fn text(rt: &impl Print, t: ShortText) -> io::Result<()> {
-    let bytes = t.bytes;
-    let n = t.len;
-    say(rt, b" ")?;
-    if n <= 6 {
-        return say(rt, &bytes[..n]);
-    }
-    Ok(())
+// A space, and a text.
+fn say_text(rt: &impl Print, t: ShortText) -> io::Result<()> {
+    rt.write_all(b" ")?;
+    rt.write_all(t.bytes.get(..t.len).unwrap_or_default())
 }
 
 // The sum takes a number x: sum * 31 + x, modulo 2^32.
-fn take(sum: u64, x: u64) -> u64 {
-    (sum % 4294967296 * 31 + x % 4294967296) % 4294967296
+fn take(sum: u32, x: u32) -> u32 {
+    sum.wrapping_mul(31).wrapping_add(x)
 }
 
 // The six bytes of a text, with 0 behind it.
-fn take_text(sum: u64, t: ShortText) -> u64 {
-    let bytes = t.bytes;
-    let mut all = sum;
-    let mut i: usize = 0;
-    while i < 6 {
-        all = take(all, bytes[i] as u64);
-        i += 1;
-    }
-    all
+fn take_text(sum: u32, t: ShortText) -> u32 {
+    t.bytes.iter().fold(sum, |all, b| take(all, u32::from(*b)))
 }
 
-fn take_read(sum: u64, r: Option<(EntryMode, usize)>) -> u64 {
+fn take_read(sum: u32, r: Option<(EntryMode, usize)>) -> u32 {
     match r {
-        Some((m, n)) => take(take(sum, m.internal as u64), n as u64),
+        Some((m, n)) => take(take(sum, u32::from(m.internal)), (n % 4294967296) as u32),
         None => take(take(sum, 65536), 0),
-    }
-}
-
-// A kind's place in the table.
-fn kind_place(k: EntryKind) -> u64 {
-    match k {
-        EntryKind::Tree => 0,
-        EntryKind::Blob => 1,
-        EntryKind::BlobExecutable => 2,
-        EntryKind::Link => 3,
-        EntryKind::Commit => 4,
     }
 }
 
@@ -75,65 +43,48 @@ fn read_back(t: ShortText) -> Option<(EntryMode, usize)> {
     EntryMode::extract_at(&line[..end], 0)
 }
 
-// What the sum takes of a mode, in this order: the value, the kind's place, the text, the mode read back (65536 if refused), and where the rest
-// begins (0 if refused).
-fn one_mode(m: u16, sum: u64) -> u64 {
+// What the sum takes of a mode, in this order: the value, the kind's place in the table, the text, the mode read back (65536 if refused), and where
+// the rest begins (0 if refused).
+fn one_mode(m: u16, sum: u32) -> u32 {
     let mode = EntryMode { internal: m };
     let t = mode.as_bytes();
-    let a = take(take(sum, mode.value() as u64), kind_place(mode.kind()));
+    let a = take(take(sum, u32::from(mode.value())), mode.kind() as u32);
     take_read(take_text(a, t), read_back(t))
 }
 
 // All modes of a sort, in ascending order: the sum, which begins with 0.
-fn all_modes(sort: u16) -> u64 {
-    let mut sum: u64 = 0;
-    let mut low: u16 = 0;
-    while low < 4096 {
+fn all_modes(sort: u16) -> u32 {
+    let mut sum = 0;
+    for low in 0..4096 {
         sum = one_mode(sort % 16 * 4096 + low, sum);
-        low += 1;
     }
     sum
 }
 
-fn one_sort(rt: &impl Print, sort: u16) -> io::Result<()> {
-    let high = 48 + (sort % 16 / 8) as u8;
-    let next = 48 + (sort % 8) as u8;
-    say(rt, &[high, next, 48, 48, 48, 48])?;
-    number(rt, all_modes(sort))?;
-    say(rt, b"\n")
-}
-
 // Number, mode, where the rest begins, value, kind word and written text; or the refusal.
-fn answered(rt: &impl Print, a: ModeAnswer, rest: u64) -> io::Result<()> {
+fn answered(rt: &impl Print, a: ModeAnswer, rest: usize) -> io::Result<()> {
     let v = a.verdict;
     let m = a.mode;
-    if v.number == 0 {
-        number(rt, 0)?;
-        number(rt, m.internal as u64)?;
-        number(rt, rest)?;
-        number(rt, m.value() as u64)?;
-        text(rt, m.as_str())?;
-        text(rt, m.as_bytes())?;
-    } else {
-        say(rt, b" refused")?;
-        number(rt, v.number as u64)?;
-        say(rt, b" at")?;
-        number(rt, v.place as u64)?;
+    if v.number != 0 {
+        return println!(rt; " refused {} at {}", v.number, v.place);
     }
-    say(rt, b"\n")
+    print!(rt; " 0 {} {rest} {}", m.internal, m.value())?;
+    say_text(rt, m.as_str())?;
+    say_text(rt, m.as_bytes())?;
+    rt.write_all(b"\n")
 }
 
-fn rest_of(r: Option<(EntryMode, usize)>) -> u64 {
+fn rest_of(r: Option<(EntryMode, usize)>) -> usize {
     match r {
-        Some((_, n)) => n as u64,
+        Some((_, n)) => n,
         None => 0,
     }
 }
 
 fn one_text(rt: &impl Print, s: &[u8]) -> io::Result<()> {
-    say(rt, b"`")?;
-    say(rt, s)?;
-    say(rt, b"`")?;
+    rt.write_all(b"`")?;
+    rt.write_all(s)?;
+    rt.write_all(b"`")?;
     answered(
         rt,
         EntryMode::from_bytes(s),
@@ -142,22 +93,16 @@ fn one_text(rt: &impl Print, s: &[u8]) -> io::Result<()> {
 }
 
 // A mode from a number has no rest: 0 stands there.
-fn one_number(rt: &impl Print, shown: &[u8], n: u32) -> io::Result<()> {
-    say(rt, shown)?;
+fn one_number(rt: &impl Print, n: u32) -> io::Result<()> {
+    print!(rt; "0o{n:o}")?;
     answered(rt, EntryMode::from_u32(n), 0)
 }
 
-fn all_sorts(rt: &impl Print) -> io::Result<()> {
-    let mut sort: u16 = 0;
-    while sort < 16 {
-        one_sort(rt, sort)?;
-        sort += 1;
-    }
-    Ok(())
-}
-
 fn main(rt: HostRuntime) -> io::Result<()> {
-    all_sorts(&rt)?;
+    for sort in 0..16 {
+        let sum = all_modes(sort);
+        println!(rt; "{sort:02o}0000 {sum}")?;
+    }
     one_text(&rt, b"100644 ")?;
     one_text(&rt, b"40000 ")?;
     one_text(&rt, b"040000 ")?;
@@ -172,6 +117,6 @@ fn main(rt: HostRuntime) -> io::Result<()> {
     one_text(&rt, b"200000 ")?;
     one_text(&rt, b"1234567")?;
     one_text(&rt, b"")?;
-    one_number(&rt, b"0o300644", 0o300644)?;
-    one_number(&rt, b"0o200000", 0o200000)
+    one_number(&rt, 0o300644)?;
+    one_number(&rt, 0o200000)
 }

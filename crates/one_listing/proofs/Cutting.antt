@@ -36,6 +36,7 @@ use Rattle.one_listing.specs.Again.{again_entry}
 use Rattle.one_listing.proofs.Back.{Writable, AllWritable, record_for, listed, bytes_append, record_names}
 use Rattle.ground.specs.declared.Verdict.{Verdict}
 use Rattle.std.specs.Prelude.{Err, Ok, Result, Some}
+use Rattle.ground.proofs.Pairs.{some_parts}
 
 -- ---- modes and texts of the rows
 
@@ -192,9 +193,9 @@ row_read rows b m n ok e p t =
     let c : b ≡ w ++ 32 ∷ drop n b = sym (take-append-drop (n - 1) b) ∙ ap (λ (l : List ℕ). l ++ drop (n - 1) b) (sym row.1) ∙ ap (λ (l : List ℕ). w ++ l) d in
     let f : read_mode b ≡ Some (record { internal = again k }, length w + 1) = ap read_mode c ∙ written_reads k (drop n b) o.some o.small in
     let g : Some (record { internal = m }, n) ≡ Some (record { internal = again k }, length w + 1) = sym e ∙ f in
-    let j : ◌≡◌ {A = EntryMode} (record { internal = m }) (record { internal = again k }) = cc in
-    let i : m ≡ k = ap (λ (x : EntryMode). x.internal) j ∙ o.same in
-    let l : n ≡ length w + 1 = cc in
+    let parts = some_parts g in
+    let i : m ≡ k = ap (λ (x : EntryMode). x.internal) parts.0 ∙ o.same in
+    let l : n ≡ length w + 1 = parts.1 in
     let u : take n (w ++ 32 ∷ drop n b) ≡ w ++ 32 ∷ []
     = ap (take n) (sym (append_snoc w 32 (drop n b))) ∙ take_at (w ++ 32 ∷ []) (drop n b) n (simp length-append (omega arith)) in
     (ap (take n) c ∙ u ∙ ap (λ (x : ℕ). write_mode x ++ 32 ∷ []) (sym i), rw i o.known)

@@ -26,6 +26,7 @@ use Rattle.seeking.proofs.Laws.{seek_inside}
 use Rattle.entry.specs.declared.Cursor.{Cursor}
 use Rattle.entry.specs.declared.EntryRecord.{EntryRecord}
 use Rattle.std.specs.Prelude.{Err, None, Ok, Option, Result, Some}
+use Rattle.ground.proofs.Pairs.{ok_parts}
 
 -- ---- a listing of n entries is read with n as its bound
 
@@ -182,9 +183,8 @@ module _ (k : Header) (s left right : List ℕ) (depth : ℕ) (index : List ℕ)
       two (Err v) b i j p = let z : ◌≡◌ {A = ℕ} 0 1 = cc in absurd (omega arith)
       two (Ok c) (Err w) i j p = let z : ◌≡◌ {A = ℕ} 0 1 = cc in absurd (omega arith)
       two (Ok c) (Ok d) i j p =
-          let e : c ≡ l = cc in
-          let f : d ≡ r = cc in
-          (subst (λ (u : Rest). OpenWithin s (Ok u)) e i, subst (λ (u : Rest). OpenWithin s (Ok u)) f j)
+          let w = ok_parts p in
+          (subst (λ (u : Rest). OpenWithin s (Ok u)) w.0 i, subst (λ (u : Rest). OpenWithin s (Ok u)) w.1 j)
 
       go : (t : Bool) → eqb depth 0 ≡ t → pick t (Err (verdict 27 0)) (pair_of (open_in k s left index) (open_in k s right index)) ≡ Ok (l, r)
           → (depth ≡ 0 → ⊥) × OpenWithin s (Ok l) × OpenWithin s (Ok r)

@@ -8,7 +8,7 @@ use Rattle.std.specs.declared.cmp.Ordering.TheVariants.{Equal, Greater, Less}
 unfoldable pub by_number : ℕ → ℕ → Ordering
 by_number x y = pick (ltb x y) Less (pick (ltb y x) Greater Equal)
 
--- the first comparison, and where it is Same the second
+-- the first comparison, and where it is Equal the second
 abbrev pub then_by : Ordering → Ordering → Ordering
 then_by Less r = Less
 then_by Equal r = r

@@ -9,8 +9,10 @@ use mathlib.Core.List.{List, [], ◌∷◌, ◌++◌}
 use mathlib.Core.Logic.{⊎_elim}
 use lib.Dec.{eqb, ltb}
 use lib.ListN.{length, get_or, take, drop, set, length-set, drop_of_length-le}
-use lib.Seq.{sets, drop-cons, length-sets, set_out, take_all}
+use lib.Seq.{sets, sets-eq, drop-cons, length-sets, length-take-le, set_out, take-take, take_all}
 use borrow.Author.Tests.{eq-eqb, ne_eqb, lt-ltb, le-ltb, eqb-false, ltb-false}
+use borrow.Rule.Slice.PartMut.{put_mid}
+use Rattle.std.proofs.lemmas.Slice.{put_mid-paste}
 use Rattle.ground.specs.Basics.{pick}
 use Rattle.ground.specs.Verdict.{verdict, refused, stored, gate_of}
 use Rattle.ground.proofs.Laws.{gate_shut, stored-done, stored_refused, sets_append, sets_front}
@@ -53,6 +55,16 @@ sets_fitting l at p =
       | yes h ↦ ap (sets l at) (take_all (min (length p) (length l - at)) p (omega arith))
       | no h ↦ sets-cut l at (min (length p) (length l - at)) p (omega arith)
     ]
+
+-- so much of a piece copied to its place
+pub sets-copied : (l p ys : List ℕ) (at n k : ℕ) → at ≤ length l → n ≡ min (length p) (length l - at) → k ≡ n → ys ≡ take n p
+    → put_mid at k l ys ≡ sets l at p
+sets-copied l p ys at n k h m e y =
+    let len : length (take n p) ≡ n = length-take-le n p (omega arith) in
+    put_mid-paste at k l ys (take n p) n y (sym e) (sym len)
+    ∙ ap (λ (z : List ℕ). take at l ++ z ++ drop (at + n) l) (take-take n n p (omega arith))
+    ∙ sym (rw len at (sets-eq (take n p) l at (rw len (omega arith))))
+    ∙ rw m (sets_fitting l at p)
 
 -- the byte after a piece that leaves no room for it is not stored
 pub ended-past : (l : List ℕ) (at : ℕ) (p : List ℕ) (x : ℕ) → length l ≤ at + length p → sets l at (p ++ x ∷ []) ≡ sets l at p

@@ -12,22 +12,10 @@ use frame::TREE;
 pub fn step_to(s: &[u8], h: usize, id: &[u8], name: &[u8]) -> Option<(usize, usize)>
     ensures { result ≡ spot_in h s.now id.now name.now }
 {
-    match find_object(s, id) {
-        None => None,
-        Some(f) => {
-            if f.kind != TREE {
-                return None;
-            }
-            let start = f.start;
-            let end = f.end;
-            match find_entry(&s[start..end], h, name) {
-                None => None,
-                Some(e) => {
-                    let mode = e.mode;
-                    let at = start + e.id_start;
-                    Some((mode, at))
-                }
-            }
-        }
+    let f = find_object(s, id)?;
+    if f.kind != TREE {
+        return None;
     }
+    let e = find_entry(&s[f.start..f.end], h, name)?;
+    Some((e.mode, f.start + e.id_start))
 }

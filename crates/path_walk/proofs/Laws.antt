@@ -18,9 +18,9 @@ use Rattle.component.proofs.Laws.{pieces-last, pieces_more, pieces-some}
 use Rattle.path_step.specs.Spot.{entry_at, entry_in, spot_of, spot_in}
 use Rattle.path_step.proofs.Laws.{spot_within}
 use Rattle.path_walk.specs.Reach.{beyond, spot_along, SpotInside, missed, taken_from, reached_by}
-use Rattle.entry.specs.declared.EntryRecord.{EntryRecord}
 use Rattle.frame.specs.declared.Frame.{Frame}
 use Rattle.std.specs.Prelude.{None, Option, Some}
+use Rattle.entry.specs.declared.EntryRecord.{EntryRecord}
 
 -- a spot lies inside the bundle
 spot_inside : (h : ℕ) (s id name : List ℕ) → SpotInside h (length s) (spot_in h s id name)

@@ -13,7 +13,7 @@ use piece_place::place;
 use piece_seen::seen_at;
 
 // Whole entries of a piece, one after the other: the place behind them, how many entries are finished, the last of them, how many names are
-// open, and whether the name of the entry at the place was there before.
+// open, and whether the name of the entry at the place was there before: a flag, since a run that ends there keeps all the rest.
 #[derive(Clone, Copy)]
 pub struct Run {
     pub next: usize,
@@ -72,6 +72,7 @@ pub fn all_entries(
     if MOST_HELD < r.last.size {
         return r;
     }
+    // The run's own count is what each turn adds one to, so no `for` counts beside it.
     while r.count < MOST_RECORDS {
         let t = one_entry(held, ends, r, piece, h);
         if t.next == r.next {

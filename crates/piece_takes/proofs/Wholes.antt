@@ -51,6 +51,7 @@ use Rattle.doubles.specs.declared.Misplaced.TheVariants.{Double, NotAfter}
 use Rattle.std.specs.Prelude.{Err, None, Ok, Option, Result, Some}
 use Rattle.std.specs.declared.cmp.Ordering.{Ordering}
 use Rattle.std.specs.declared.cmp.Ordering.TheVariants.{Equal, Greater, Less}
+use Rattle.ground.proofs.Pairs.{some_parts}
 
 -- ---- an entry that is seen
 
@@ -69,11 +70,9 @@ pub record Whole (s : List ℕ) (i h : ℕ) (e : Seen) : Type 0 where
 -- what is read at a place, without the place
 read-there : (at n : ℕ) (m : EntryMode) (r : Option (EntryMode × ℕ)) → moved at r ≡ Some (m, at + n) → r ≡ Some (m, n)
 read-there at n m (Some (k, i)) e =
-    let q : ◌≡◌ {A = EntryMode × ℕ} (k, at + i) (m, at + n) = cc in
-    let z : at + i ≡ at + n = ap (λ (x : EntryMode × ℕ). x.1) q in
-    let y : i ≡ n = omega arith in
-    let x : k ≡ m = ap (λ (x : EntryMode × ℕ). x.0) q in
-    rw (x, y)
+    let w = some_parts e in
+    let y : i ≡ n = omega (arith, w.1) in
+    rw (w.0, y)
 read-there at n m None e = let z : ◌≡◌ {A = ℕ} 0 1 = cc in absurd (omega arith)
 
 whole_of : (s : List ℕ) (i h : ℕ) (e : Seen) → Lies s i h e → Whole s i h e
@@ -241,7 +240,7 @@ module _ (held ends : List ℕ) (r : Run) (s : List ℕ) (h : ℕ) (w : Runs s h
         fits = o.small;
       }
     where
-      fine-not : (i : ℕ) → Ok i ≡ Err NotAfter → ⊥
+      fine-not : (i : ℕ) → ◌≡◌ {A = Result ℕ Misplaced} (Ok i) (Err NotAfter) → ⊥
       fine-not i y = let z : ◌≡◌ {A = ℕ} 0 1 = cc in absurd (omega arith)
 
   pub went_double : p ≡ Err Double

@@ -3,55 +3,40 @@
 #![tactic(auto)]
 
 use edit::put_in_tree;
-use ground::DONE;
 use id_of_hex::id_of_hex;
 use mode::EntryMode;
-use saying::{read_whole, say_answer, say_refused, say_too_long};
-use scan::same_bytes;
+use saying::{done, read_whole, say_answer, say_refused, say_too_long};
 use std::io;
-use words::{id_length, rule_set, word_at};
+use words::{Word, id_length, rule_set, word_at};
 
 // Words and object together have at most so many bytes, and the new object no more.
 const LONGEST: usize = 135168;
 
-// The bytes from one place to another, or none where they do not lie inside.
-fn part(s: &[u8], from: usize, to: usize) -> &[u8] {
-    if s.len() < to {
-        return &s[0..0];
-    }
-    if to < from {
-        return &s[0..0];
-    }
-    &s[from..to]
+// No mode: a number that no rule set has.
+const NO_MODE: usize = 65536;
+
+// The bytes of a word.
+fn text(s: &[u8], word: Word) -> &[u8] {
+    s.get(word.start..word.end).unwrap_or_default()
 }
 
-// The rule set that the words say: without one it is 2, and the next word is where it would stand.
-#[derive(Clone, Copy)]
-struct Set {
-    rules: u16,
-    next: usize,
-}
-
-fn set_at(s: &[u8], at: usize) -> Set {
-    let rules = rule_set(s, at);
-    if rules == 0 {
-        return Set { rules: 2, next: at };
+// The rule set that the words say, and where the next word stands: without one it is 2, and the next word is where it would stand.
+fn rules_at(s: &[u8], at: usize) -> (u16, usize) {
+    match rule_set(s, at) {
+        0 => (2, at),
+        rules => (rules, word_at(s, at).next),
     }
-    let word = word_at(s, at);
-    let next = word.next;
-    Set { rules, next }
 }
 
-// The mode whose text is a word; for any other word a number that no rule set has.
+// The mode whose text is a word.
 fn mode_of(text: &[u8]) -> usize {
-    let a = EntryMode::from_bytes(text);
-    let m = a.mode;
-    let written = m.as_bytes();
-    let digits = written.bytes;
-    if same_bytes(part(&digits, 0, written.len), text) {
-        return m.internal as usize;
+    let mode = EntryMode::from_bytes(text).mode;
+    let written = mode.as_bytes();
+    if written.bytes.get(..written.len).unwrap_or_default() == text {
+        usize::from(mode.internal)
+    } else {
+        NO_MODE
     }
-    65536
 }
 
 fn put(
@@ -65,32 +50,31 @@ fn put(
 ) -> io::Result<()> {
     let mut out = [0u8; LONGEST];
     let mut id = [0u8; 32];
-    let a = id_of_hex(digits, &mut id);
-    let v = a.verdict;
-    if v.number != DONE {
+    let read = id_of_hex(digits, &mut id);
+    if let Err(v) = done(read.verdict) {
         return say_refused(rt, v);
     }
-    let n = a.count;
-    let b = put_in_tree(object, h, rules, mode, name, part(&id, 0, n), &mut out);
-    say_answer(rt, b, &out)
+    let id = id.get(..read.count).unwrap_or_default();
+    let a = put_in_tree(object, h, rules, mode, name, id, &mut out);
+    say_answer(rt, a, &out)
 }
 
 // The words, the empty line behind them, and the object.
 fn work(rt: &impl Print, s: &[u8]) -> io::Result<()> {
     let ids = id_length(s);
-    let set = set_at(s, ids.next);
-    let mode = word_at(s, set.next);
+    let (rules, first) = rules_at(s, ids.next);
+    let mode = word_at(s, first);
     let id = word_at(s, mode.next);
     let name = word_at(s, id.next);
     let blank = word_at(s, name.next);
     put(
         rt,
-        part(s, blank.next, s.len()),
+        s.get(blank.next..).unwrap_or_default(),
         ids.h,
-        set.rules,
-        mode_of(part(s, mode.start, mode.end)),
-        part(s, name.start, name.end),
-        part(s, id.start, id.end),
+        rules,
+        mode_of(text(s, mode)),
+        text(s, name),
+        text(s, id),
     )
 }
 
@@ -98,7 +82,7 @@ fn work(rt: &impl Print, s: &[u8]) -> io::Result<()> {
 fn main(rt: HostRuntime) -> io::Result<()> {
     let mut all = [0u8; LONGEST];
     match read_whole(&mut rt.stdin(), &mut all)? {
-        Some(n) => work(&rt, part(&all, 0, n)),
+        Some(n) => work(&rt, all.get(..n).unwrap_or_default()),
         None => say_too_long(&rt),
     }
 }

@@ -43,13 +43,9 @@ fn verdict_at(s: &[u8], h: usize, at: usize) -> Verdict
 fn remember(lengths: &mut [u8], n: usize, len: usize)
     ensures { lengths.new ≡ remembered lengths.old n len }
 {
-    if lengths.len() <= n {
-        return;
+    if n < lengths.len() && len <= 255 {
+        lengths[n] = len as u8;
     }
-    if 255 < len {
-        return;
-    }
-    lengths[n] = len as u8;
 }
 
 // Where the name of entry n ends, which starts at a place: by its length where that is kept, else it is sought.
@@ -105,8 +101,7 @@ fn fill(s: &[u8], h: usize, count: usize, lengths: &[u8], records: &mut [usize])
     ensures { records.new ≡ sets records.old 0 (flats (take count (records_in (listing h s.now)))) }
 {
     let mut at: usize = 0;
-    let mut n: usize = 0;
-    while n < count {
+    for n in 0..count {
         if MOST_RECORDS <= n {
             return;
         }
@@ -131,7 +126,6 @@ fn fill(s: &[u8], h: usize, count: usize, lengths: &[u8], records: &mut [usize])
         };
         put_entry(records, n, e);
         at = id_start + h;
-        n += 1;
     }
 }
 

@@ -23,7 +23,7 @@ use Rattle.rules.specs.Rules.{is_text, group_row, modes_of, permitted, name_numb
 use Rattle.rules.specs.Gate.{rule_gate}
 use Rattle.rules.specs.Code.{is_group}
 pub use Rattle.names.proofs.Laws.{name-empty, number-bad, number-slash, number-slashless}
-use Rattle.std.specs.Prelude.{Err, None, Ok, Result, Some, ⊤}
+use Rattle.std.specs.Prelude.{Err, None, Ok, Some, Result, ⊤}
 
 -- ---- a mode text
 
@@ -126,8 +126,7 @@ module _ (k h bytes records : ℕ) (other : is_set k ≡ false) where
   unfolding rule_gate gate_of
   rule_other e = rw other (go (id_length h) e)
     where
-      go : (v : Bool) → pick v (size_gate 0 0) (Err (verdict 1 0)) ≡ Ok tt
-          → pick {A = Result ⊤ Verdict} v (Err (verdict 19 0)) (Err (verdict 1 0)) ≡ Err (verdict 19 0)
+      go : (v : Bool) → pick v (size_gate 0 0) (Err (verdict 1 0)) ≡ Ok tt → pick {A = Result ⊤ Verdict} v (Err (verdict 19 0)) (Err (verdict 1 0)) ≡ Err (verdict 19 0)
       go true e = refl
       go false e = let z : ◌≡◌ {A = ℕ} 0 1 = cc in absurd (omega arith)
 
@@ -135,8 +134,7 @@ module _ (k h bytes records : ℕ) (other : is_set k ≡ false) where
   unfolding rule_gate gate_of size_gate
   rule_id v e = rw other (go (id_length h) e)
     where
-      go : (b : Bool) → pick {A = Result ⊤ Verdict} b (Ok tt) (Err (verdict 1 0)) ≡ Err v
-          → pick {A = Result ⊤ Verdict} b (Err (verdict 19 0)) (Err (verdict 1 0)) ≡ Err v
+      go : (b : Bool) → pick {A = Result ⊤ Verdict} b (Ok tt) (Err (verdict 1 0)) ≡ Err v → pick {A = Result ⊤ Verdict} b (Err (verdict 19 0)) (Err (verdict 1 0)) ≡ Err v
       go true e = let z : ◌≡◌ {A = ℕ} 0 1 = cc in absurd (omega arith)
       go false e = e
 

@@ -2,7 +2,7 @@
 // line. A read or a write that fails is the caller's error.
 #![tactic(auto)]
 
-ghost use Rattle.std.specs.Prelude.{IfOk, IfSome, ◌≤◌, length};
+ghost use Rattle.std.specs.Prelude.{◌≡◌, ◌==◌, ◌≤◌, IfOk, IfSome, if◌then◌else◌, length};
 
 use ground::{Answer, BOUND, DONE, FINE, Verdict};
 use std::io;
@@ -45,12 +45,16 @@ pub fn say_with(rt: &impl Print, word: &[u8], n: usize) -> io::Result<()> {
     rt.print(n)
 }
 
+// That an answer has a verdict of no refusal, or the refusal.
+pub fn done(v: Verdict) -> Result<(), Verdict>
+    ensures { result ≡ (if v.number == 0 then Ok tt else Err v) }
+{
+    if v.number == DONE { Ok(()) } else { Err(v) }
+}
+
 // A refusal: its number, place and part.
 pub fn say_refused(rt: &impl Print, v: Verdict) -> io::Result<()> {
-    say_with(rt, b"refused ", v.number)?;
-    say_with(rt, b" at ", v.place)?;
-    say_with(rt, b" part ", v.part)?;
-    say(rt, b"\n")
+    println!(rt; "refused {} at {} part {}", v.number, v.place, v.part)
 }
 
 // The refusal of an input that is longer than it may be.
@@ -66,13 +70,8 @@ pub fn say_too_long(rt: &impl Print) -> io::Result<()> {
 
 // The first bytes of an output, as many as an answer counts, or its refusal.
 pub fn say_answer(rt: &impl Print, a: Answer, out: &[u8]) -> io::Result<()> {
-    let v = a.verdict;
-    if v.number != DONE {
-        return say_refused(rt, v);
+    match done(a.verdict) {
+        Ok(()) => say(rt, out.get(..a.count).unwrap_or_default()),
+        Err(v) => say_refused(rt, v),
     }
-    let n = a.count;
-    if n <= out.len() {
-        return say(rt, &out[0..n]);
-    }
-    Ok(())
 }

@@ -30,6 +30,7 @@ use Rattle.doubles.specs.declared.Misplaced.TheVariants.{Double, NotAfter}
 use Rattle.std.specs.Prelude.{Err, None, Ok, Option, Result, Some}
 use Rattle.std.specs.declared.cmp.Ordering.{Ordering}
 use Rattle.std.specs.declared.cmp.Ordering.TheVariants.{Equal, Greater, Less}
+use Rattle.ground.proofs.Pairs.{ok_parts}
 
 -- ---- an entry after the one before
 
@@ -110,12 +111,10 @@ pub seen-kept : (k : ℕ) (s : List ℕ) (at : ℕ) (d : Result (EntryRecord × 
     → (d ≡ Ok (e, next)) × (0 ≡ entry_no k s at e)
 seen-kept k s at (Ok (a, b)) e next q = go (eqb (entry_no k s at a) 0) refl q
   where
-    go : (v : Bool) → eqb (entry_no k s at a) 0 ≡ v → pick v (Ok (a, b)) (Err (verdict (entry_no k s at a) at)) ≡ Ok (e, next)
-        → (Ok (a, b) ≡ Ok (e, next)) × (0 ≡ entry_no k s at e)
+    go : (v : Bool) → eqb (entry_no k s at a) 0 ≡ v → pick {A = Result (EntryRecord × Cursor) Verdict} v (Ok (a, b)) (Err (verdict (entry_no k s at a) at)) ≡ Ok (e, next)
+        → (◌≡◌ {A = Result (EntryRecord × Cursor) Verdict} (Ok (a, b)) (Ok (e, next))) × (0 ≡ entry_no k s at e)
     go true p q =
-        let x : a ≡ e = cc in
-        let y : b ≡ next = cc in
-        (rw (x, y), sym (eqb-true (entry_no k s at a) 0 p) ∙ ap (entry_no k s at) x)
+        (q, sym (eqb-true (entry_no k s at a) 0 p) ∙ ap (entry_no k s at) (ok_parts q).0)
     go false p q = let z : ◌≡◌ {A = ℕ} 0 1 = cc in absurd (omega arith)
 seen-kept k s at (Err v) e next q = let z : ◌≡◌ {A = ℕ} 0 1 = cc in absurd (omega arith)
 

@@ -177,7 +177,7 @@ module _ (k h : ℕ) (s : List ℕ) (at n m : ℕ) (last : Option EntryRecord) (
       reading_unseen v q = go (decode h at (drop at s)) refl q
         where
           judged : (e : EntryRecord) (next : Cursor) → decode h at (drop at s) ≡ Ok (e, next) → (b : Bool) → eqb (entry_no k s at e) 0 ≡ b
-              → pick b (Ok (e, next)) (Err (verdict (entry_no k s at e) at)) ≡ Err v → Err v ≡ tally 0 (strictly (git_rules k) h s)
+              → pick {A = Result (EntryRecord × Cursor) Verdict} b (Ok (e, next)) (Err (verdict (entry_no k s at e) at)) ≡ Err v → Err v ≡ tally 0 (strictly (git_rules k) h s)
           judged e next d true p q = let z : ◌≡◌ {A = ℕ} 0 1 = cc in absurd (omega arith)
           judged e next d false p q =
               let x : verdict (entry_no k s at e) at ≡ v = cc in

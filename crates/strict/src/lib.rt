@@ -157,12 +157,14 @@ fn count_marked(rules: u16, s: &[u8], h: usize, marks: &mut [u32]) -> Result<usi
         match seen_at(rules, s, h, at) {
             Ok((e, next)) => {
                 match after_entry(s, marks, held, last, e) {
-                    Err(Misplaced::NotAfter) => {
-                        return stopped(ORDER, at);
-                    }
-                    Err(Misplaced::Double) => {
-                        return stopped(SAME_NAME, at);
-                    }
+                    Err(why) => match why {
+                        Misplaced::NotAfter => {
+                            return stopped(ORDER, at);
+                        }
+                        Misplaced::Double => {
+                            return stopped(SAME_NAME, at);
+                        }
+                    },
                     Ok(k) => {
                         held = k;
                         last = Some(e);

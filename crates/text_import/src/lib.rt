@@ -147,12 +147,10 @@ fn write_all(out: &mut [u8], text: &[u8], h: usize, rules: u16, list: &[u32]) ->
     ensures value { result ≡ length (all_bytes rules h text.now list.now) }
     ensures out_after { out.new ≡ sets out.old 0 (all_bytes rules h text.now list.now) }
 {
-    let mut i: usize = 0;
     let mut at: usize = 0;
-    while i < list.len() {
-        let place = place_of(list[i]);
+    for x in list {
+        let place = place_of(*x);
         at = write_one(out, at, &text[place..], h, rules);
-        i += 1;
     }
     at
 }

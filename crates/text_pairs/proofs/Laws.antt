@@ -143,17 +143,12 @@ module _ (below same : ℕ → ℕ → Bool) (l : List ℕ) where
     with_file e = sym (ap (λ (b : Bool). pick b least (min least (beside_of same l (count_below below l (z - 1)) (z - 1)))) (eq-eqb (z % 2) 0 e))
 
     module _ (e : z % 2 ≡ 0 → ⊥) {k r : ℕ} (p : k ≡ count_below below l (z - 1)) (q : r ≡ beside_of same l k (z - 1)) where
-      folder : min least r ≡ least_with below same l z least
+      pub with_other : {v : ℕ} → v ≡ min r least → v ≡ least_with below same l z least
       unfolding least_with
-      folder =
-          ap (min least) (q ∙ ap (λ (i : ℕ). beside_of same l i (z - 1)) p)
+      with_other m =
+          let turned : min r least ≡ min least r = omega arith in
+          m ∙ turned ∙ ap (min least) (q ∙ ap (λ (i : ℕ). beside_of same l i (z - 1)) p)
           ∙ sym (ap (λ (b : Bool). pick b least (min least (beside_of same l (count_below below l (z - 1)) (z - 1)))) (ne_eqb (z % 2) 0 e))
-
-      pub with_less : r < least → r ≡ least_with below same l z least
-      with_less m = let w : r ≡ min least r = omega arith in w ∙ folder
-
-      pub with-more : least ≤ r → least ≡ least_with below same l z least
-      with-more m = let w : least ≡ min least r = omega arith in w ∙ folder
 
   pub pair-on : (j m : ℕ) → j < length l → {r : ℕ} → r ≡ least_with below same l (get_or l j 0) m
       → least_pair below same l (drop j l) m ≡ least_pair below same l (drop (j + 1) l) r

@@ -77,9 +77,8 @@ fn measure(bytes: &[u8], h: usize, records: &[usize], writing: bool) -> Answer
     ensures { result ≡ measured writing h bytes.now 0 0 (records_of records.now) }
 {
     let n = records.len() / WIDTH;
-    let mut i = 0;
     let mut sum = 0;
-    while i < n {
+    for i in 0..n {
         let e = entry_at(records, i);
         let number = refuse(bytes, h, writing, e);
         if number != DONE {
@@ -93,24 +92,10 @@ fn measure(bytes: &[u8], h: usize, records: &[usize], writing: bool) -> Answer
             };
         }
         sum += entry_size(h, e);
-        i += 1;
     }
     Answer {
         verdict: FINE,
         count: sum,
-    }
-}
-
-// Stores seven bytes.
-fn put_seven(out: &mut [u8], at: usize, d: [u8; 7])
-    requires { at + 7 ≤ length out.old }
-    ensures { out.new ≡ sets out.old at d }
-{
-    let mut k = 0;
-    while k < 7 {
-        let to = at + k;
-        out[to] = d[k];
-        k += 1;
     }
 }
 
@@ -122,7 +107,7 @@ fn put_mode(out: &mut [u8], at: usize, mode: usize) -> usize
     ensures text { out.new ≡ sets out.old at (write_mode mode ++ 32 ∷ []) }
 {
     if mode == 0o100644 {
-        put_seven(out, at, [b'1', b'0', b'0', b'6', b'4', b'4', b' ']);
+        out[at..at + 7].copy_from_slice(b"100644 ");
         return 6;
     }
     let text = mode_text(mode);
@@ -158,12 +143,9 @@ fn fill(out: &mut [u8], bytes: &[u8], h: usize, records: &[usize])
     ensures { out.new ≡ sets out.old 0 (written h bytes.now (records_of records.now)) }
 {
     let many = records.len() / WIDTH;
-    let mut i = 0;
     let mut at = 0;
-    while i < many {
-        let e = entry_at(records, i);
-        at = write_entry(out, at, bytes, h, e);
-        i += 1;
+    for i in 0..many {
+        at = write_entry(out, at, bytes, h, entry_at(records, i));
     }
 }
 

@@ -23,11 +23,11 @@ returns-then-np-n c =
     let longer = c.longer in
     let args = c.args in
     let g = told (gate_of args.h (length args.s.now)) longer.ensures bounds.ensures enum_told.is in
-    sym (outcome_parents args.s.now args.h args.np args.nh g _ (sym fields.ensures ∙ c.in-Ok.is) c.if-np-n.true)
+    sym (outcome_parents args.s.now args.h args.np args.nh g _ (sym fields.ensures ∙ c.in-Ok-fields.is) c.if-np-n.true)
 
 pub returns-then-nh-m : goal.returns-then-nh-m
 returns-then-nh-m c =
-    let f = c.in-Ok in
+    let f = c.in-Ok-fields in
     let fields = c.fields in
     let enum_told = c.in-Ok in
     let bounds = c.bounds in
@@ -44,19 +44,19 @@ returns-in-Err c =
     let g = told (gate_of args.h (length args.s.now)) longer.ensures bounds.ensures c.in-Err.is in
     sym (outcome_shut args.s.now args.h args.np args.nh _ g)
 
-pub returns-in-Err : goal.returns-in-Err
-returns-in-Err c =
+pub returns-in-Err-fields : goal.returns-in-Err-fields
+returns-in-Err-fields c =
     let fields = c.fields in
     let enum_told = c.in-Ok in
     let bounds = c.bounds in
     let longer = c.longer in
     let args = c.args in
     let g = told (gate_of args.h (length args.s.now)) longer.ensures bounds.ensures enum_told.is in
-    sym (outcome_field args.s.now args.h args.np args.nh g _ (sym fields.ensures ∙ c.in-Err.is))
+    sym (outcome_field args.s.now args.h args.np args.nh g _ (sym fields.ensures ∙ c.in-Err-fields.is))
 
 pub returns-else-nh-m : goal.returns-else-nh-m
 returns-else-nh-m c =
-    let f = c.in-Ok in
+    let f = c.in-Ok-fields in
     let fields = c.fields in
     let enum_told = c.in-Ok in
     let bounds = c.bounds in

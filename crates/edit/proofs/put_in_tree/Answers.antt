@@ -16,7 +16,7 @@ put_counted-requires c =
     let rule_bounds = c.rule_bounds in
     let enum_told = c.in-Ok in
     let strict-count = c.strict_count in
-    let n = c.in-Ok in
+    let n = c.in-Ok-strict_count in
     let new = new_entry args.mode args.name.now args.id.now in
     let b = answers.put-bounds args.rules args.h args.bytes.now new _ _
     (answers.most-put (length args.bytes.now) (length args.name.now) (length args.id.now) (length args.out.now) longer3.ensures
@@ -40,8 +40,8 @@ returns-in-Err c =
     (strict-refuses _ _ _ _ _ shut)) in
     record { answer = r.0; out = r.1 }
 
-pub returns-in-Err : goal.returns-in-Err
-returns-in-Err c =
+pub returns-in-Err-strict_count : goal.returns-in-Err-strict_count
+returns-in-Err-strict_count c =
     let r = (let args = c.args in
     let longer = c.longer in
     let longer2 = c.longer-2 in
@@ -49,7 +49,7 @@ returns-in-Err c =
     let rule_bounds = c.rule_bounds in
     let enum_told = c.in-Ok in
     let strict-count = c.strict_count in
-    let w = c.in-Err in
+    let w = c.in-Err-strict_count in
     let new = new_entry args.mode args.name.now args.id.now in
     let m = answers.most-put (length args.bytes.now) (length args.name.now) (length args.id.now) (length args.out.now) longer3.ensures
     longer.ensures longer2.ensures in
@@ -59,8 +59,8 @@ returns-in-Err c =
     refused-both _ _ _ (answers.put_stopped args.rules args.h args.bytes.now new _ _ m begun _ t) (answers.stopped_refuses _ _ _ _ t)) in
     record { answer = r.0; out = r.1 }
 
-pub returns-in-Ok : goal.returns-in-Ok
-returns-in-Ok c =
+pub returns-in-Ok-strict_count : goal.returns-in-Ok-strict_count
+returns-in-Ok-strict_count c =
     let r = (let args = c.args in
     let longer = c.longer in
     let longer2 = c.longer-2 in
@@ -68,7 +68,7 @@ returns-in-Ok c =
     let rule_bounds = c.rule_bounds in
     let enum_told = c.in-Ok in
     let strict-count = c.strict_count in
-    let n = c.in-Ok in
+    let n = c.in-Ok-strict_count in
     let put-counted = c.put_counted in
     let new = new_entry args.mode args.name.now args.id.now in
     let m = answers.most-put (length args.bytes.now) (length args.name.now) (length args.id.now) (length args.out.now) longer3.ensures

@@ -1,6 +1,8 @@
 -- `edit_walk::carry` meets its contract. Assumes nothing.
 use native.Mathlib.Omega.{arith}
-use mathlib.Core.Path.{◌∙◌}
+use mathlib.Core.Path.{ap, ◌∙◌}
+use Rattle.std.specs.Prelude.{Some}
+use Rattle.edit_turn.specs.declared.Fate.{Fate}
 use Rattle.edit_walk.proofs.Walks.{walking_start, walking_end, walking_drop, walking_keep, walking_first, keep_leads, first_leads, ends-placed, ends_last}
 use Rattle.edit_walk.proofs.carry.Goals as goal
 
@@ -17,13 +19,13 @@ loop-left-preserved-in-None c =
     let turn_at = c.turn_at in
     walking_end _ _ _ _ _ _ _ _ _ _ _ _ loop.invariant loop-test.true _ is-tree.ensures _ turn_at.ensures c.in-None.is
 
-pub loop-left-preserved-in-Some : goal.loop-left-preserved-in-Some
-loop-left-preserved-in-Some c =
+pub loop-left-preserved-in-Out : goal.loop-left-preserved-in-Out
+loop-left-preserved-in-Out c =
     let loop = c.loop-left in
     let loop-test = c.loop-left-test in
     let is-tree = c.is_tree-tree in
     let turn_at = c.turn_at in
-    walking_drop _ _ _ _ _ _ _ _ _ _ _ _ loop.invariant loop-test.true _ is-tree.ensures _ turn_at.ensures _ c.in-Some.is
+    walking_drop _ _ _ _ _ _ _ _ _ _ _ _ loop.invariant loop-test.true _ is-tree.ensures _ turn_at.ensures _ (c.in-Some.is ∙ ap (λ (f : Fate). Some (f, c.in-Some.next)) c.in-Out.is)
 
 pub slice_bounds-put-count : goal.slice_bounds-put-count
 slice_bounds-put-count c =
@@ -31,8 +33,8 @@ slice_bounds-put-count c =
     let loop-test = c.loop-left-test in
     let is-tree = c.is_tree-tree in
     let turn_at = c.turn_at in
-    let next2 = c.in-Some in
-    let d = keep_leads _ _ _ _ _ _ _ _ _ _ _ _ loop.invariant loop-test.true _ is-tree.ensures _ turn_at.ensures _ next2.is in
+    let is = c.in-Some.is ∙ ap (λ (f : Fate). Some (f, c.in-Some.next)) c.in-Over.is in
+    let d = keep_leads _ _ _ _ _ _ _ _ _ _ _ _ loop.invariant loop-test.true _ is-tree.ensures _ turn_at.ensures _ is in
     omega (arith, d.0, d.1)
 
 pub slice_bounds-put-start : goal.slice_bounds-put-start
@@ -41,8 +43,8 @@ slice_bounds-put-start c =
     let loop-test = c.loop-left-test in
     let is-tree = c.is_tree-tree in
     let turn_at = c.turn_at in
-    let next2 = c.in-Some in
-    let d = keep_leads _ _ _ _ _ _ _ _ _ _ _ _ loop.invariant loop-test.true _ is-tree.ensures _ turn_at.ensures _ next2.is in
+    let is = c.in-Some.is ∙ ap (λ (f : Fate). Some (f, c.in-Some.next)) c.in-Over.is in
+    let d = keep_leads _ _ _ _ _ _ _ _ _ _ _ _ loop.invariant loop-test.true _ is-tree.ensures _ turn_at.ensures _ is in
     omega (arith, d.0, d.1)
 
 pub slice_bounds-put-end : goal.slice_bounds-put-end
@@ -51,8 +53,8 @@ slice_bounds-put-end c =
     let loop-test = c.loop-left-test in
     let is-tree = c.is_tree-tree in
     let turn_at = c.turn_at in
-    let next2 = c.in-Some in
-    let d = keep_leads _ _ _ _ _ _ _ _ _ _ _ _ loop.invariant loop-test.true _ is-tree.ensures _ turn_at.ensures _ next2.is in
+    let is = c.in-Some.is ∙ ap (λ (f : Fate). Some (f, c.in-Some.next)) c.in-Over.is in
+    let d = keep_leads _ _ _ _ _ _ _ _ _ _ _ _ loop.invariant loop-test.true _ is-tree.ensures _ turn_at.ensures _ is in
     omega (arith, d.0, d.1)
 
 pub overflow_sub-used : goal.overflow_sub-used
@@ -61,8 +63,8 @@ overflow_sub-used c =
     let loop-test = c.loop-left-test in
     let is-tree = c.is_tree-tree in
     let turn_at = c.turn_at in
-    let next2 = c.in-Some in
-    let d = keep_leads _ _ _ _ _ _ _ _ _ _ _ _ loop.invariant loop-test.true _ is-tree.ensures _ turn_at.ensures _ next2.is in
+    let is = c.in-Some.is ∙ ap (λ (f : Fate). Some (f, c.in-Some.next)) c.in-Over.is in
+    let d = keep_leads _ _ _ _ _ _ _ _ _ _ _ _ loop.invariant loop-test.true _ is-tree.ensures _ turn_at.ensures _ is in
     omega (arith, d.0, d.1)
 
 pub overflow_add-used : goal.overflow_add-used
@@ -71,10 +73,10 @@ overflow_add-used c =
     let loop-test = c.loop-left-test in
     let is-tree = c.is_tree-tree in
     let turn_at = c.turn_at in
-    let next2 = c.in-Some in
+    let is = c.in-Some.is ∙ ap (λ (f : Fate). Some (f, c.in-Some.next)) c.in-Over.is in
     let pre = c.requires in
     let inv = loop.invariant in
-    let d = keep_leads _ _ _ _ _ _ _ _ _ _ _ _ loop.invariant loop-test.true _ is-tree.ensures _ turn_at.ensures _ next2.is in
+    let d = keep_leads _ _ _ _ _ _ _ _ _ _ _ _ loop.invariant loop-test.true _ is-tree.ensures _ turn_at.ensures _ is in
     omega (arith, d.0, d.1, inv.small, inv.few, inv.fewer, pre.2)
 
 pub overflow_add-kept : goal.overflow_add-kept
@@ -83,17 +85,17 @@ overflow_add-kept c =
     let inv = loop.invariant in
     omega (arith, inv.few, inv.fewer)
 
-pub loop-left-preserved-in-Some : goal.loop-left-preserved-in-Some
-loop-left-preserved-in-Some c =
+pub loop-left-preserved-in-Over : goal.loop-left-preserved-in-Over
+loop-left-preserved-in-Over c =
     let loop = c.loop-left in
     let turn_at = c.turn_at in
     let is-tree = c.is_tree-tree in
     let loop-test = c.loop-left-test in
-    let next2 = c.in-Some in
+    let is = c.in-Some.is ∙ ap (λ (f : Fate). Some (f, c.in-Some.next)) c.in-Over.is in
     let pre = c.requires in
     let put = c.put in
     let taken = loop-test.true in
-    let next = next2.is in
+    let next = is in
     walking_keep _ _ _ _ _ _ _ _ _ _ _ _ loop.invariant taken _ is-tree.ensures _ turn_at.ensures _ pre.2
     (keep_leads _ _ _ _ _ _ _ _ _ _ _ _ loop.invariant taken _ is-tree.ensures _ turn_at.ensures _ next) next _ put.auto.out put.ensures
 
@@ -104,61 +106,61 @@ put_new-from-requires c =
     let inv = loop.invariant in
     (pre.0, pre.1, omega (arith, inv.small, inv.few))
 
-pub slice_bounds-put-count-in-Some : goal.slice_bounds-put-count-in-Some
-slice_bounds-put-count-in-Some c =
+pub slice_bounds-put-count-in-Behind : goal.slice_bounds-put-count-in-Behind
+slice_bounds-put-count-in-Behind c =
     let loop = c.loop-left in
     let loop-test = c.loop-left-test in
     let is-tree = c.is_tree-tree in
     let turn_at = c.turn_at in
-    let next3 = c.in-Some in
-    let d = first_leads _ _ _ _ _ _ _ _ _ _ _ _ loop.invariant loop-test.true _ is-tree.ensures _ turn_at.ensures _ next3.is in
+    let is = c.in-Some.is ∙ ap (λ (f : Fate). Some (f, c.in-Some.next)) c.in-Behind.is in
+    let d = first_leads _ _ _ _ _ _ _ _ _ _ _ _ loop.invariant loop-test.true _ is-tree.ensures _ turn_at.ensures _ is in
     omega (arith, d.0, d.1)
 
-pub slice_bounds-put-start-in-Some : goal.slice_bounds-put-start-in-Some
-slice_bounds-put-start-in-Some c =
+pub slice_bounds-put-start-in-Behind : goal.slice_bounds-put-start-in-Behind
+slice_bounds-put-start-in-Behind c =
     let loop = c.loop-left in
     let loop-test = c.loop-left-test in
     let is-tree = c.is_tree-tree in
     let turn_at = c.turn_at in
-    let next3 = c.in-Some in
-    let d = first_leads _ _ _ _ _ _ _ _ _ _ _ _ loop.invariant loop-test.true _ is-tree.ensures _ turn_at.ensures _ next3.is in
+    let is = c.in-Some.is ∙ ap (λ (f : Fate). Some (f, c.in-Some.next)) c.in-Behind.is in
+    let d = first_leads _ _ _ _ _ _ _ _ _ _ _ _ loop.invariant loop-test.true _ is-tree.ensures _ turn_at.ensures _ is in
     omega (arith, d.0, d.1)
 
-pub slice_bounds-put-end-in-Some : goal.slice_bounds-put-end-in-Some
-slice_bounds-put-end-in-Some c =
+pub slice_bounds-put-end-in-Behind : goal.slice_bounds-put-end-in-Behind
+slice_bounds-put-end-in-Behind c =
     let loop = c.loop-left in
     let loop-test = c.loop-left-test in
     let is-tree = c.is_tree-tree in
     let turn_at = c.turn_at in
-    let next3 = c.in-Some in
-    let d = first_leads _ _ _ _ _ _ _ _ _ _ _ _ loop.invariant loop-test.true _ is-tree.ensures _ turn_at.ensures _ next3.is in
+    let is = c.in-Some.is ∙ ap (λ (f : Fate). Some (f, c.in-Some.next)) c.in-Behind.is in
+    let d = first_leads _ _ _ _ _ _ _ _ _ _ _ _ loop.invariant loop-test.true _ is-tree.ensures _ turn_at.ensures _ is in
     omega (arith, d.0, d.1)
 
-pub overflow_sub-used-in-Some : goal.overflow_sub-used-in-Some
-overflow_sub-used-in-Some c =
+pub overflow_sub-used-in-Behind : goal.overflow_sub-used-in-Behind
+overflow_sub-used-in-Behind c =
     let loop = c.loop-left in
     let loop-test = c.loop-left-test in
     let is-tree = c.is_tree-tree in
     let turn_at = c.turn_at in
-    let next3 = c.in-Some in
-    let d = first_leads _ _ _ _ _ _ _ _ _ _ _ _ loop.invariant loop-test.true _ is-tree.ensures _ turn_at.ensures _ next3.is in
+    let is = c.in-Some.is ∙ ap (λ (f : Fate). Some (f, c.in-Some.next)) c.in-Behind.is in
+    let d = first_leads _ _ _ _ _ _ _ _ _ _ _ _ loop.invariant loop-test.true _ is-tree.ensures _ turn_at.ensures _ is in
     omega (arith, d.0, d.1)
 
-pub overflow_add-used-in-Some : goal.overflow_add-used-in-Some
-overflow_add-used-in-Some c =
+pub overflow_add-used-in-Behind : goal.overflow_add-used-in-Behind
+overflow_add-used-in-Behind c =
     let pre = c.requires in
     let is-tree = c.is_tree-tree in
     let loop = c.loop-left in
     let loop-test = c.loop-left-test in
     let turn_at = c.turn_at in
-    let next3 = c.in-Some in
+    let is = c.in-Some.is ∙ ap (λ (f : Fate). Some (f, c.in-Some.next)) c.in-Behind.is in
     let put-new = c.put_new-from in
     let inv = loop.invariant in
-    let d = first_leads _ _ _ _ _ _ _ _ _ _ _ _ loop.invariant loop-test.true _ is-tree.ensures _ turn_at.ensures _ next3.is in
+    let d = first_leads _ _ _ _ _ _ _ _ _ _ _ _ loop.invariant loop-test.true _ is-tree.ensures _ turn_at.ensures _ is in
     omega (arith, d.0, d.1, put-new.ensures.next.1, inv.small, inv.few, inv.fewer, pre.2)
 
-pub overflow_add-kept-in-Some : goal.overflow_add-kept-in-Some
-overflow_add-kept-in-Some c =
+pub overflow_add-kept-in-Behind : goal.overflow_add-kept-in-Behind
+overflow_add-kept-in-Behind c =
     let loop = c.loop-left in
     let inv = loop.invariant in
     omega (arith, inv.few, inv.fewer)
@@ -170,11 +172,11 @@ loop-left-preserved c =
     let loop = c.loop-left in
     let loop-test = c.loop-left-test in
     let turn_at = c.turn_at in
-    let next3 = c.in-Some in
+    let is = c.in-Some.is ∙ ap (λ (f : Fate). Some (f, c.in-Some.next)) c.in-Behind.is in
     let put-new = c.put_new-from in
-    let put2 = c.put-in-Some in
+    let put2 = c.put-in-Behind in
     let taken = loop-test.true in
-    let next = next3.is in
+    let next = is in
     let put = put2 in
     walking_first _ _ _ _ _ _ _ _ _ _ _ _ loop.invariant taken _ is-tree.ensures _ turn_at.ensures _ pre.2
     (first_leads _ _ _ _ _ _ _ _ _ _ _ _ loop.invariant taken _ is-tree.ensures _ turn_at.ensures _ next) next _ _ _

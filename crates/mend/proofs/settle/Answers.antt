@@ -67,7 +67,7 @@ loop-at-preserved c =
     let decode = c.decode in
     let e = c.in-Ok in
     let entry-fate = c.entry_fate-fate in
-    let put-fate = c.put_fate in
+    let put-fate = c.put_at in
     let kept-size = c.kept_size-size in
     settling_turn _ _ _ _ _ _ _ _ loop.invariant _ _ if1.false (sym decode.ensures ∙ e.is) _ entry-fate.ensures (own-most _) _ put-fate.ensures _
     (sum_is _ _ kept-size.ensures)

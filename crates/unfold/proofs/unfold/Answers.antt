@@ -28,11 +28,8 @@ returns-then-out-need c =
     let args = c.args in
     let g = told (λ (k : ℕ). size_gate k 0) longer.ensures sizes.ensures enum_told.is in
     let p = plan_short args.bytes.now args.x (length args.out.now) g (sym well-formed.ensures ∙ if1.true)
-    (sym has-form.ensures ∙ c.if-has_form.true) _ c.plain_len-need.ensures c.if-out-need.true in
+    (sym has-form.ensures ∙ c.if-has_form.true) _ c.put_plain-need.ensures.value c.if-out-need.true in
     record { answer = sym (answer-refuses _ args.out.now _ p); out = sym (after-refuses _ args.out.now _ p) }
-
-pub plain_into-requires : goal.plain_into-requires
-plain_into-requires c = omega (arith, c.plain_len-need.ensures, c.if-out-need.false)
 
 pub returns-then-has_form : goal.returns-then-has_form
 returns-then-has_form c =
@@ -44,15 +41,15 @@ returns-then-has_form c =
     let if1 = c.if-well_formed in
     let has-form = c.has_form in
     let if2 = c.if-has_form in
-    let plain-len = c.plain_len-need in
+    let plain-len = c.put_plain-need in
     let if3 = c.if-out-need in
-    let plain-into = c.plain_into in
+    let plain-into = c.put_plain in
     let g = told (λ (k : ℕ). size_gate k 0) longer.ensures sizes.ensures enum_told.is in
     let p = plan_stores args.bytes.now args.x (length args.out.now) g (sym well-formed.ensures ∙ if1.true)
-    (sym has-form.ensures ∙ if2.true) _ plain-len.ensures if3.false in record {
-      answer = sym (answer-stores _ args.out.now _ p _ plain-len.ensures);
-      out = plain-into.ensures ∙ sym
-          (after-stores _ args.out.now _ p (omega (arith, plain-len.ensures, if3.false)));
+    (sym has-form.ensures ∙ if2.true) _ plain-len.ensures.value if3.false in record {
+      answer = sym (answer-stores _ args.out.now _ p _ plain-len.ensures.value);
+      out = plain-into.ensures.out_after ∙ sym
+          (after-stores _ args.out.now _ p (omega (arith, plain-len.ensures.value, if3.false)));
     }
 
 pub returns-then-well_formed : goal.returns-then-well_formed

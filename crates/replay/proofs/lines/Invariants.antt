@@ -1,9 +1,0 @@
--- `replay::lines` is safe and ends. Assumes nothing.
-use Rattle.std.proofs.Common.{◌-◌}
-use Rattle.replay.proofs.lines.Given as goal
-
-abbrev pub invariant-loop-call : goal.invariant-loop-call
-invariant-loop-call g l = Unit {0}
-
-abbrev pub decreases-loop-call : goal.decreases-loop-call
-decreases-loop-call g l = 32 - l.call
