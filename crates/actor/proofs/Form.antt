@@ -13,10 +13,8 @@ use lib.Dec.{eqb, ltb, leb}
 use borrow.Author.Tests.{eqb-true, eqb-false, ltb-true, leb-true, not-true, ne_eqb, le-leb}
 use Rattle.ground.specs.Scan.{count_to, free_of}
 use Rattle.ground.proofs.Laws.{and_left, and_right, count-is, count_free}
-use Rattle.actor.specs.Actor.{in_class, all_of, is_name, is_named, is_sign, two_digits, is_zone, is_time, is_addressed, is_actor}
+use Rattle.actor.specs.Actor.{Class, Digit, Name, Address, in_class, all_of, is_name, is_named, is_sign, two_digits, is_zone, is_time, is_addressed, is_actor}
 use Rattle.actor.specs.Form.{Plain, NameForm, AddressForm, TimeForm, ZoneForm, ActorForm}
-use Rattle.actor.specs.declared.Class.{Class}
-use Rattle.actor.specs.declared.Class.TheVariants.{Digit, Name, Address}
 use Rattle.actor.proofs.Laws.{name-is, named_is, zone-length, zone-is, time-is, time_end, address_is, address_end, actor_is, actor_end}
 
 -- ---- classes of bytes

@@ -3,55 +3,19 @@ use Prim.Native.Nat.{ℕ, ◌+◌, ◌-◌, ◌<◌, ◌≤◌}
 use mathlib.Core.Path.{◌≡◌, refl, ap, sym, ◌∙◌}
 use mathlib.Core.Bool.{Bool, true, false}
 use mathlib.Core.List.{List, []}
-use native.Mathlib.Numerals.{add-one}
 use native.Mathlib.Omega.{arith}
 use lib.ListN.{length, get_or, take, drop, get_or-eq_default, drop_of_length-le}
-use lib.Seq.{drop-cons}
 use lib.Dec.{leb}
 use borrow.Author.Tests.{eq-eqb, ne_eqb, lt-ltb, le-ltb, le-leb, lt-leb}
 use Rattle.ground.specs.Scan.{count_to}
-use Rattle.actor.specs.Actor.{in_class, all_of, is_name, is_named, is_sign, two_digits, is_zone, is_time, is_addressed, is_actor}
-use Rattle.actor.specs.declared.Class.{Class}
-use Rattle.actor.specs.declared.Class.TheVariants.{Digit, Name, Address}
-
--- each byte of a class, from a place on: a byte of it, another, the end
-module _ (k : Class) (s : List ℕ) (n : ℕ) where
-  pub all_more : n < length s → in_class k (get_or s n 0) ≡ true → all_of k (drop n s) ≡ all_of k (drop (n + 1) s)
-  all_more h e = rw (add-one n, drop-cons s n 0 h) (simp e)
-
-  pub all_not : n < length s → in_class k (get_or s n 0) ≡ false → all_of k (drop n s) ≡ false
-  all_not h e = rw (drop-cons s n 0 h) (simp e)
-
-  pub all_end : length s ≤ n → all_of k (drop n s) ≡ true
-  all_end h = rw (drop_of_length-le s {i = n} h)
+use Rattle.actor.specs.Actor.{Digit, Name, Address, all_of, is_name, is_named, is_sign, two_digits, is_zone, is_time, is_addressed, is_actor}
 
 module _ (m : List ℕ) where
-  pub name-none : length m ≡ 0 → is_name m ≡ false
+  pub name-is : (length m ≡ 0 → ⊥) → (get_or m 0 0 ≡ 32 → ⊥) → (get_or m (length m - 1) 0 ≡ 32 → ⊥) → is_name m ≡ all_of Name m
   unfolding is_name
-  name-none e = simp (le-ltb 0 (length m) (omega arith))
-
-  module _ (h : length m ≡ 0 → ⊥) where
-    pub name_starts : get_or m 0 0 ≡ 32 → is_name m ≡ false
-    unfolding is_name
-    name_starts e = simp (lt-ltb 0 (length m) (omega arith), eq-eqb (get_or m 0 0) 32 e)
-
-    module _ (a : get_or m 0 0 ≡ 32 → ⊥) where
-      pub name-ends : get_or m (length m - 1) 0 ≡ 32 → is_name m ≡ false
-      unfolding is_name
-      name-ends e = simp (lt-ltb 0 (length m) (omega arith), ne_eqb (get_or m 0 0) 32 a, eq-eqb (get_or m (length m - 1) 0) 32 e)
-
-      pub name-is : (get_or m (length m - 1) 0 ≡ 32 → ⊥) → is_name m ≡ all_of Name m
-      unfolding is_name
-      name-is e = simp (lt-ltb 0 (length m) (omega arith), ne_eqb (get_or m 0 0) 32 a, ne_eqb (get_or m (length m - 1) 0) 32 e)
+  name-is h a e = simp (lt-ltb 0 (length m) (omega arith), ne_eqb (get_or m 0 0) 32 a, ne_eqb (get_or m (length m - 1) 0) 32 e)
 
 module _ (p : List ℕ) where
-  pub named-not : (get_or p (length p - 1) 0 ≡ 32 → ⊥) → is_named p ≡ false
-  unfolding is_named
-  named-not e = simp (ne_eqb (get_or p (length p - 1) 0) 32 e)
-
-  pub named_none : length p ≡ 0 → is_named p ≡ false
-  named_none h = named-not (λ e. let z : ◌≡◌ {A = ℕ} 0 32 = sym (get_or-eq_default p 0 (omega arith)) ∙ e in omega arith)
-
   pub named_is : get_or p (length p - 1) 0 ≡ 32 → is_named p ≡ is_name (take (length p - 1) p)
   unfolding is_named
   named_is e = simp (eq-eqb (get_or p (length p - 1) 0) 32 e)
@@ -61,24 +25,10 @@ module _ (z : List ℕ) where
   unfolding is_zone
   zone-length e = simp (ne_eqb (length z) 5 e)
 
-  module _ (h : length z ≡ 5) where
-    pub zone-sign : is_sign (get_or z 0 0) ≡ false → is_zone z ≡ false
-    unfolding is_zone
-    zone-sign e = rw (eq-eqb (length z) 5 h, e)
-
-    module _ (s : is_sign (get_or z 0 0) ≡ true) where
-      pub zone_other : all_of Digit (drop 1 z) ≡ false → is_zone z ≡ false
-      unfolding is_zone
-      zone_other e = rw (eq-eqb (length z) 5 h, s, e)
-
-      module _ (d : all_of Digit (drop 1 z) ≡ true) where
-        pub zone-hours : 14 < two_digits (get_or z 1 0) (get_or z 2 0) → is_zone z ≡ false
-        unfolding is_zone
-        zone-hours e = rw (eq-eqb (length z) 5 h, s, d, lt-leb (two_digits (get_or z 1 0) (get_or z 2 0)) 14 e)
-
-        pub zone-is : two_digits (get_or z 1 0) (get_or z 2 0) ≤ 14 → is_zone z ≡ leb (two_digits (get_or z 3 0) (get_or z 4 0)) 59
-        unfolding is_zone
-        zone-is e = rw (eq-eqb (length z) 5 h, s, d, le-leb (two_digits (get_or z 1 0) (get_or z 2 0)) 14 e)
+  pub zone-is : length z ≡ 5 → is_sign (get_or z 0 0) ≡ true → all_of Digit (drop 1 z) ≡ true → two_digits (get_or z 1 0) (get_or z 2 0) ≤ 14
+      → is_zone z ≡ leb (two_digits (get_or z 3 0) (get_or z 4 0)) 59
+  unfolding is_zone
+  zone-is h s d e = rw (eq-eqb (length z) 5 h, s, d, le-leb (two_digits (get_or z 1 0) (get_or z 2 0)) 14 e)
 
 -- n is how many bytes stand before the space
 module _ (d : List ℕ) (n : ℕ) (c : n ≡ count_to 32 d) where
@@ -120,14 +70,9 @@ module _ (a : List ℕ) (n : ℕ) (c : n ≡ count_to 62 a) where
     pub address_end : length a < n + 2 → is_addressed a ≡ false
     address_end k = address-not (λ e. let z : ◌≡◌ {A = ℕ} 0 32 = sym (get_or-eq_default a 0 (omega arith)) ∙ e in omega arith)
 
-    module _ (s : get_or a (n + 1) 0 ≡ 32) where
-      pub address_other : all_of Address (take n a) ≡ false → is_addressed a ≡ false
-      unfolding is_addressed
-      address_other e = rw (← c) (simp (lt-ltb 0 n (omega arith), eq-eqb (get_or a (n + 1) 0) 32 s, e))
-
-      pub address_is : all_of Address (take n a) ≡ true → is_addressed a ≡ is_time (drop (n + 2) a)
-      unfolding is_addressed
-      address_is e = rw (← c) (simp (lt-ltb 0 n (omega arith), eq-eqb (get_or a (n + 1) 0) 32 s, e))
+    pub address_is : get_or a (n + 1) 0 ≡ 32 → all_of Address (take n a) ≡ true → is_addressed a ≡ is_time (drop (n + 2) a)
+    unfolding is_addressed
+    address_is s e = rw (← c) (simp (lt-ltb 0 n (omega arith), eq-eqb (get_or a (n + 1) 0) 32 s, e))
 
 -- n is how many bytes stand before `<`
 module _ (v : List ℕ) (n : ℕ) (c : n ≡ count_to 60 v) where

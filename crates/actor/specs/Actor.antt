@@ -1,8 +1,7 @@
 -- The actor form as a test (docs/FORMAT.md, "Commits"). Assumes nothing.
-use Rattle.std.specs.Prelude.{ℕ, ◌+◌, ◌-◌, ◌*◌, Bool, true, ◌&&◌, ◌||◌, not, List, [], ◌∷◌, length, get_or, take, drop, eqb, ltb, leb}
+use Rattle.std.specs.Prelude.{ℕ, ◌+◌, ◌-◌, ◌*◌, Bool, ◌&&◌, ◌||◌, not, List, length, get_or, take, drop, eqb, ltb, leb}
 use Rattle.ground.specs.Scan.{count_to}
-use Rattle.actor.specs.declared.Class.{Class}
-use Rattle.actor.specs.declared.Class.TheVariants.{Digit, Name, Address}
+use Rattle.std.specs.List.{list_all}
 
 -- a byte from `0` to `9`
 abbrev pub is_digit : ℕ → Bool
@@ -12,6 +11,12 @@ is_digit b = leb 48 b && leb b 57
 abbrev pub is_plain : ℕ → Bool
 is_plain b = not (eqb b 60) && not (eqb b 62) && not (eqb b 0) && not (eqb b 10)
 
+-- the classes of bytes: those of a number, of a name and of an address
+pub data Class : Type 0 where
+  Digit : Class
+  Name : Class
+  Address : Class
+
 -- a byte of a class: an address has no space either
 unfoldable pub in_class : Class → ℕ → Bool
 in_class Digit b = is_digit b
@@ -20,8 +25,7 @@ in_class Address b = not (eqb b 32) && is_plain b
 
 -- each byte is of the class
 abbrev pub all_of : Class → List ℕ → Bool
-all_of k [] = true
-all_of k (b ∷ bs) = in_class k b && all_of k bs
+all_of k s = list_all (in_class k) s
 
 -- one or more bytes of a name, neither starting nor ending with a space
 unfoldable pub is_name : List ℕ → Bool

@@ -17,7 +17,6 @@ use Rattle.order.proofs.Laws.{below-is, by_lt, next-byte, next_past}
 use Rattle.entry.specs.Entry.{Entry}
 use Rattle.doubles.specs.Doubles.{named_before, top_is, last_name, held}
 use Rattle.doubles.specs.Stack.{stack_of, kept_of, open_at, marks_at, is_double, open_of}
-use Rattle.doubles.specs.declared.Placed.TheVariants.{Fine, Double}
 use Rattle.doubles.proofs.Theorem.{After, Ascends, held-within}
 use Rattle.doubles.proofs.Placing.{Tracks, tracks_first, tracks-next, double_is}
 use Rattle.rules.specs.Rules.{or_else, is_text, modes_of, name_number, bare_number, judge, stands_before, is_after, after_number, git_rules}
@@ -29,6 +28,9 @@ use Rattle.arriving.specs.declared.Last.{Last}
 use Rattle.arriving.specs.declared.Line.{Line}
 use Rattle.arriving.proofs.Level.{stand_order, by_stand}
 use Rattle.arriving.proofs.Runs.{stored_past, line_of}
+use Rattle.doubles.specs.declared.Misplaced.TheVariants.{Double}
+use Rattle.std.specs.Prelude.{Err, Ok, Result}
+use Rattle.doubles.specs.declared.Misplaced.{Misplaced}
 
 -- the held name is that of the entry before, if there is one; else it is empty and no folder's
 abbrev pub Holds : List ℕ → Last → List Entry → Type 0
@@ -154,7 +156,7 @@ module _ (last : Last) (held : List ℕ) (written folder : Bool) (room : length 
 -- the answer, and what is kept
 pub record Stands (ends : List ℕ) (ended shared : ℕ) (last : Last) (size : ℕ) (folder : Bool) (seen : List Entry) (e : Entry) : Type 0 where
   pub n : ℕ
-  pub answer : open_of ends ended shared last.size (leaves_none last) size folder ≡ pick (named_before seen e.name) Double (Fine n)
+  pub answer : open_of ends ended shared last.size (leaves_none last) size folder ≡ pick (named_before seen e.name) (Err Double) (Ok n)
   pub tracks : Tracks (marks_at ends (min ended (length ends)) shared last.size (leaves_none last)) n (e ∷ seen)
 
 none_open : (a : List ℕ) (n : ℕ) → stack_of a n ≡ [] → n ≡ 0
@@ -171,7 +173,7 @@ module _ (ends : List ℕ) (ended : ℕ) (last : Last) (e : Entry) (long : lengt
       let m : min ended (length ends) ≡ 0 = omega arith in
       record { n = 0; answer = rw (m, p, q) (same folder); tracks = rw (m, p, q) (tracks_first ends e) }
     where
-      same : (v : Bool) → pick (v && false) Double (Fine 0) ≡ Fine 0
+      same : (v : Bool) → pick {A = Result ℕ Misplaced} (v && false) (Err Double) (Ok 0) ≡ Ok 0
       same true = refl
       same false = refl
 
@@ -199,7 +201,7 @@ module _ (ends : List ℕ) (ended : ℕ) (last : Last) (e : Entry) (long : lengt
           n = open_at ends ended (common_start p.name e.name) (length p.name) (is_tree p.mode);
           answer =
               rw (leaves, within, sym size)
-              (ap (λ (v : Bool). pick v Double (Fine (open_at ends ended (common_start p.name e.name) (length p.name) (is_tree p.mode))))
+              (ap (λ (v : Bool). pick v (Err Double) (Ok (open_at ends ended (common_start p.name e.name) (length p.name) (is_tree p.mode))))
               (double_is ends ended p ps t e room (omega arith) up));
           tracks = rw (leaves, within, sym size) (tracks-next ends ended p ps t e room (omega arith));
         }

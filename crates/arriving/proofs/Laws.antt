@@ -3,7 +3,8 @@ use Prim.Native.Nat.{ℕ, zero, suc, ◌+◌, ◌-◌, ◌≤◌, ◌<◌, min}
 use native.Mathlib.Numerals.{add-one}
 use native.Mathlib.Omega.{arith}
 use mathlib.Core.Path.{◌≡◌, refl, ap, sym, ◌∙◌}
-use mathlib.Core.Bool.{Bool, true, false}
+use mathlib.Core.Bool.{Bool, true, false, not}
+use mathlib.Core.Logic.{◌⊎◌, inl, inr}
 use mathlib.Core.List.{List, [], ◌∷◌}
 use lib.Dec.{eqb, ltb, leb}
 use lib.ListN.{length, get_or, set, take, drop, length-drop, drop_of_length-le}
@@ -13,15 +14,10 @@ use Rattle.ground.specs.Basics.{pick}
 use Rattle.ground.specs.Verdict.{verdict, broken, fine, counted, refused, most_bytes, most_records}
 use Rattle.ground.specs.declared.Verdict.{Verdict}
 use Rattle.ground.specs.Scan.{count_to, place_from}
-use Rattle.ground.specs.declared.Gate.TheVariants.{Open, Shut}
 use Rattle.mode.specs.Read.{read_mode, read_mode_at, moved}
-use Rattle.mode.specs.declared.ModeRead.{ModeRead}
-use Rattle.mode.specs.declared.ModeRead.TheVariants.{Mode, Bad}
 use Rattle.mode.specs.declared.EntryMode.{EntryMode}
 use Rattle.order.specs.Order.{next}
 use Rattle.entry.specs.Decode.{short_part}
-use Rattle.doubles.specs.declared.Placed.{Placed}
-use Rattle.doubles.specs.declared.Placed.TheVariants.{Fine, NotAfter, Double}
 use Rattle.rules.specs.Rules.{or_else, bare_number}
 use Rattle.rules.specs.Gate.{rule_gate}
 use Rattle.arriving.specs.Feed as def
@@ -33,7 +29,10 @@ use Rattle.arriving.specs.declared.Phase.{Phase}
 use Rattle.arriving.specs.declared.Phase.TheVariants.{Head, Name, Id}
 use Rattle.arriving.specs.declared.Marks.{Marks}
 use Rattle.arriving.specs.declared.Check.{Check}
-use Rattle.arriving.specs.Feed.{together, refuse, meet, sharing, name_marks, name_held, longer, is_over, judged, leaves_none, placing, ends_next, next_entry, placed, closed, closed_ends, id_marks, id_ends, body, bodies, head_step, over_in, over, turn_in, byte_step, feed_of, fresh, start_of, head_part, end_in, finish_of, most_held, body_in}
+use Rattle.arriving.specs.Feed.{together, refuse, meet, name_marks, name_held, longer, is_over, judged, leaves_none, placing, ends_next, next_entry, placed, closed, closed_ends, id_marks, id_ends, body, bodies, head_step, over_in, over, turn_in, byte_step, feed_of, fresh, start_of, head_part, end_in, finish_of, most_held, body_in}
+use Rattle.doubles.specs.declared.Misplaced.{Misplaced}
+use Rattle.doubles.specs.declared.Misplaced.TheVariants.{Double, NotAfter}
+use Rattle.std.specs.Prelude.{Err, None, Ok, Option, Result, Some}
 
 -- ---- how a name stands
 
@@ -64,16 +63,10 @@ module _ (last : Last) (size x b : ℕ) where
     unfolding meet next
     end_file f = rw (le-ltb size last.size h, f, lt-ltb 0 (b + 1) (omega arith))
 
-  pub meet_level : (st : Stand) → st ≡ Level → {r : Stand} → r ≡ meet Level last size x b → r ≡ meet st last size x b
-  meet_level st e q = rw e q
-
-  pub meet-over : (st : Stand) → st ≡ Over → Over ≡ meet st last size x b
+  pub meet-decided : (st : Stand) → (st ≡ Over) ⊎ (st ≡ NotOver) → st ≡ meet st last size x b
   unfolding meet
-  meet-over st e = rw e
-
-  pub meet-not : (st : Stand) → st ≡ NotOver → NotOver ≡ meet st last size x b
-  unfolding meet
-  meet-not st e = rw e
+  meet-decided st (inl e) = rw e
+  meet-decided st (inr e) = rw e
 
 -- ---- a finished name that is level
 
@@ -95,13 +88,13 @@ module _ (held : List ℕ) (last : Last) (l : Line) where
     level_file f = rw (lt-ltb l.size last.size h, f) (sym (le-ltb (get_or held l.size 0 + 1) 0 (omega arith)))
 
   module _ (h : last.size ≤ l.size) where
-    pub level_both : l.folder ≡ true → last.folder ≡ true → false ≡ is_over held last l Level
+    pub level_new : l.folder ≡ true → not last.folder ≡ is_over held last l Level
     unfolding next
-    level_both f g = rw (le-ltb l.size last.size h, f, g)
-
-    pub level_new : l.folder ≡ true → last.folder ≡ false → true ≡ is_over held last l Level
-    unfolding next
-    level_new f g = rw (le-ltb l.size last.size h, f, g)
+    level_new f = rw (le-ltb l.size last.size h, f) (go last.folder)
+      where
+        go : (v : Bool) → not v ≡ ltb (next [] v) 48
+        go true = refl
+        go false = refl
 
     pub level_none : l.folder ≡ false → false ≡ is_over held last l Level
     unfolding next
@@ -110,21 +103,6 @@ module _ (held : List ℕ) (last : Last) (l : Line) where
         go : (v : Bool) → false ≡ ltb (next [] v) 0
         go true = refl
         go false = refl
-
-  pub over_level : (st : Stand) → st ≡ Level → {r : Bool} → r ≡ is_over held last l Level → r ≡ is_over held last l st
-  over_level st e q = rw e q
-
--- ---- how much is shared
-
-module _ (size shared : ℕ) where
-  pub shares_level : (st : Stand) → st ≡ Level → size ≡ sharing st size shared
-  shares_level st e = rw e
-
-  pub shares-over : (st : Stand) → st ≡ Over → shared ≡ sharing st size shared
-  shares-over st e = rw e
-
-  pub shares-not : (st : Stand) → st ≡ NotOver → shared ≡ sharing st size shared
-  shares-not st e = rw e
 
 -- ---- what the rules say
 
@@ -195,22 +173,22 @@ module _ (ends : List ℕ) (m : Marks) (l : Line) (n : ℕ) where
       go zero f = absurd (f refl)
       go (suc n) f = (refl, refl)
 
-  module _ (z : n ≡ 0) (r : Placed) (left : List ℕ) (e : r ≡ placing ends m l) (o : left ≡ ends_next ends m l) where
-    closed-by : (p : Placed) → r ≡ p → Closes ends m l n (placed m l p) left
+  module _ (z : n ≡ 0) (r : Result ℕ Misplaced) (left : List ℕ) (e : r ≡ placing ends m l) (o : left ≡ ends_next ends m l) where
+    closed-by : (p : Result ℕ Misplaced) → r ≡ p → Closes ends m l n (placed m l p) left
     unfolding closed closed_ends
     closed-by p q = (ap (placed m l) (sym q ∙ e) ∙ ap (λ (i : ℕ). closed ends m l i) (sym z), o ∙ ap (λ (i : ℕ). closed_ends ends m l i) (sym z))
 
-    pub closed-next : (k : ℕ) → r ≡ Fine k → (a : Marks) → a ≡ next_entry m l k → Closes ends m l n a left
+    pub closed-next : (k : ℕ) → r ≡ Ok k → (a : Marks) → a ≡ next_entry m l k → Closes ends m l n a left
     unfolding placed
-    closed-next k q a f = rw f (closed-by (Fine k) q)
+    closed-next k q a f = rw f (closed-by (Ok k) q)
 
-    pub closed_double : r ≡ Double → Closes ends m l n (refuse m (verdict 17 m.first)) left
+    pub closed_double : r ≡ Err Double → Closes ends m l n (refuse m (verdict 17 m.first)) left
     unfolding placed
-    closed_double q = closed-by Double q
+    closed_double q = closed-by (Err Double) q
 
-    pub closed-not : r ≡ NotAfter → Closes ends m l n (refuse m (verdict 7 m.first)) left
+    pub closed-not : r ≡ Err NotAfter → Closes ends m l n (refuse m (verdict 7 m.first)) left
     unfolding placed
-    closed-not q = closed-by NotAfter q
+    closed-not q = closed-by (Err NotAfter) q
 
 pub next-is : (m : Marks) (l : Line) (k count : ℕ) → count ≡ pick (ltb m.count most_records) (m.count + 1) m.count
     → record {
@@ -271,11 +249,11 @@ module _ (held ends : List ℕ) (m : Marks) (b : ℕ) where
   unfolding body
   body-id l left r after e p = rw (p.0, p.1) (sym (ap (body_in (together held ends m) b) e))
 
-placed_at : (m : Marks) (l : Line) (r : Placed) → (placed m l r).at ≤ m.at + 1
+placed_at : (m : Marks) (l : Line) (r : Result ℕ Misplaced) → (placed m l r).at ≤ m.at + 1
 unfolding placed
-placed_at m l (Fine n) = omega arith
-placed_at m l NotAfter = omega arith
-placed_at m l Double = omega arith
+placed_at m l (Ok n) = omega arith
+placed_at m l (Err NotAfter) = omega arith
+placed_at m l (Err Double) = omega arith
 
 closed_at : (ends : List ℕ) (m : Marks) (l : Line) (n : ℕ) → (closed ends m l n).at ≤ m.at + 1
 unfolding closed
@@ -326,15 +304,15 @@ bodies_end c head k l = rw (drop_of_length-le head {i = k} l)
 
 -- ---- the first eight bytes
 
-pub read-zero : (s : List ℕ) (r : ModeRead) → read_mode_at s 0 ≡ r → read_mode s ≡ r
+pub read-zero : (s : List ℕ) (r : Option (EntryMode × ℕ)) → read_mode_at s 0 ≡ r → read_mode s ≡ r
 unfolding read_mode_at
 read-zero s r e = go (read_mode s) e
   where
-    go : (q : ModeRead) → moved 0 q ≡ r → q ≡ r
-    go Bad e = e
-    go (Mode m n) e = let z : 0 + n ≡ n = omega arith in sym (ap (Mode m) z) ∙ e
+    go : (q : Option (EntryMode × ℕ)) → moved 0 q ≡ r → q ≡ r
+    go None e = e
+    go (Some (m, n)) e = let z : 0 + n ≡ n = omega arith in sym (ap ((λ y. Some (m, y))) z) ∙ e
 
-pub read-cut : (head : List ℕ) (k n : ℕ) (r : ModeRead) → n ≡ min k 8 → length head ≡ 8 → r ≡ read_mode_at (take n head) 0 → r ≡ read_mode (take k head)
+pub read-cut : (head : List ℕ) (k n : ℕ) (r : Option (EntryMode × ℕ)) → n ≡ min k 8 → length head ≡ 8 → r ≡ read_mode_at (take n head) 0 → r ≡ read_mode (take k head)
 read-cut head k n r q l e = sym (read-zero (take n head) r (sym e)) ∙ ap read_mode (go (ltb k 8) refl)
   where
     go : (v : Bool) → ltb k 8 ≡ v → take n head ≡ take k head
@@ -348,10 +326,10 @@ module _ (m : Marks) where
   over_none k e z = rw (e, eq-eqb k 0 z)
 
   module _ (k : ℕ) (e : m.phase ≡ Head k) (z : k ≡ 0 → ⊥) where
-    pub over-bad : read_mode (take k m.head) ≡ Bad → refuse m (broken m.first 1) ≡ over_in m m.phase
+    pub over-bad : read_mode (take k m.head) ≡ None → refuse m (broken m.first 1) ≡ over_in m m.phase
     over-bad r = rw (e, ne_eqb k 0 z, r)
 
-    pub over-mode : (a : EntryMode) (i : ℕ) → read_mode (take k m.head) ≡ Mode a i → refuse m (verdict 2 0) ≡ over_in m m.phase
+    pub over-mode : (a : EntryMode) (i : ℕ) → read_mode (take k m.head) ≡ Some (a, i) → refuse m (verdict 2 0) ≡ over_in m m.phase
     over-mode a i r = rw (e, ne_eqb k 0 z, r)
 
   pub over-name : (l : Line) → m.phase ≡ Name l → refuse m (verdict 2 0) ≡ over_in m m.phase
@@ -377,13 +355,11 @@ module _ (held ends : List ℕ) (m : Marks) (b : ℕ) where
       unfolding byte_step
       step-first k e q = rw (eq-eqb m.verdict.number 0 z, lt-leb most_bytes m.at l) (q ∙ sym (ap (turn_in (together held ends m) b) e))
 
-      pub step_in_name : (x : Line) → m.phase ≡ Name x → c ≡ body (together held ends m) b → c ≡ byte_step (together held ends m) b
+      pub step-past_mode : ((x : Line) × (m.phase ≡ Name x)) ⊎ ((x : Line) × (left : ℕ) × (m.phase ≡ Id x left)) → c ≡ body (together held ends m) b
+          → c ≡ byte_step (together held ends m) b
       unfolding byte_step
-      step_in_name x e q = rw (eq-eqb m.verdict.number 0 z, lt-leb most_bytes m.at l) (q ∙ sym (ap (turn_in (together held ends m) b) e))
-
-      pub step_in_id : (x : Line) (left : ℕ) → m.phase ≡ Id x left → c ≡ body (together held ends m) b → c ≡ byte_step (together held ends m) b
-      unfolding byte_step
-      step_in_id x left e q = rw (eq-eqb m.verdict.number 0 z, lt-leb most_bytes m.at l) (q ∙ sym (ap (turn_in (together held ends m) b) e))
+      step-past_mode (inl (x, e)) q = rw (eq-eqb m.verdict.number 0 z, lt-leb most_bytes m.at l) (q ∙ sym (ap (turn_in (together held ends m) b) e))
+      step-past_mode (inr (x, left, e)) q = rw (eq-eqb m.verdict.number 0 z, lt-leb most_bytes m.at l) (q ∙ sym (ap (turn_in (together held ends m) b) e))
 
 -- ---- a piece
 
@@ -398,30 +374,30 @@ feed_end c s i l = rw (drop_of_length-le s {i = i} l)
 -- ---- the start and the end
 
 module _ (h k : ℕ) (m : Marks) where
-  pub start_open : rule_gate k h 0 0 ≡ Open → m ≡ fresh h k fine → m ≡ start_of h k
+  pub start_open : rule_gate k h 0 0 ≡ Ok tt → m ≡ fresh h k fine → m ≡ start_of h k
   unfolding start_of
   start_open e q = rw e q
 
-  pub start-shut : (v : Verdict) → rule_gate k h 0 0 ≡ Shut v → m ≡ fresh h k v → m ≡ start_of h k
+  pub start-shut : (v : Verdict) → rule_gate k h 0 0 ≡ Err v → m ≡ fresh h k v → m ≡ start_of h k
   unfolding start_of
   start-shut v e q = rw e q
 
 -- the part that is missing in some first bytes
 module _ (b : List ℕ) where
-  pub part-bad : read_mode_at b 0 ≡ Bad → 1 ≡ head_part b (read_mode b)
-  part-bad e = rw (read-zero b Bad e)
+  pub part-bad : read_mode_at b 0 ≡ None → 1 ≡ head_part b (read_mode b)
+  part-bad e = rw (read-zero b None e)
 
-  part_by : (a : EntryMode) (n end : ℕ) → read_mode_at b 0 ≡ Mode a n → end ≡ place_from 0 b n → head_part b (read_mode b) ≡ short_part (length b - end)
+  part_by : (a : EntryMode) (n end : ℕ) → read_mode_at b 0 ≡ Some (a, n) → end ≡ place_from 0 b n → head_part b (read_mode b) ≡ short_part (length b - end)
   unfolding place_from
   part_by a n end e q =
       let z : length (drop n b) - count_to 0 (drop n b) ≡ length b - end = omega (arith, length-drop n b) in
-      rw (read-zero b (Mode a n) e) (ap short_part z)
+      rw (read-zero b (Some (a, n)) e) (ap short_part z)
 
-  pub part_nul : (a : EntryMode) (n end : ℕ) → read_mode_at b 0 ≡ Mode a n → end ≡ place_from 0 b n → length b - end ≡ 0 → 2 ≡ head_part b (read_mode b)
+  pub part_nul : (a : EntryMode) (n end : ℕ) → read_mode_at b 0 ≡ Some (a, n) → end ≡ place_from 0 b n → length b - end ≡ 0 → 2 ≡ head_part b (read_mode b)
   unfolding short_part
   part_nul a n end e q z = sym (part_by a n end e q ∙ rw (eq-eqb (length b - end) 0 z))
 
-  pub part-id : (a : EntryMode) (n end : ℕ) → read_mode_at b 0 ≡ Mode a n → end ≡ place_from 0 b n → (length b - end ≡ 0 → ⊥) → 3 ≡ head_part b (read_mode b)
+  pub part-id : (a : EntryMode) (n end : ℕ) → read_mode_at b 0 ≡ Some (a, n) → end ≡ place_from 0 b n → (length b - end ≡ 0 → ⊥) → 3 ≡ head_part b (read_mode b)
   unfolding short_part
   part-id a n end e q z = sym (part_by a n end e q ∙ rw (ne_eqb (length b - end) 0 z))
 

@@ -11,12 +11,12 @@ use borrow.Author.Tests.{eqb-true, eqb-false, ltb-true, ltb-false, lt-ltb, le-lt
 use Rattle.ground.specs.Basics.{pick}
 use Rattle.ground.specs.Scan.{common_start}
 use Rattle.order.specs.Order.{is_below, by_number, next, name_order, then_by}
-use Rattle.order.specs.declared.Order.TheVariants.{Below, Same, Above}
 use Rattle.order.proofs.Laws.{by_lt, by_gt, by-eq}
 use Rattle.arriving.specs.Feed.{by_byte, by_end, meet, sharing}
 use Rattle.arriving.specs.declared.Stand.{Stand}
 use Rattle.arriving.specs.declared.Stand.TheVariants.{Level, Over, NotOver}
 use Rattle.arriving.specs.declared.Last.{Last}
+use Rattle.std.specs.declared.cmp.Ordering.TheVariants.{Equal, Greater, Less}
 
 -- how the bytes p stand to the name a, a folder's or not
 unfoldable pub stand_of : List ℕ → List ℕ → Bool → Stand
@@ -117,7 +117,7 @@ below-ltb : (x y : ℕ) → is_below (by_number x y) ≡ ltb x y
 unfolding by_number
 below-ltb x y = go (ltb x y) (ltb y x)
   where
-    go : (u v : Bool) → is_below (pick u Below (pick v Above Same)) ≡ u
+    go : (u v : Bool) → is_below (pick u Less (pick v Greater Equal)) ≡ u
     go true v = refl
     go false true = refl
     go false false = refl

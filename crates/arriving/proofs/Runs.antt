@@ -16,7 +16,6 @@ use Rattle.ground.specs.Verdict.{verdict, most_bytes, most_records}
 use Rattle.ground.proofs.Laws.{equal, sets_append, sets_front}
 use Rattle.mode.specs.Read.{read_mode}
 use Rattle.mode.specs.Mode.{is_tree}
-use Rattle.mode.specs.declared.ModeRead.TheVariants.{Mode}
 use Rattle.mode.specs.declared.EntryMode.{EntryMode}
 use Rattle.mode.proofs.Laws.{eight_decide, read_next}
 use Rattle.rules.specs.Rules.{is_text, modes_of}
@@ -28,6 +27,7 @@ use Rattle.arriving.specs.declared.Phase.TheVariants.{Head, Name, Id}
 use Rattle.arriving.specs.declared.Check.{Check}
 use Rattle.arriving.proofs.Level.{stand_of, stand_more, shared_more, common_none, meet-same}
 use Rattle.arriving.proofs.Steps.{feed-none, feed-more, feed-cut, feed_stopped, marks_of, st, step-head, step_eighth, step-name-body, step_nul, step-name, step-long, step-id-body, step-id, step-last}
+use Rattle.std.specs.Prelude.{Some}
 
 -- ---- the first bytes
 
@@ -221,7 +221,7 @@ module _ (k : ℕ) (ends : List ℕ) (ended h at count : ℕ) (last : Last) (hel
   abbrev pub text_is : Bool
   text_is = is_text (modes_of k) (take (n - 1) (take 8 xs))
 
-  pub mode-run : 8 ≤ length xs → length head ≡ 8 → count < most_records → at + length xs ≤ most_bytes → 8 < h → read_mode xs ≡ Mode m n
+  pub mode-run : 8 ≤ length xs → length head ≡ 8 → count < most_records → at + length xs ≤ most_bytes → 8 < h → read_mode xs ≡ Some (m, n)
       → feed_of (st k ends ended held h at at count last head (Head 0)) xs
       ≡ feed_of (naming k ends ended h at count last (take 8 xs) held text_is (is_tree m.internal) room fits [] (at + n)) (drop n xs)
   unfolding begin stand_of

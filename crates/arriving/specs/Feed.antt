@@ -1,21 +1,15 @@
 -- The strict check fed byte by byte, with one name held: its step, and its answer at the end. Assumes nothing.
-use Rattle.std.specs.Prelude.{ℕ, zero, suc, ◌+◌, ◌-◌, min, Bool, true, false, ◌&&◌, ◌||◌, List, [], ◌∷◌, length, get_or, set, take, drop, replicate, eqb, ltb, leb}
+use Rattle.std.specs.Prelude.{ℕ, zero, suc, ◌+◌, ◌-◌, min, Bool, true, false, ◌&&◌, ◌||◌, List, [], ◌∷◌, length, get_or, set, take, drop, replicate, eqb, ltb, leb, Err, None, Ok, Option, Result, Some, ⊤}
 use Rattle.ground.specs.Basics.{pick}
 use Rattle.ground.specs.Scan.{count_to}
 use Rattle.ground.specs.Verdict.{verdict, broken, fine, counted, refused, most_bytes, most_records}
 use Rattle.ground.specs.declared.Verdict.{Verdict}
 use Rattle.ground.specs.declared.Answer.{Answer}
-use Rattle.ground.specs.declared.Gate.{Gate}
-use Rattle.ground.specs.declared.Gate.TheVariants.{Open, Shut}
 use Rattle.mode.specs.Mode.{is_tree}
 use Rattle.mode.specs.Read.{read_mode}
-use Rattle.mode.specs.declared.ModeRead.{ModeRead}
-use Rattle.mode.specs.declared.ModeRead.TheVariants.{Mode, Bad}
 use Rattle.order.specs.Order.{next}
 use Rattle.entry.specs.Decode.{short_part}
 use Rattle.doubles.specs.Stack.{marks_at, open_of}
-use Rattle.doubles.specs.declared.Placed.{Placed}
-use Rattle.doubles.specs.declared.Placed.TheVariants.{Fine, NotAfter, Double}
 use Rattle.rules.specs.Rules.{or_else, is_text, modes_of, bare_number}
 use Rattle.rules.specs.Gate.{rule_gate}
 use Rattle.arriving.specs.declared.Stand.{Stand}
@@ -26,6 +20,9 @@ use Rattle.arriving.specs.declared.Phase.{Phase}
 use Rattle.arriving.specs.declared.Phase.TheVariants.{Head, Name, Id}
 use Rattle.arriving.specs.declared.Marks.{Marks}
 use Rattle.arriving.specs.declared.Check.{Check}
+use Rattle.doubles.specs.declared.Misplaced.{Misplaced}
+use Rattle.doubles.specs.declared.Misplaced.TheVariants.{Double, NotAfter}
+use Rattle.mode.specs.declared.EntryMode.{EntryMode}
 
 -- the most bytes of a name that is held, and the most names that are open at once
 abbrev pub most_held : ℕ
@@ -142,7 +139,7 @@ abbrev pub leaves_none : Last → Bool
 leaves_none last = last.folder || eqb last.size 0
 
 -- where it stands among the names that are open, and the lengths of those afterwards
-abbrev pub placing : List ℕ → Marks → Line → Placed
+abbrev pub placing : List ℕ → Marks → Line → Result ℕ Misplaced
 placing ends m l = open_of ends m.ended l.shared m.last.size (leaves_none m.last) l.size l.folder
 
 abbrev pub ends_next : List ℕ → Marks → Line → List ℕ
@@ -165,10 +162,10 @@ next_entry m l ended =
     }
 
 -- 17 for a name that was there before
-unfoldable pub placed : Marks → Line → Placed → Marks
-placed m l (Fine n) = next_entry m l n
-placed m l Double = refuse m (verdict 17 m.first)
-placed m l NotAfter = refuse m (verdict 7 m.first)
+unfoldable pub placed : Marks → Line → Result ℕ Misplaced → Marks
+placed m l (Ok n) = next_entry m l n
+placed m l (Err Double) = refuse m (verdict 17 m.first)
+placed m l (Err NotAfter) = refuse m (verdict 7 m.first)
 
 -- an entry is finished, of which the rules say so: refused, or it is placed among the open names
 unfoldable pub closed : List ℕ → Marks → Line → ℕ → Marks
@@ -209,9 +206,9 @@ begun m head mode n =
     (Name (record { written = is_text (modes_of m.rules) (take (n - 1) head); folder = is_tree mode; size = 0; shared = 0; stand = Level }))
 
 -- the mode is decided: the bytes behind it are the name's, and perhaps the id's
-unfoldable pub begin : Check → List ℕ → ModeRead → Check
-begin c head (Mode m n) = bodies (together c.held c.ends (begun c.marks head m.internal n)) (drop n head)
-begin c head Bad = together c.held c.ends (refuse c.marks (broken c.marks.first 1))
+unfoldable pub begin : Check → List ℕ → Option (EntryMode × ℕ) → Check
+begin c head (Some (m, n)) = bodies (together c.held c.ends (begun c.marks head m.internal n)) (drop n head)
+begin c head None = together c.held c.ends (refuse c.marks (broken c.marks.first 1))
 
 -- one of the first eight bytes, of which k are there; 2 where an entry begins after the most entries
 unfoldable pub head_step : Check → ℕ → ℕ → Check
@@ -228,9 +225,9 @@ turn_in c b (Name l) = body c b
 turn_in c b (Id l left) = body c b
 
 -- a byte past the bound: 2, or 3 where what has come of the entry can begin no mode
-abbrev pub over_mode : Marks → ModeRead → Marks
-over_mode m (Mode k n) = refuse m (verdict 2 0)
-over_mode m Bad = refuse m (broken m.first 1)
+abbrev pub over_mode : Marks → Option (EntryMode × ℕ) → Marks
+over_mode m (Some (k, n)) = refuse m (verdict 2 0)
+over_mode m None = refuse m (broken m.first 1)
 
 abbrev pub over_in : Marks → Phase → Marks
 over_in m (Head k) = pick (eqb k 0) (refuse m (verdict 2 0)) (over_mode m (read_mode (take k m.head)))
@@ -252,18 +249,18 @@ feed_of c (b ∷ bs) = feed_of (byte_step c b) bs
 -- ---- the start and the end
 
 -- a call that may begin, and one that may not
-abbrev pub gate_verdict : Gate → Verdict
-gate_verdict Open = fine
-gate_verdict (Shut v) = v
+abbrev pub gate_verdict : Result ⊤ Verdict → Verdict
+gate_verdict (Ok tt) = fine
+gate_verdict (Err v) = v
 
 -- the marks at the start, whatever is held: 1 where the id length is neither of the two, 19 for another rule set
 unfoldable pub start_of : ℕ → ℕ → Marks
 start_of h k = fresh h k (gate_verdict (rule_gate k h 0 0))
 
 -- the part that is missing where some first bytes end: 1 where they are no mode, else 2 or 3 by what follows it
-abbrev pub head_part : List ℕ → ModeRead → ℕ
-head_part b (Mode m n) = short_part (length (drop n b) - count_to 0 (drop n b))
-head_part b Bad = 1
+abbrev pub head_part : List ℕ → Option (EntryMode × ℕ) → ℕ
+head_part b (Some (m, n)) = short_part (length (drop n b) - count_to 0 (drop n b))
+head_part b None = 1
 
 abbrev pub end_in : Marks → Phase → Answer
 end_in m (Head zero) = counted m.count

@@ -6,8 +6,7 @@ ghost use Rattle.bundle.specs.Bundle.{check_of};
 ghost use Rattle.border_bundle.specs.Border.{object_asked, checked_numbers, object_numbers};
 
 use finding::find_object;
-use frame::Placed;
-use ground::{FINE, Gate, NOT_THERE, Verdict, longer, sizes};
+use ground::{FINE, NOT_THERE, Verdict, longer, sizes};
 
 // An object of a bundle: its kind, and where its bytes begin and end; zeros on a refusal.
 #[derive(Clone, Copy)]
@@ -24,14 +23,9 @@ pub fn check_bundle(bytes: &[u8], answer: &mut [usize; 6]) -> usize
     ensures answer_after { answer.new ≡ checked_numbers (check_of bytes.now) }
 {
     let c = bundle::check_bundle(bytes);
-    let number = c.verdict.number;
-    let place = c.verdict.place;
-    let part = c.verdict.part;
-    let h = c.h;
-    let rules = c.rules;
-    let count = c.count;
-    *answer = [number, place, part, h, rules, count];
-    number
+    let v = c.verdict;
+    *answer = [v.number, v.place, v.part, c.h, c.rules, c.count];
+    v.number
 }
 
 // The object of an id: refusals 2, 15.
@@ -39,14 +33,14 @@ pub fn object_of(bytes: &[u8], id: &[u8]) -> Object
     ensures { result ≡ object_asked bytes.now id.now }
 {
     match sizes(longer(bytes.len(), id.len()), 0) {
-        Gate::Shut(v) => Object {
+        Err(v) => Object {
             verdict: v,
             kind: 0,
             start: 0,
             end: 0,
         },
-        Gate::Open => match find_object(bytes, id) {
-            Placed::Absent => Object {
+        Ok(()) => match find_object(bytes, id) {
+            None => Object {
                 verdict: Verdict {
                     number: NOT_THERE,
                     ..FINE
@@ -55,7 +49,7 @@ pub fn object_of(bytes: &[u8], id: &[u8]) -> Object
                 start: 0,
                 end: 0,
             },
-            Placed::At(f) => Object {
+            Some(f) => Object {
                 verdict: FINE,
                 kind: f.kind,
                 start: f.start,
@@ -71,12 +65,7 @@ pub fn bundle_object(bytes: &[u8], id: &[u8], answer: &mut [usize; 6]) -> usize
     ensures answer_after { answer.new ≡ object_numbers (object_asked bytes.now id.now) }
 {
     let o = object_of(bytes, id);
-    let number = o.verdict.number;
-    let place = o.verdict.place;
-    let part = o.verdict.part;
-    let kind = o.kind;
-    let start = o.start;
-    let end = o.end;
-    *answer = [number, place, part, kind, start, end];
-    number
+    let v = o.verdict;
+    *answer = [v.number, v.place, v.part, o.kind, o.start, o.end];
+    v.number
 }

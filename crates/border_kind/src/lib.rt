@@ -15,8 +15,7 @@ pub fn mode_kind(mode: u16) -> u16
     ensures { result ≡ (written_of (kind_of mode)).mode }
 {
     let m = EntryMode { internal: mode };
-    let row = written_of(m.kind());
-    row.mode
+    written_of(m.kind()).mode
 }
 
 // The seven questions to a mode.

@@ -14,22 +14,17 @@ use lookup::Looked;
 pub fn name_order(a: &[u8], atree: bool, b: &[u8], btree: bool) -> i8
     ensures { result ≡ order_number (name_order a.now atree b.now btree) }
 {
-    let o = order::name_order(a, atree, b, btree);
-    o.number()
+    order::name_order(a, atree, b, btree).number()
 }
 
-// Hands over the answer of a lookup, and returns its number.
+// Hands over the answer of a lookup, and returns its number. Not `border::hand`: C lends five numbers here (include/sarpukten.h).
 fn hand_looked(l: Looked, answer: &mut [usize; 5]) -> usize
     ensures value { result ≡ l.verdict.number }
     ensures answer_after { answer.new ≡ looked_numbers l }
 {
-    let number = l.verdict.number;
-    let place = l.verdict.place;
-    let part = l.verdict.part;
-    let index = l.index;
-    let compared = l.compared;
-    *answer = [number, place, part, index, compared];
-    number
+    let v = l.verdict;
+    *answer = [v.number, v.place, v.part, l.index, l.compared];
+    v.number
 }
 
 // The lookup of a name among lent records.

@@ -18,11 +18,7 @@ pub fn mend_tree(
     ensures out_after { out.new ≡ mend_output h bytes.now fates.old out.old }
 {
     let a = mend::mend_tree(bytes, h, fates, out);
-    let number = a.verdict.number;
-    let place = a.verdict.place;
-    let part = a.verdict.part;
-    let count = a.count;
-    let entries = a.entries;
-    *answer = [number, place, part, count, entries];
-    number
+    let v = a.verdict;
+    *answer = [v.number, v.place, v.part, a.count, a.entries];
+    v.number
 }

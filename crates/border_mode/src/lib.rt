@@ -9,18 +9,14 @@ ghost use Rattle.border_mode.specs.Border.{mode_numbers};
 pub use border_kind::{mode_ask, mode_kind, mode_text, mode_word};
 use mode::{EntryMode, ModeAnswer};
 
-// Hands over a mode's answer, and returns its number.
+// Hands over a mode's answer, and returns its number. Not `border::hand`: the fourth number is another field of another answer.
 fn hand_mode(a: ModeAnswer, answer: &mut [usize; 4]) -> usize
     ensures value { result ≡ a.verdict.number }
     ensures answer_after { answer.new ≡ mode_numbers a }
 {
-    *answer = [
-        a.verdict.number,
-        a.verdict.place,
-        a.verdict.part,
-        a.mode.internal as usize,
-    ];
-    a.verdict.number
+    let v = a.verdict;
+    *answer = [v.number, v.place, v.part, a.mode.internal as usize];
+    v.number
 }
 
 // A mode text that stands alone.

@@ -18,13 +18,9 @@ pub fn follow_path(
     ensures id_after { id.new ≡ (follow bytes.now root.now way.now).id }
 {
     let r = path::follow_path(bytes, root, way);
-    let number = r.verdict.number;
-    let place = r.verdict.place;
-    let part = r.verdict.part;
-    let mode = r.mode;
-    let size = r.size;
-    *answer = [number, place, part, mode, size];
+    let v = r.verdict;
+    *answer = [v.number, v.place, v.part, r.mode, r.size];
     let found = r.id;
     *id = found;
-    number
+    v.number
 }

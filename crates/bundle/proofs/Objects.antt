@@ -11,13 +11,10 @@ use Rattle.ground.specs.Verdict.{verdict}
 use Rattle.frame.specs.Frame.{head_of, Frames, done, fault, frame, frames_by, frames_in, whole}
 use Rattle.frame.specs.Place.{id_in, first_of, place_by, place_of}
 use Rattle.frame.specs.declared.Header.{Header}
-use Rattle.frame.specs.declared.Head.{Head}
-use Rattle.frame.specs.declared.Head.TheVariants.{Good, Bad}
-use Rattle.frame.specs.declared.Placed.{Placed}
-use Rattle.frame.specs.declared.Placed.TheVariants.{At, Absent}
 use Rattle.twice.specs.Ids.{ids_in, repeats}
 use Rattle.bundle.specs.Bundle.{Object, object_of, good, bad, bundle_by, bundle_of, ids_of, Sought, present, absent, object_with, open_by}
-use Rattle.bundle.specs.declared.Opening.TheVariants.{Open, Shut}
+use Rattle.frame.specs.declared.Frame.{Frame}
+use Rattle.std.specs.Prelude.{Err, None, Ok, Option, Some}
 
 -- the ids of the objects
 pub ids-of : (h : ℕ) (s : List ℕ) (l : Frames) → ids_of (map (object_of h s) (frames_in l)) ≡ ids_in h s l
@@ -27,9 +24,9 @@ ids-of h s fault = refl
 ids-of h s (frame f l) = ap (λ (r : List (List ℕ)). id_in h s f ∷ r) (ids-of h s l)
 
 -- the object that stands at a place
-unfoldable pub standing : ℕ → List ℕ → Placed → Sought
-standing h s (At f) = present (object_of h s f)
-standing h s Absent = absent
+unfoldable pub standing : ℕ → List ℕ → Option Frame → Sought
+standing h s (Some f) = present (object_of h s f)
+standing h s None = absent
 
 -- the first object of an id, by its place
 pub first-object : (h : ℕ) (s id : List ℕ) (l : Frames) → standing h s (first_of h s id l) ≡ object_with id (map (object_of h s) (frames_in l))
@@ -39,7 +36,7 @@ first-object h s id fault = refl
 first-object h s id (frame f l) = go (first-object h s id l) (same_bytes (id_in h s f) id)
   where
     go : standing h s (first_of h s id l) ≡ object_with id (map (object_of h s) (frames_in l)) → (v : Bool)
-        → standing h s (pick v (At f) (first_of h s id l)) ≡ pick v (present (object_of h s f)) (object_with id (map (object_of h s) (frames_in l)))
+        → standing h s (pick v (Some f) (first_of h s id l)) ≡ pick v (present (object_of h s f)) (object_with id (map (object_of h s) (frames_in l)))
     go ih true = refl
     go ih false = ih
 
@@ -56,18 +53,18 @@ place-object s id h os e = go (head_of s) e
         ap (λ (n : ℕ). standing n s (first_of k.h s id (frames_by s k))) (sym a) ∙ first-object k.h s id (frames_by s k) ∙ ap (object_with id) b
     made k false e = let z : ◌≡◌ {A = ℕ} 0 1 = cc in absurd (omega arith)
 
-    go : (d : Head) → bundle_by s d ≡ good h os → standing h s (place_by s id d) ≡ object_with id os
-    go (Good k) e = made k (whole (frames_by s k)) e
-    go Bad e = let z : ◌≡◌ {A = ℕ} 0 1 = cc in absurd (omega arith)
+    go : (d : Option Header) → bundle_by s d ≡ good h os → standing h s (place_by s id d) ≡ object_with id os
+    go (Some k) e = made k (whole (frames_by s k)) e
+    go None e = let z : ◌≡◌ {A = ℕ} 0 1 = cc in absurd (omega arith)
 
 -- a bundle that was opened has the header that was read
-pub open_head : (s : List ℕ) (n : ℕ) (d : Head) (k : Header) → open_by s n d ≡ Open k → d ≡ Good k
+pub open_head : (s : List ℕ) (n : ℕ) (d : Option Header) (k : Header) → open_by s n d ≡ Ok k → d ≡ Some k
 unfolding open_by
-open_head s n (Good j) k e = go (eqb n j.h) (whole (frames_by s j)) (repeats (ids_in j.h s (frames_by s j))) e
+open_head s n (Some j) k e = go (eqb n j.h) (whole (frames_by s j)) (repeats (ids_in j.h s (frames_by s j))) e
   where
-    go : (a b c : Bool) → pick a (pick b (pick c (Shut (verdict 25 0)) (Open j)) (Shut (verdict 24 0))) (Shut (verdict 24 0)) ≡ Open k → Good j ≡ Good k
+    go : (a b c : Bool) → pick a (pick b (pick c (Err (verdict 25 0)) (Ok j)) (Err (verdict 24 0))) (Err (verdict 24 0)) ≡ Ok k → Some j ≡ Some k
     go true true true e = let z : ◌≡◌ {A = ℕ} 0 1 = cc in absurd (omega arith)
-    go true true false e = let r : j ≡ k = cc in ap (λ (x : Header). Good x) r
+    go true true false e = let r : j ≡ k = cc in ap (λ (x : Header). Some x) r
     go true false c e = let z : ◌≡◌ {A = ℕ} 0 1 = cc in absurd (omega arith)
     go false b c e = let z : ◌≡◌ {A = ℕ} 0 1 = cc in absurd (omega arith)
-open_head s n Bad k e = let z : ◌≡◌ {A = ℕ} 0 1 = cc in absurd (omega arith)
+open_head s n None k e = let z : ◌≡◌ {A = ℕ} 0 1 = cc in absurd (omega arith)

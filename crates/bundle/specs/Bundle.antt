@@ -1,19 +1,15 @@
 -- A bundle as a list of objects, and how one is opened: refusals 24 and 25 (docs/FORMAT.md, "Bundles"). Assumes nothing.
-use Rattle.std.specs.Prelude.{ℕ, List, [], ◌∷◌, map, eqb, length}
+use Rattle.std.specs.Prelude.{ℕ, List, [], ◌∷◌, map, eqb, length, Err, None, Ok, Option, Result, Some, ⊤}
 use Rattle.ground.specs.Basics.{pick, part}
 use Rattle.ground.specs.Scan.{same_bytes}
 use Rattle.ground.specs.Verdict.{verdict, fine, size_gate}
-use Rattle.ground.specs.declared.Gate.{Gate}
-use Rattle.ground.specs.declared.Gate.TheVariants as gate
 use Rattle.frame.specs.Frame.{head_of, frames_by, frames_in, whole}
 use Rattle.frame.specs.Place.{id_in}
-use Rattle.frame.specs.declared.Head.{Head}
-use Rattle.frame.specs.declared.Head.TheVariants.{Good, Bad}
 use Rattle.frame.specs.declared.Frame.{Frame}
 use Rattle.twice.specs.Ids.{ids_in, repeats}
-use Rattle.bundle.specs.declared.Opening.{Opening}
-use Rattle.bundle.specs.declared.Opening.TheVariants.{Open, Shut}
 use Rattle.bundle.specs.declared.Checked.{Checked}
+use Rattle.frame.specs.declared.Header.{Header}
+use Rattle.ground.specs.declared.Verdict.{Verdict}
 
 -- an object: its id, its kind (1 commit, 2 tree, 3 blob, 4 tag), its bytes
 pub record Object : Type 0 where
@@ -31,9 +27,9 @@ pub data Bundle : Type 0 where
   bad : Bundle
 
 -- the objects that a header speaks of, where nothing is wrong with them
-unfoldable pub bundle_by : List ℕ → Head → Bundle
-bundle_by s (Good k) = pick (whole (frames_by s k)) (good k.h (map (object_of k.h s) (frames_in (frames_by s k)))) bad
-bundle_by s Bad = bad
+unfoldable pub bundle_by : List ℕ → Option Header → Bundle
+bundle_by s (Some k) = pick (whole (frames_by s k)) (good k.h (map (object_of k.h s) (frames_in (frames_by s k)))) bad
+bundle_by s None = bad
 
 -- what some bytes are as a bundle
 abbrev pub bundle_of : List ℕ → Bundle
@@ -54,32 +50,32 @@ object_with id [] = absent
 object_with id (o ∷ os) = pick (same_bytes o.id id) (present o) (object_with id os)
 
 -- how a bundle is opened for root ids of n bytes: 24 where it is not well framed or has another H, then 25 where an id stands twice
-unfoldable pub open_by : List ℕ → ℕ → Head → Opening
-open_by s n (Good k) =
+unfoldable pub open_by : List ℕ → ℕ → Option Header → Result Header Verdict
+open_by s n (Some k) =
     pick (eqb n k.h)
-    (pick (whole (frames_by s k)) (pick (repeats (ids_in k.h s (frames_by s k))) (Shut (verdict 25 0)) (Open k)) (Shut (verdict 24 0)))
-    (Shut (verdict 24 0))
-open_by s n Bad = Shut (verdict 24 0)
+    (pick (whole (frames_by s k)) (pick (repeats (ids_in k.h s (frames_by s k))) (Err (verdict 25 0)) (Ok k)) (Err (verdict 24 0)))
+    (Err (verdict 24 0))
+open_by s n None = Err (verdict 24 0)
 
 -- 2, then the rest
-unfoldable pub open_from : List ℕ → ℕ → Gate → Opening
-open_from s n (gate.Shut v) = Shut v
-open_from s n gate.Open = open_by s n (head_of s)
+unfoldable pub open_from : List ℕ → ℕ → Result ⊤ Verdict → Result Header Verdict
+open_from s n (Err v) = Err v
+open_from s n (Ok tt) = open_by s n (head_of s)
 
-abbrev pub open_of : List ℕ → ℕ → Opening
+abbrev pub open_of : List ℕ → ℕ → Result Header Verdict
 open_of s n = open_from s n (size_gate (length s) 0)
 
 -- ---- a bundle checked by itself
 
 -- the id length that a header says
-abbrev pub own_length : Head → ℕ
-own_length (Good k) = k.h
-own_length Bad = 0
+abbrev pub own_length : Option Header → ℕ
+own_length (Some k) = k.h
+own_length None = 0
 
 -- what an opening says to a caller
-unfoldable pub told : Opening → Checked
-told (Open k) = record { verdict = fine; h = k.h; rules = k.rules; count = k.count }
-told (Shut v) = record { verdict = v; h = 0; rules = 0; count = 0 }
+unfoldable pub told : Result Header Verdict → Checked
+told (Ok k) = record { verdict = fine; h = k.h; rules = k.rules; count = k.count }
+told (Err v) = record { verdict = v; h = 0; rules = 0; count = 0 }
 
 -- a bundle is checked as it is opened for ids of its own length
 abbrev pub check_of : List ℕ → Checked

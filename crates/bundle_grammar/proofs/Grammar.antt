@@ -18,12 +18,10 @@ use Rattle.ground.proofs.Laws.{and_left, and_right, same_true, id-is}
 use Rattle.frame.specs.Frame.{little, fields_at, by_rules, by_version, head_of, size_of, is_frame, frame_of, frame_at, done, fault, onward, frames, frames_by, frames_in, whole}
 use Rattle.frame.specs.Place.{id_in}
 use Rattle.frame.specs.declared.Header.{Header}
-use Rattle.frame.specs.declared.Head.{Head}
-use Rattle.frame.specs.declared.Head.TheVariants.{Good, Bad}
-use Rattle.frame.specs.declared.Framed.TheVariants.{Whole, Broken}
 use Rattle.frame.proofs.Laws.{fields-good, head-one}
 use Rattle.bundle.specs.Bundle.{Object, object_of, good, bad, bundle_by, bundle_of}
 use Rattle.bundle_grammar.specs.Grammar.{as_little, object_bytes, objects_bytes, Version, first, second, version_bytes, rules_of, begins_at, bundle_bytes, IsObject, IsBundle, AreBytes, Joined}
+use Rattle.std.specs.Prelude.{None, Option, Some}
 
 -- ---- numbers
 
@@ -165,7 +163,7 @@ unfolding as_little
 two_of r p = omega arith
 
 head_read : (v : Version) (h : ℕ) (os : List Object) → (rules_of v ≡ 1) ⊎ (rules_of v ≡ 2) → (h ≡ 20) ⊎ (h ≡ 32) → length os ≤ most_records
-    → head_of (bundle_bytes v h os) ≡ Good (record { h = h; rules = rules_of v; count = length os; from = begins_at v })
+    → head_of (bundle_bytes v h os) ≡ Some (record { h = h; rules = rules_of v; count = length os; from = begins_at v })
 unfolding bundle_bytes version_bytes as_little
 head_read first h os t i few =
     head-one (bundle_bytes first h os) refl 1 refl refl
@@ -175,7 +173,7 @@ head_read (second r) h os t i few =
     ∙ fields-good r 7 (bundle_bytes (second r) h os) (bundle_front (second r) h os).0 h (length os) refl (sym (little_of (length os) (omega arith))) i few
 
 written_head : (v : Version) (h : ℕ) (os : List Object) (s : List ℕ) → IsBundle v h os s
-    → head_of s ≡ Good (record { h = h; rules = rules_of v; count = length os; from = begins_at v })
+    → head_of s ≡ Some (record { h = h; rules = rules_of v; count = length os; from = begins_at v })
 written_head v h os s b = ap head_of b.laid ∙ head_read v h os b.set b.length_of_ids b.few
 
 written_read : (v : Version) (h : ℕ) (os : List Object) (s : List ℕ) → IsBundle v h os s → bundle_of s ≡ good h os
@@ -293,8 +291,8 @@ frames_back h s zero at y w = go (eqb at (length s)) refl w
 frames_back h s (suc n) at y w = go (λ (b : ℕ) q. frames_back h s n b y q) (is_frame h (drop at s)) refl w
   where
     go : ((b : ℕ) → whole (frames h s n b) ≡ true → Back h s b n (map (object_of h s) (frames_in (frames h s n b)))) → (v : Bool) → is_frame h (drop at s) ≡ v
-        → whole (onward (frames h s n) (pick v (Whole (frame_of h at (drop at s))) Broken)) ≡ true
-        → Back h s at (suc n) (map (object_of h s) (frames_in (onward (frames h s n) (pick v (Whole (frame_of h at (drop at s))) Broken))))
+        → whole (onward (frames h s n) (pick v (Some (frame_of h at (drop at s))) None)) ≡ true
+        → Back h s at (suc n) (map (object_of h s) (frames_in (onward (frames h s n) (pick v (Some (frame_of h at (drop at s))) None))))
     go ih true p w =
         let r = ih (at + (h + 5 + size_of h (drop at s))) w in
         let o : Object = object_of h s (frame_of h at (drop at s)) in
@@ -327,12 +325,12 @@ record Fields (rules at : ℕ) (s : List ℕ) (k : Header) : Type 0 where
   begins : k.from ≡ at + 5
   laid : drop at s ≡ k.h ∷ (as_little 4 k.count ++ drop (at + 5) s)
 
-fields_back : (rules at : ℕ) (s : List ℕ) (k : Header) → AreBytes s → fields_at rules at s ≡ Good k → Fields rules at s k
+fields_back : (rules at : ℕ) (s : List ℕ) (k : Header) → AreBytes s → fields_at rules at s ≡ Some k → Fields rules at s k
 unfolding fields_at
 fields_back rules at s k y e = go (leb (at + 5) (length s) && (id_length (get_or s at 0) && leb (little (take 4 (drop (at + 1) s))) most_records)) refl e
   where
     go : (v : Bool) → (leb (at + 5) (length s) && (id_length (get_or s at 0) && leb (little (take 4 (drop (at + 1) s))) most_records)) ≡ v
-        → pick v (Good (record { h = get_or s at 0; rules = rules; count = little (take 4 (drop (at + 1) s)); from = at + 5 })) Bad ≡ Good k → Fields rules at s k
+        → pick v (Some (record { h = get_or s at 0; rules = rules; count = little (take 4 (drop (at + 1) s)); from = at + 5 })) None ≡ Some k → Fields rules at s k
     go true p e =
         let r : ◌≡◌ {A = Header} (record { h = get_or s at 0; rules = rules; count = little (take 4 (drop (at + 1) s)); from = at + 5 }) k = cc in
         let l = leb-true (at + 5) (length s) (and_left (leb (at + 5) (length s)) _ p) in
@@ -374,7 +372,7 @@ module _ (s : List ℕ) (k : Header) (y : AreBytes s) (g : same_bytes (take 3 s)
       ∙ join (sym (as_two (take 2 (drop i s)) (length-take-le 2 (drop i s) (omega (arith, length-drop i s))) (take-bytes 2 (drop i s) (drop-bytes i s y))) ∙ ap (as_little 2) e)
       (drop-drop 2 i s)
 
-  headed_first : little (take 2 (drop 3 s)) ≡ 1 → fields_at 2 5 s ≡ Good k → Headed first s k
+  headed_first : little (take 2 (drop 3 s)) ≡ 1 → fields_at 2 5 s ≡ Some k → Headed first s k
   unfolding version_bytes
   headed_first w e =
       let f = fields_back 2 5 s k y e in
@@ -387,7 +385,7 @@ module _ (s : List ℕ) (k : Header) (y : AreBytes s) (g : same_bytes (take 3 s)
             ∙ ap (λ (j : ℕ). k.h ∷ (as_little 4 k.count ++ drop j s)) (sym f.begins)));
       }
 
-  headed_second : little (take 2 (drop 3 s)) ≡ 2 → is_set (little (take 2 (drop 5 s))) ≡ true → fields_at (little (take 2 (drop 5 s))) 7 s ≡ Good k
+  headed_second : little (take 2 (drop 3 s)) ≡ 2 → is_set (little (take 2 (drop 5 s))) ≡ true → fields_at (little (take 2 (drop 5 s))) 7 s ≡ Some k
       → Headed (second (little (take 2 (drop 5 s)))) s k
   unfolding version_bytes
   headed_second w t e =
@@ -404,17 +402,17 @@ module _ (s : List ℕ) (k : Header) (y : AreBytes s) (g : same_bytes (take 3 s)
             ∙ sym (append_assoc (as_little 2 2) (as_little 2 r) _));
       }
 
-head_back : (s : List ℕ) (k : Header) → AreBytes s → head_of s ≡ Good k → (v : Version) × Headed v s k
+head_back : (s : List ℕ) (k : Header) → AreBytes s → head_of s ≡ Some k → (v : Version) × Headed v s k
 unfolding head_of by_version by_rules
 head_back s k y e =
     go (same_bytes (take 3 s) (ascii "GOB")) refl (eqb (little (take 2 (drop 3 s))) 1) refl (eqb (little (take 2 (drop 3 s))) 2) refl (is_set (little (take 2 (drop 5 s)))) refl e
   where
-    none : Bad ≡ Good k → (v : Version) × Headed v s k
+    none : None ≡ Some k → (v : Version) × Headed v s k
     none e = let z : ◌≡◌ {A = ℕ} 0 1 = cc in absurd (omega arith)
 
     go : (a : Bool) → same_bytes (take 3 s) (ascii "GOB") ≡ a → (b : Bool) → eqb (little (take 2 (drop 3 s))) 1 ≡ b → (c : Bool) → eqb (little (take 2 (drop 3 s))) 2 ≡ c
         → (d : Bool) → is_set (little (take 2 (drop 5 s))) ≡ d
-        → pick a (pick b (fields_at 2 5 s) (pick c (pick d (fields_at (little (take 2 (drop 5 s))) 7 s) Bad) Bad)) Bad ≡ Good k → (v : Version) × Headed v s k
+        → pick a (pick b (fields_at 2 5 s) (pick c (pick d (fields_at (little (take 2 (drop 5 s))) 7 s) None) None)) None ≡ Some k → (v : Version) × Headed v s k
     go true g true p c q d r e = (first, headed_first s k y g (eqb-true (little (take 2 (drop 3 s))) 1 p) e)
     go true g false p true q true r e = (second (little (take 2 (drop 5 s))), headed_second s k y g (eqb-true (little (take 2 (drop 3 s))) 2 q) r e)
     go true g false p true q false r e = none e
@@ -441,7 +439,7 @@ read_written : (h : ℕ) (os : List Object) (s : List ℕ) → AreBytes s → bu
 unfolding bundle_by
 read_written h os s y e = go (head_of s) refl e
   where
-    all : (k : Header) → head_of s ≡ Good k → (v : Bool) → whole (frames_by s k) ≡ v
+    all : (k : Header) → head_of s ≡ Some k → (v : Bool) → whole (frames_by s k) ≡ v
         → pick v (good k.h (map (object_of k.h s) (frames_in (frames_by s k)))) bad ≡ good h os → (v : Version) × IsBundle v h os s
     all k p true w e =
         let b = frames_back k.h s k.count k.from y w in
@@ -451,9 +449,9 @@ read_written h os s y e = go (head_of s) refl e
         (d.0, rw (← eh, ← eo) (made_back s k d.0 d.1 (map (object_of k.h s) (frames_in (frames_by s k))) b))
     all k p false w e = let z : ◌≡◌ {A = ℕ} 0 1 = cc in absurd (omega arith)
 
-    go : (d : Head) → head_of s ≡ d → bundle_by s d ≡ good h os → (v : Version) × IsBundle v h os s
-    go (Good k) p e = all k p (whole (frames_by s k)) refl e
-    go Bad p e = let z : ◌≡◌ {A = ℕ} 0 1 = cc in absurd (omega arith)
+    go : (d : Option Header) → head_of s ≡ d → bundle_by s d ≡ good h os → (v : Version) × IsBundle v h os s
+    go (Some k) p e = all k p (whole (frames_by s k)) refl e
+    go None p e = let z : ◌≡◌ {A = ℕ} 0 1 = cc in absurd (omega arith)
 
 pub joined : Joined
 joined = record { written_read = written_read; written_head = written_head; read_written = read_written }

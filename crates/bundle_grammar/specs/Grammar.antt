@@ -1,10 +1,9 @@
 -- The form of a bundle as a grammar: what a packer writes (docs/FORMAT.md, "Bundles"). `proofs/Grammar.antt` joins it to the reading. Assumes nothing.
-use Rattle.std.specs.Prelude.{ℕ, zero, suc, ◌<◌, ◌≤◌, ◌/◌, ◌%◌, ◌≡◌, ◌⊎◌, length, get_or}
+use Rattle.std.specs.Prelude.{ℕ, zero, suc, ◌<◌, ◌≤◌, ◌/◌, ◌%◌, ◌≡◌, ◌⊎◌, length, get_or, Some}
 use mathlib.Core.List.{List, [], ◌∷◌, ◌++◌, Memᴰ}
 use Rattle.ground.specs.Basics.{ascii}
 use Rattle.ground.specs.Verdict.{most_records}
 use Rattle.frame.specs.Frame.{head_of}
-use Rattle.frame.specs.declared.Head.TheVariants.{Good}
 use Rattle.bundle.specs.Bundle.{Object, good, bundle_of}
 
 -- a number as so many bytes, the lowest first
@@ -67,6 +66,6 @@ pub record Joined : Type 0 where
   pub written_read : (v : Version) (h : ℕ) (os : List Object) (s : List ℕ) → IsBundle v h os s → bundle_of s ≡ good h os
   -- with its rule set
   pub written_head : (v : Version) (h : ℕ) (os : List Object) (s : List ℕ) → IsBundle v h os s
-      → head_of s ≡ Good (record { h = h; rules = rules_of v; count = length os; from = begins_at v })
+      → head_of s ≡ Some (record { h = h; rules = rules_of v; count = length os; from = begins_at v })
   -- bytes that are read as a bundle of objects are that bundle, as written in one of the two versions
   pub read_written : (h : ℕ) (os : List Object) (s : List ℕ) → AreBytes s → bundle_of s ≡ good h os → (v : Version) × IsBundle v h os s

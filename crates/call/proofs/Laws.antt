@@ -9,13 +9,12 @@ use Rattle.ground.specs.Basics.{pick}
 use Rattle.ground.specs.Verdict.{verdict, fine, counted, refused, most_bytes, most_records, id_length, size_gate, gate_of}
 use Rattle.ground.specs.declared.Verdict.{Verdict}
 use Rattle.ground.specs.declared.Answer.{Answer}
-use Rattle.ground.specs.declared.Gate.{Gate}
-use Rattle.ground.specs.declared.Gate.TheVariants.{Open, Shut}
 use Rattle.ground.proofs.Laws.{and_left, and_right}
 use Rattle.output.specs.Output.{fitted}
 use Rattle.call.specs.Call.{Call, Input, Outcome, Answered, Meets, TakesAll, OneAnswer, Deed, Said, among, listed, nothing, Refusal, Fits, Keeps, HandsOn}
 use Rattle.call.specs.Deeds.{of_verdict, of_answer, reads, stores, writes, hands}
 use Rattle.call.specs.Places.{Below, Over, at_record}
+use Rattle.std.specs.Prelude.{Err, Ok, Result, ⊤}
 
 -- two that are the same as a third
 pub same : {A : Type 0} {x y z : A} → x ≡ z → y ≡ z → x ≡ y
@@ -183,15 +182,15 @@ each_passed Q v n count refuses = go (eqb v.number 0) refl
     go false q = refuses (eqb-false v.number 0 q)
 
 -- open, 2
-pub each-size : (Q : Gate → Type 0) → Q Open → Q (Shut (verdict 2 0)) → (bytes records : ℕ) → Q (size_gate bytes records)
+pub each-size : (Q : Result ⊤ Verdict → Type 0) → Q (Ok tt) → Q (Err (verdict 2 0)) → (bytes records : ℕ) → Q (size_gate bytes records)
 unfolding size_gate
-each-size Q begun two bytes records = each-pick Q (leb bytes most_bytes && leb records most_records) Open (Shut (verdict 2 0)) begun two
+each-size Q begun two bytes records = each-pick Q (leb bytes most_bytes && leb records most_records) (Ok tt) (Err (verdict 2 0)) begun two
 
 -- open, 1, 2
-pub each_gate : (Q : Gate → Type 0) → Q Open → Q (Shut (verdict 1 0)) → Q (Shut (verdict 2 0)) → (h bytes records : ℕ) → Q (gate_of h bytes records)
+pub each_gate : (Q : Result ⊤ Verdict → Type 0) → Q (Ok tt) → Q (Err (verdict 1 0)) → Q (Err (verdict 2 0)) → (h bytes records : ℕ) → Q (gate_of h bytes records)
 unfolding gate_of
 each_gate Q begun one two h bytes records =
-    each-pick Q (id_length h) (size_gate bytes records) (Shut (verdict 1 0)) (each-size Q begun two bytes records) one
+    each-pick Q (id_length h) (size_gate bytes records) (Err (verdict 1 0)) (each-size Q begun two bytes records) one
 
 -- as it was, 8 with more than the room: an answer that is held to the room that is lent
 pub each-fitted : (Q : Answer → Type 0) (room : ℕ) (a : Answer) → Q a → ((n : ℕ) → room < n → Q (refused (verdict 8 n))) → Q (fitted room a)

@@ -1,9 +1,8 @@
 -- What an answer says, and the calls by what they are lent. Assumes nothing.
-use Rattle.std.specs.Prelude.{ℕ, List, [], ◌∷◌}
+use Rattle.std.specs.Prelude.{ℕ, List, [], ◌∷◌, Result, ⊤}
 use Rattle.ground.specs.Verdict.{fine, gate_verdict}
 use Rattle.ground.specs.declared.Verdict.{Verdict}
 use Rattle.ground.specs.declared.Answer.{Answer}
-use Rattle.ground.specs.declared.Gate.{Gate}
 use Rattle.call.specs.Call.{Call, Input, Outcome, Answered, Said, Deed}
 
 abbrev pub of_verdict : Verdict → Said
@@ -12,7 +11,7 @@ of_verdict v = record { verdict = v; counts = [] }
 abbrev pub of_answer : Answer → Said
 of_answer a = record { verdict = a.verdict; counts = a.count ∷ [] }
 
-abbrev pub of_gate : Gate → Said
+abbrev pub of_gate : Result ⊤ Verdict → Said
 of_gate g = of_verdict (gate_verdict g)
 
 -- a call that is lent nothing to write

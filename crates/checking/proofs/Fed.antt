@@ -15,13 +15,9 @@ use Rattle.ground.specs.Scan.{count_to, common_start}
 use Rattle.ground.specs.Verdict.{verdict, broken, fine, refused, most_bytes, most_records, id_length, size_gate, is_set}
 use Rattle.ground.specs.declared.Verdict.{Verdict}
 use Rattle.ground.specs.declared.Answer.{Answer}
-use Rattle.ground.specs.declared.Gate.{Gate}
-use Rattle.ground.specs.declared.Gate.TheVariants.{Open, Shut}
 use Rattle.ground.proofs.Laws.{sets_front, count-le, count-is, free-count, id-is, id_small}
 use Rattle.mode.specs.Read.{read_mode}
 use Rattle.mode.specs.Mode.{is_tree}
-use Rattle.mode.specs.declared.ModeRead.{ModeRead}
-use Rattle.mode.specs.declared.ModeRead.TheVariants.{Mode, Bad}
 use Rattle.mode.specs.declared.EntryMode.{EntryMode}
 use Rattle.mode.proofs.Laws.{eight_decide, read_next}
 use Rattle.entry.specs.Record.{name_of}
@@ -35,8 +31,6 @@ use Rattle.strict.specs.Strict.{text_of, cut}
 use Rattle.strict.proofs.Laws.{cut-bad, cut-fine, strict-refuses}
 use Rattle.doubles.specs.Doubles.{named_before}
 use Rattle.doubles.specs.Stack.{marks_at}
-use Rattle.doubles.specs.declared.Placed.{Placed}
-use Rattle.doubles.specs.declared.Placed.TheVariants.{Fine, Double}
 use Rattle.doubles.proofs.Theorem.{Ascends}
 use Rattle.doubles.proofs.Placing.{Tracks, tracks-none}
 use Rattle.arriving.specs.Feed.{most_held, most_ends, together, refuse, judged, ends_next, placing, placed, closed, closed_ends, begin, over_mode, over_in, feed_of, fresh, start_of, gate_verdict, head_part, end_in, end_of}
@@ -50,6 +44,9 @@ use Rattle.arriving.specs.declared.Check.{Check}
 use Rattle.arriving.proofs.Steps.{feed-none, feed-more, feed-cut, feed_stopped, finish_stopped, marks_of, st, finish_in, step-over, step_full, step_nul}
 use Rattle.arriving.proofs.Runs.{heads-run, eighth_run, ids_run, ids_all, names-run, names-long, line_of, naming, mode-run}
 use Rattle.arriving.proofs.Judged.{Holds, holds_fits, name-held, judged-is, name-some, goes_up, Stands, stands}
+use Rattle.doubles.specs.declared.Misplaced.{Misplaced}
+use Rattle.doubles.specs.declared.Misplaced.TheVariants.{Double}
+use Rattle.std.specs.Prelude.{Err, None, Ok, Option, Result, Some, ⊤}
 
 -- ---- where the bytes end: the object ends there, or goes on past the bound
 
@@ -60,10 +57,10 @@ Tail true at tail = (at ≡ most_bytes) × (0 < length tail)
 over-refuses : (m : Marks) (p : Phase) → (over_in m p).verdict.number ≡ 0 → ⊥
 over-refuses m (Head k) z = go (eqb k 0) (read_mode (take k m.head)) z
   where
-    go : (v : Bool) (r : ModeRead) → (pick v (refuse m (verdict 2 0)) (over_mode m r)).verdict.number ≡ 0 → ⊥
+    go : (v : Bool) (r : Option (EntryMode × ℕ)) → (pick v (refuse m (verdict 2 0)) (over_mode m r)).verdict.number ≡ 0 → ⊥
     go true r z = omega arith
-    go false (Mode k n) z = omega arith
-    go false Bad z = omega arith
+    go false (Some (k, n)) z = omega arith
+    go false None z = omega arith
 over-refuses m (Name l) z = omega arith
 over-refuses m (Id l left) z = omega arith
 
@@ -92,16 +89,16 @@ module _ (rs : ℕ) (ends : List ℕ) (ended h at first count : ℕ) (last : Las
   ending-between true tail t = ending true tail (Head 0) t
 
   -- what the first bytes, fewer than eight, give
-  abbrev head_says : Bool → List ℕ → ModeRead → Verdict
-  head_says more b (Mode m n) = short_at more first (head_part b (Mode m n))
-  head_says more b Bad = broken first 1
+  abbrev head_says : Bool → List ℕ → Option (EntryMode × ℕ) → Verdict
+  head_says more b (Some (m, n)) = short_at more first (head_part b (Some (m, n)))
+  head_says more b None = broken first 1
 
-  ending-head : (more : Bool) (tail : List ℕ) (i : ℕ) (r : ModeRead) → read_mode (take (suc i) head) ≡ r → Tail more at tail
+  ending-head : (more : Bool) (tail : List ℕ) (i : ℕ) (r : Option (EntryMode × ℕ)) → read_mode (take (suc i) head) ≡ r → Tail more at tail
       → end_of (feed_of (st rs ends ended held h at first count last head (Head (suc i))) tail) ≡ refused (head_says more (take (suc i) head) r)
-  ending-head false tail i (Mode m n) q t = ending false tail (Head (suc i)) t ∙ ap (λ (r : ModeRead). refused (broken first (head_part (take (suc i) head) r))) q
-  ending-head false tail i Bad q t = ending false tail (Head (suc i)) t ∙ ap (λ (r : ModeRead). refused (broken first (head_part (take (suc i) head) r))) q
-  ending-head true tail i (Mode m n) q t = ending true tail (Head (suc i)) t ∙ rw (ne_eqb (suc i) 0 (λ z. omega arith), q)
-  ending-head true tail i Bad q t = ending true tail (Head (suc i)) t ∙ rw (ne_eqb (suc i) 0 (λ z. omega arith), q)
+  ending-head false tail i (Some (m, n)) q t = ending false tail (Head (suc i)) t ∙ ap (λ (r : Option (EntryMode × ℕ)). refused (broken first (head_part (take (suc i) head) r))) q
+  ending-head false tail i None q t = ending false tail (Head (suc i)) t ∙ ap (λ (r : Option (EntryMode × ℕ)). refused (broken first (head_part (take (suc i) head) r))) q
+  ending-head true tail i (Some (m, n)) q t = ending true tail (Head (suc i)) t ∙ rw (ne_eqb (suc i) 0 (λ z. omega arith), q)
+  ending-head true tail i None q t = ending true tail (Head (suc i)) t ∙ rw (ne_eqb (suc i) 0 (λ z. omega arith), q)
 
 -- the part that is missing where a name has not ended, and where it has
 short-name : (i : ℕ) → i ≡ 0 → short_part i ≡ 2
@@ -134,11 +131,11 @@ module _ (more : Bool) (h cap at : ℕ) (xs : List ℕ) where
     arriving-some : arriving more h (suc cap) at xs ≡ follow (arriving more h cap) at xs (held_mode more h at xs (read_mode xs))
     arriving-some = arriving-more more h cap at xs some
 
-    pub arriving-bad : read_mode xs ≡ Bad → arriving more h (suc cap) at xs ≡ stop (broken at 1)
+    pub arriving-bad : read_mode xs ≡ None → arriving more h (suc cap) at xs ≡ stop (broken at 1)
     unfolding follow held_mode
     arriving-bad r = arriving-some ∙ rw r
 
-    module _ (m : EntryMode) (n : ℕ) (r : read_mode xs ≡ Mode m n) where
+    module _ (m : EntryMode) (n : ℕ) (r : read_mode xs ≡ Some (m, n)) where
       abbrev pub t· : ℕ
       t· = count_to 0 (drop n xs)
 
@@ -254,30 +251,30 @@ module _ (more : Bool) (rs h : ℕ) (big : 20 ≤ h) (s tail : List ℕ) where
         length-suc e = omega arith
 
         go : (k : ℕ) → feed_of (st rs ends ended held h at at count last head (Head 0)) xs ≡ st rs ends ended held h (at + length xs) at count last (sets head 0 xs) (Head (suc k))
-            → take (suc k) (sets head 0 xs) ≡ xs → (r : ModeRead) → read_mode xs ≡ r → Same
-        go k e p Bad r =
+            → take (suc k) (sets head 0 xs) ≡ xs → (r : Option (EntryMode × ℕ)) → read_mode xs ≡ r → Same
+        go k e p None r =
             ended· _ (broken at 1) e
-            (ending-head rs ends ended h (at + length xs) at count last held (sets head 0 xs) more tail k Bad (ap read_mode p ∙ r) w.tails) (arriving-bad more h cap at xs some r)
-        go k e p (Mode m n) r =
+            (ending-head rs ends ended h (at + length xs) at count last held (sets head 0 xs) more tail k None (ap read_mode p ∙ r) w.tails) (arriving-bad more h cap at xs some r)
+        go k e p (Some (m, n)) r =
             let u = count-le 0 (drop n xs) in
             let v = length-drop n xs in
-            ended· _ (short_at more at (head_part xs (Mode m n))) e
-            (ending-head rs ends ended h (at + length xs) at count last held (sets head 0 xs) more tail k (Mode m n) (ap read_mode p ∙ r) w.tails
-            ∙ ap (λ (b : List ℕ). refused (short_at more at (head_part b (Mode m n)))) p)
+            ended· _ (short_at more at (head_part xs (Some (m, n)))) e
+            (ending-head rs ends ended h (at + length xs) at count last held (sets head 0 xs) more tail k (Some (m, n)) (ap read_mode p ∙ r) w.tails
+            ∙ ap (λ (b : List ℕ). refused (short_at more at (head_part b (Some (m, n))))) p)
             (arriving-short more h cap at xs some m n r (omega arith) (omega arith))
 
     module _ (l : 8 ≤ length xs) where
       -- a mode that cannot be read
-      bad-mode : read_mode xs ≡ Bad → Same
+      bad-mode : read_mode xs ≡ None → Same
       unfolding begin
       bad-mode r =
           let e = eighth_run rs ends ended h at count last held xs head at l w.eight (omega arith) (omega (arith, w.within)) in
           let c : Check = together held ends (refuse (marks_of rs ended h (at + 7) at count last (sets head 0 (take 7 xs)) (Head 7)) (broken at 1)) in
           stopped c (broken at 1)
-          (e ∙ ap (λ (m : ModeRead). feed_of (begin (st rs ends ended held h (at + 7) at count last (sets head 0 (take 7 xs)) (Head 7)) (take 8 xs) m) (drop 8 xs)) r ∙ feed_stopped c (drop 8 xs) (λ z. omega arith))
+          (e ∙ ap (λ (m : Option (EntryMode × ℕ)). feed_of (begin (st rs ends ended held h (at + 7) at count last (sets head 0 (take 7 xs)) (Head 7)) (take 8 xs) m) (drop 8 xs)) r ∙ feed_stopped c (drop 8 xs) (λ z. omega arith))
           refl (λ z. omega arith) (arriving-bad more h cap at xs some r)
 
-      module _ (m : EntryMode) (n : ℕ) (r : read_mode xs ≡ Mode m n) where
+      module _ (m : EntryMode) (n : ℕ) (r : read_mode xs ≡ Some (m, n)) where
         abbrev ys· : List ℕ
         ys· = drop n xs
 
@@ -434,22 +431,22 @@ module _ (more : Bool) (rs h : ℕ) (big : 20 ≤ h) (s tail : List ℕ) where
                 abbrev ends· : List ℕ
                 ends· = ends_next ends marks· line·
 
-                placing· : (r : Placed) → placing ends marks· line· ≡ r
+                placing· : (r : Result ℕ Misplaced) → placing ends marks· line· ≡ r
                     → feed_of (st rs ends ended held h at at count last head (Head 0)) xs ≡ feed_of (together held· ends· (placed marks· line· r)) (drop h zs·)
                 unfolding closed closed_ends
                 placing· r p =
                     closing ∙ ap (λ (v : ℕ). feed_of (together held· (closed_ends ends marks· line· v) (closed ends marks· line· v)) (drop h zs·)) q
-                    ∙ ap (λ (r : Placed). feed_of (together held· ends· (placed marks· line· r)) (drop h zs·)) p
+                    ∙ ap (λ (r : Result ℕ Misplaced). feed_of (together held· ends· (placed marks· line· r)) (drop h zs·)) p
 
                 said : (v : Bool) → before· ≡ v → judge (git_rules rs) seen (text_of s at e·) (entry_of h s e·) ≡ pick v 17 0
                 said v p = said-is ∙ ap (λ (i : ℕ). or_else i (pick before· 17 0)) q ∙ ap (λ (v : Bool). pick v 17 0) p
 
-                answer· : (v : Bool) → before· ≡ v → placing ends marks· line· ≡ pick v Double (Fine stands·.n)
-                answer· v p = stands·.answer ∙ ap (λ (v : Bool). pick v Double (Fine stands·.n)) p
+                answer· : (v : Bool) → before· ≡ v → placing ends marks· line· ≡ pick v (Err Double) (Ok stands·.n)
+                answer· v p = stands·.answer ∙ ap (λ (v : Bool). pick v (Err Double) (Ok stands·.n)) p
 
                 double : before· ≡ true → Same
                 unfolding placed
-                double p = refuses 16 ends· (placing· Double (answer· true p)) (said true p)
+                double p = refuses 16 ends· (placing· (Err Double) (answer· true p)) (said true p)
 
                 kept : before· ≡ false → Same
                 unfolding placed tally
@@ -475,7 +472,7 @@ module _ (more : Bool) (rs h : ℕ) (big : 20 ≤ h) (s tail : List ℕ) where
                       within = omega (arith, w.within);
                       tails = tail_at _ t;
                     } in
-                    ap (λ (x : Check). end_of (feed_of x tail)) (placing· (Fine stands·.n) (answer· false p) ∙ rw (lt-ltb count most_records (omega arith), a, d))
+                    ap (λ (x : Check). end_of (feed_of x tail)) (placing· (Ok stands·.n) (answer· false p) ∙ rw (lt-ltb count most_records (omega arith), a, d))
                     ∙ again ends· stands·.n held· at· (count + 1) y (replicate 8 0) (entry_of h s e· ∷ seen) xs· ready (omega arith)
                     ∙ sym (ap (λ (z : Listing). told (tally count z)) (ap (cut (git_rules rs) h s seen) whole ∙ cut-fine (git_rules rs) h s seen at e· (arriving more h cap at· xs·) f))
                   where
@@ -509,9 +506,9 @@ module _ (more : Bool) (rs h : ℕ) (big : 20 ≤ h) (s tail : List ℕ) where
     one_entry : Same
     one_entry = elim (dec_lt (length xs) 8) [ yes l ↦ short-head l | no l ↦ go (omega arith) (read_mode xs) refl ]
       where
-        go : 8 ≤ length xs → (r : ModeRead) → read_mode xs ≡ r → Same
-        go l Bad r = bad-mode l r
-        go l (Mode m n) r = moded l m n r
+        go : 8 ≤ length xs → (r : Option (EntryMode × ℕ)) → read_mode xs ≡ r → Same
+        go l None r = bad-mode l r
+        go l (Some (m, n)) r = moded l m n r
 
   one_more : (cap : ℕ) → Claim cap → Claim (suc cap)
   one_more cap again ends ended held at count last head seen [] w e = no_bytes (suc cap) ends ended held at count last head seen w
@@ -524,11 +521,11 @@ module _ (more : Bool) (rs h : ℕ) (big : 20 ≤ h) (s tail : List ℕ) where
 -- ---- from the start
 
 -- an open gate has an id length
-gate_id : (h k : ℕ) → rule_gate k h 0 0 ≡ Open → id_length h ≡ true
+gate_id : (h k : ℕ) → rule_gate k h 0 0 ≡ Ok tt → id_length h ≡ true
 unfolding rule_gate
 gate_id h k e = pass (id_length h) e
   where
-    pass : (v : Bool) → pick v (pick (is_set k) (size_gate 0 0) (Shut (verdict 19 0))) (Shut (verdict 1 0)) ≡ Open → v ≡ true
+    pass : (v : Bool) → pick v (pick (is_set k) (size_gate 0 0) (Err (verdict 19 0))) (Err (verdict 1 0)) ≡ Ok tt → v ≡ true
     pass true e = refl
     pass false e = let y : ◌≡◌ {A = ℕ} 0 1 = cc in absurd (omega arith)
 
@@ -555,15 +552,15 @@ module _ (h k : ℕ) (s held ends : List ℕ) (room : length held ≡ most_held)
       })
       (add-zero most_records)
 
-  by-gate : (g : Gate) → rule_gate k h 0 0 ≡ g → (more : Bool) → ltb most_bytes (length s) ≡ more
+  by-gate : (g : Result ⊤ Verdict) → rule_gate k h 0 0 ≡ g → (more : Bool) → ltb most_bytes (length s) ≡ more
       → end_of (feed_of (begins (gate_verdict g)) s) ≡ or_shut g (check_in (git_rules k) more h (take most_bytes s))
-  by-gate (Shut v) e more q = finish_stopped (begins v) v s refl (strict-refuses k h 0 0 v e)
-  by-gate Open e true q =
+  by-gate (Err v) e more q = finish_stopped (begins v) v s refl (strict-refuses k h 0 0 v e)
+  by-gate (Ok tt) e true q =
       let j = ltb-true most_bytes (length s) q in
       let lt = length-take most_bytes s in
       let ld = length-drop most_bytes s in
       within (gate_id h k e) true (take most_bytes s) (drop most_bytes s) (take-append-drop most_bytes s) (omega arith) (omega arith, omega arith)
-  by-gate Open e false q =
+  by-gate (Ok tt) e false q =
       let j = ltb-false most_bytes (length s) q in
       let a = take_all most_bytes s j in
       within (gate_id h k e) false (take most_bytes s) [] (append-nil (take most_bytes s) ∙ a) (omega (arith, length-take most_bytes s)) refl

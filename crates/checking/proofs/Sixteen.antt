@@ -14,19 +14,14 @@ use Rattle.ground.specs.Scan.{count_to}
 use Rattle.ground.specs.Verdict.{verdict, broken, refused, most_bytes, most_records}
 use Rattle.ground.specs.declared.Verdict.{Verdict}
 use Rattle.ground.specs.declared.Answer.{Answer}
-use Rattle.ground.specs.declared.Gate.{Gate}
-use Rattle.ground.specs.declared.Gate.TheVariants.{Open}
 use Rattle.ground.proofs.Laws.{count-le}
 use Rattle.mode.specs.Read.{read_mode}
-use Rattle.mode.specs.declared.ModeRead.{ModeRead}
-use Rattle.mode.specs.declared.ModeRead.TheVariants.{Mode, Bad}
 use Rattle.mode.specs.declared.EntryMode.{EntryMode}
 use Rattle.entry.specs.Record.{name_of}
 use Rattle.entry.specs.Entry.{Entry, entry_of}
 use Rattle.entry.specs.Decode.{record_at, decode, decode_mode, decode_name}
 use Rattle.entry.specs.declared.EntryRecord.{EntryRecord}
 use Rattle.entry.specs.declared.Cursor.{Cursor}
-use Rattle.entry.specs.declared.Decoded.TheVariants.{Whole}
 use Rattle.entry.proofs.Laws.{decode-parts}
 use Rattle.reading.specs.Listing.{Listing, stop, entry, tally}
 use Rattle.doubles.specs.Doubles.{named_before}
@@ -38,13 +33,14 @@ use Rattle.arriving.specs.Feed.{most_held}
 use Rattle.checking.specs.Whole.{short_at, end_at, arriving, told, check_in, or_shut, check_of}
 use Rattle.checking.specs.Sixteen.{Reached, begins, past, MeetsLong}
 use Rattle.checking.proofs.Fed.{arriving-none, arriving_full, arriving-bad, arriving-long, arriving-short, arriving-whole}
+use Rattle.std.specs.Prelude.{None, Ok, Option, Result, Some, ⊤}
 
 module _ (more : Bool) (rs h : ℕ) (s : List ℕ) where
   abbrev from : ℕ → List Entry → ℕ → Answer
   from at seen left = told (tally (length seen) (cut (git_rules rs) h s seen (arriving more h left at (drop at s))))
 
   -- the name of a decoded entry
-  size_of : (at : ℕ) (e : EntryRecord) (next : Cursor) (d : decode h at (drop at s) ≡ Whole e next)
+  size_of : (at : ℕ) (e : EntryRecord) (next : Cursor) (d : decode h at (drop at s) ≡ Ok (e, next))
       → length (name_of s e) ≡ count_to 0 (drop (decode-parts h at (drop at s) e next d).size (drop at s))
   unfolding name_of
   size_of at e next d =
@@ -56,7 +52,7 @@ module _ (more : Bool) (rs h : ℕ) (s : List ℕ) where
       length-take (e.name_end - e.name_start) (drop e.name_start s) ∙ omega (arith, p.inside)
 
   -- one entry that is passed
-  from_past : (at : ℕ) (seen : List Entry) (left : ℕ) (e : EntryRecord) (next : Cursor) → at < length s → decode h at (drop at s) ≡ Whole e next → length (name_of s e) ≤ most_held
+  from_past : (at : ℕ) (seen : List Entry) (left : ℕ) (e : EntryRecord) (next : Cursor) → at < length s → decode h at (drop at s) ≡ Ok (e, next) → length (name_of s e) ≤ most_held
       → judge (git_rules rs) seen (text_of s at e) (entry_of h s e) ≡ 0 → from at seen (suc left) ≡ from next.at (entry_of h s e ∷ seen) left
   unfolding tally
   from_past at seen left e next l d k j =
@@ -144,13 +140,13 @@ module _ (more : Bool) (rs h : ℕ) (s : List ℕ) where
       go true true false true true z = omega arith
       go true true false true false z = omega arith
 
-  decodes : (at n : ℕ) (m : EntryMode) → read_mode (drop at s) ≡ Mode m n → count_to 0 (drop n (drop at s)) + 1 + h ≤ length (drop n (drop at s))
-      → decode h at (drop at s) ≡ Whole (record_at at m.internal n (count_to 0 (drop n (drop at s)))) (record { at = at + n + (count_to 0 (drop n (drop at s)) + 1 + h) })
+  decodes : (at n : ℕ) (m : EntryMode) → read_mode (drop at s) ≡ Some (m, n) → count_to 0 (drop n (drop at s)) + 1 + h ≤ length (drop n (drop at s))
+      → decode h at (drop at s) ≡ Ok (record_at at m.internal n (count_to 0 (drop n (drop at s))), record { at = at + n + (count_to 0 (drop n (drop at s)) + 1 + h) })
   unfolding decode decode_mode decode_name
   decodes at n m q k = rw (q, le-leb (count_to 0 (drop n (drop at s)) + 1 + h) (length (drop n (drop at s))) k)
 
-  named_small : (at n : ℕ) (m : EntryMode) → read_mode (drop at s) ≡ Mode m n → count_to 0 (drop n (drop at s)) + 1 + h ≤ length (drop n (drop at s))
-      → decode h at (drop at s) ≡ Whole (record_at at m.internal n (count_to 0 (drop n (drop at s)))) (record { at = at + n + (count_to 0 (drop n (drop at s)) + 1 + h) })
+  named_small : (at n : ℕ) (m : EntryMode) → read_mode (drop at s) ≡ Some (m, n) → count_to 0 (drop n (drop at s)) + 1 + h ≤ length (drop n (drop at s))
+      → decode h at (drop at s) ≡ Ok (record_at at m.internal n (count_to 0 (drop n (drop at s))), record { at = at + n + (count_to 0 (drop n (drop at s)) + 1 + h) })
       → count_to 0 (drop n (drop at s)) ≤ most_held → length (name_of s (record_at at m.internal n (count_to 0 (drop n (drop at s))))) ≤ most_held
   unfolding name_of
   named_small at n m q k d g =
@@ -172,7 +168,7 @@ module _ (more : Bool) (rs h : ℕ) (s : List ℕ) where
     no_stop : (v : Verdict) → arriving more h (suc left) at (drop at s) ≡ stop v → v ≡ verdict 16 place
     no_stop v q = sym (ap (λ (a : Answer). a.verdict) (from-stop at seen (suc left) v q)) ∙ e
 
-    found-whole : (m : EntryMode) (n : ℕ) → read_mode (drop at s) ≡ Mode m n → count_to 0 (drop n (drop at s)) ≤ most_held
+    found-whole : (m : EntryMode) (n : ℕ) → read_mode (drop at s) ≡ Some (m, n) → count_to 0 (drop n (drop at s)) ≤ most_held
         → count_to 0 (drop n (drop at s)) + 1 + h ≤ length (drop n (drop at s)) → MeetsLong rs h s place
     found-whole m n q g k = go (judge (git_rules rs) seen (text_of s at x) (entry_of h s x)) refl
       where
@@ -185,7 +181,7 @@ module _ (more : Bool) (rs h : ℕ) (s : List ℕ) where
         next : Cursor
         next = record { at = at + n + (t + 1 + h) }
 
-        d : decode h at (drop at s) ≡ Whole x next
+        d : decode h at (drop at s) ≡ Ok (x, next)
         d = decodes at n m q k
 
         small : length (name_of s x) ≤ most_held
@@ -199,7 +195,7 @@ module _ (more : Bool) (rs h : ℕ) (s : List ℕ) where
             let z : judge (git_rules rs) seen (text_of s at x) (entry_of h s x) ≡ 16 = ap (λ (y : Verdict). y.number) (sym (ap (λ (a : Answer). a.verdict) b) ∙ e) in
             absurd (judge-small seen (text_of s at x) (entry_of h s x) z)
 
-    found-mode : (m : EntryMode) (n : ℕ) → read_mode (drop at s) ≡ Mode m n → MeetsLong rs h s place
+    found-mode : (m : EntryMode) (n : ℕ) → read_mode (drop at s) ≡ Some (m, n) → MeetsLong rs h s place
     found-mode m n q =
         elim (dec_lt most_held (count_to 0 (drop n (drop at s)))) [
           | yes g ↦
@@ -211,9 +207,9 @@ module _ (more : Bool) (rs h : ℕ) (s : List ℕ) where
           ]
         ]
 
-    found-any : (v : ModeRead) → read_mode (drop at s) ≡ v → MeetsLong rs h s place
-    found-any (Mode m n) q = found-mode m n q
-    found-any Bad q = absurd (three (ap (λ (v : Verdict). v.number) (no_stop (broken at 1) (arriving-bad more h left at (drop at s) some q))))
+    found-any : (v : Option (EntryMode × ℕ)) → read_mode (drop at s) ≡ v → MeetsLong rs h s place
+    found-any (Some (m, n)) q = found-mode m n q
+    found-any None q = absurd (three (ap (λ (v : Verdict). v.number) (no_stop (broken at 1) (arriving-bad more h left at (drop at s) some q))))
       where
         three : ◌≡◌ {A = ℕ} 3 16 → ⊥
         three z = omega arith
@@ -230,10 +226,10 @@ module _ (more : Bool) (rs h : ℕ) (s : List ℕ) where
   gives-long place e = found most_records place 0 [] begins (omega arith) e
 
 -- 16 at a place exactly where strict reading of the bytes up to the bound reaches such an entry there: both ways.
-module _ (h k : ℕ) (s : List ℕ) (i : rule_gate k h 0 0 ≡ Open) (place : ℕ) where
+module _ (h k : ℕ) (s : List ℕ) (i : rule_gate k h 0 0 ≡ Ok tt) (place : ℕ) where
   answer-is : check_of h k s ≡ check_in (git_rules k) (ltb most_bytes (length s)) h (take most_bytes s)
   unfolding check_of
-  answer-is = ap (λ (g : Gate). or_shut g (check_in (git_rules k) (ltb most_bytes (length s)) h (take most_bytes s))) i
+  answer-is = ap (λ (g : Result ⊤ Verdict). or_shut g (check_in (git_rules k) (ltb most_bytes (length s)) h (take most_bytes s))) i
 
   pub sixteen-only : (check_of h k s).verdict ≡ verdict 16 place → MeetsLong k h (take most_bytes s) place
   sixteen-only e = gives-long (ltb most_bytes (length s)) k h (take most_bytes s) place (sym (ap (λ (a : Answer). a.verdict) answer-is) ∙ e)

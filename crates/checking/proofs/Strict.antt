@@ -11,52 +11,47 @@ use Rattle.ground.specs.Basics.{pick}
 use Rattle.ground.specs.Scan.{count_to}
 use Rattle.ground.specs.Verdict.{verdict, counted, refused, most_bytes, most_records, size_gate}
 use Rattle.ground.specs.declared.Answer.{Answer}
-use Rattle.ground.specs.declared.Gate.{Gate}
-use Rattle.ground.specs.declared.Gate.TheVariants.{Open, Shut}
 use Rattle.mode.specs.Read.{read_mode}
-use Rattle.mode.specs.declared.ModeRead.{ModeRead}
-use Rattle.mode.specs.declared.ModeRead.TheVariants.{Mode, Bad}
 use Rattle.entry.specs.Record.{many}
 use Rattle.entry.specs.Entry.{Entry, entry_of}
 use Rattle.entry.specs.Decode.{decode, decode_mode, decode_name}
 use Rattle.entry.specs.declared.EntryRecord.{EntryRecord}
 use Rattle.entry.specs.declared.Cursor.{Cursor}
-use Rattle.entry.specs.declared.Decoded.{Decoded}
-use Rattle.entry.specs.declared.Decoded.TheVariants.{Whole, Broken}
 use Rattle.reading.specs.Listing.{stop, entry, follow, plain, tally}
 use Rattle.rules.specs.Rules.{Rules, judge, git_rules}
 use Rattle.rules.specs.Gate.{rule_gate}
 use Rattle.strict.specs.Strict.{text_of, cut, strictly, strict_answer}
 use Rattle.reading.specs.Whole.{in_room, answer_of}
-use Rattle.reading.specs.declared.Counted.{Counted}
-use Rattle.reading.specs.declared.Counted.TheVariants.{Total, Stopped}
 use Rattle.arriving.specs.Feed.{most_held}
 use Rattle.checking.specs.Whole.{held_name, held_mode, arriving, told, check_in, or_shut, check_of}
+use Rattle.ground.specs.declared.Verdict.{Verdict}
+use Rattle.mode.specs.declared.EntryMode.{EntryMode}
+use Rattle.std.specs.Prelude.{Err, None, Ok, Option, Result, Some, ⊤}
 
-abbrev number_of : Counted → ℕ
+abbrev number_of : Result ℕ Verdict → ℕ
 number_of k = (told k).verdict.number
 
 -- ---- one entry: the two readings differ only where a name is too long
 
-same-decode : (h at : ℕ) (b : List ℕ) → (held_mode false h at b (read_mode b) ≡ Broken (verdict 16 at) → ⊥) → held_mode false h at b (read_mode b) ≡ decode h at b
+same-decode : (h at : ℕ) (b : List ℕ) → (held_mode false h at b (read_mode b) ≡ Err (verdict 16 at) → ⊥) → held_mode false h at b (read_mode b) ≡ decode h at b
 unfolding decode decode_mode decode_name held_mode held_name
 same-decode h at b n = go (read_mode b) n
   where
-    last : (m k : ℕ) (c : List ℕ) (v : Bool) → (pick v (Broken (verdict 16 at)) (decode_name h at m k c) ≡ Broken (verdict 16 at) → ⊥) → pick v (Broken (verdict 16 at)) (decode_name h at m k c) ≡ decode_name h at m k c
+    last : (m k : ℕ) (c : List ℕ) (v : Bool) → (pick v (Err (verdict 16 at)) (decode_name h at m k c) ≡ Err (verdict 16 at) → ⊥) → pick v (Err (verdict 16 at)) (decode_name h at m k c) ≡ decode_name h at m k c
     last m k c true n = absurd (n refl)
     last m k c false n = refl
 
-    go : (r : ModeRead) → (held_mode false h at b r ≡ Broken (verdict 16 at) → ⊥) → held_mode false h at b r ≡ decode_mode h at b r
-    go Bad n = refl
-    go (Mode m k) n = last m.internal k (drop k b) (ltb most_held (count_to 0 (drop k b))) n
+    go : (r : Option (EntryMode × ℕ)) → (held_mode false h at b r ≡ Err (verdict 16 at) → ⊥) → held_mode false h at b r ≡ decode_mode h at b r
+    go None n = refl
+    go (Some (m, k)) n = last m.internal k (drop k b) (ltb most_held (count_to 0 (drop k b))) n
 
 -- ---- entry after entry
 
 module _ (R : Rules) (h : ℕ) (s : List ℕ) where
-  abbrev held· : ℕ → List Entry → ℕ → ℕ → List ℕ → Counted
+  abbrev held· : ℕ → List Entry → ℕ → ℕ → List ℕ → Result ℕ Verdict
   held· n seen left at b = tally n (cut R h s seen (arriving false h left at b))
 
-  abbrev plain· : ℕ → List Entry → ℕ → ℕ → List ℕ → Counted
+  abbrev plain· : ℕ → List Entry → ℕ → ℕ → List ℕ → Result ℕ Verdict
   plain· n seen left at b = tally n (cut R h s seen (plain h left at b))
 
   abbrev Alike : ℕ → Type 0
@@ -72,7 +67,7 @@ module _ (R : Rules) (h : ℕ) (s : List ℕ) where
   alike_more left again n seen at [] f = refl
   alike_more left again n seen at (x ∷ xs) f = go (held_mode false h at (x ∷ xs) (read_mode (x ∷ xs))) refl f
     where
-      sixteen : (d : Decoded) → d ≡ Broken (verdict 16 at) → number_of (tally n (cut R h s seen (follow (arriving false h left) at (x ∷ xs) d))) ≡ 16
+      sixteen : (d : Result (EntryRecord × Cursor) Verdict) → d ≡ Err (verdict 16 at) → number_of (tally n (cut R h s seen (follow (arriving false h left) at (x ∷ xs) d))) ≡ 16
       sixteen d e = rw e
 
       judged : (e : EntryRecord) (next : Cursor) (v : Bool)
@@ -82,14 +77,14 @@ module _ (R : Rules) (h : ℕ) (s : List ℕ) where
       judged e next true f = again (n + 1) (entry_of h s e ∷ seen) next.at (drop (next.at - at) (x ∷ xs)) f
       judged e next false f = refl
 
-      on : (d : Decoded) → (number_of (tally n (cut R h s seen (follow (arriving false h left) at (x ∷ xs) d))) ≡ 16 → ⊥)
+      on : (d : Result (EntryRecord × Cursor) Verdict) → (number_of (tally n (cut R h s seen (follow (arriving false h left) at (x ∷ xs) d))) ≡ 16 → ⊥)
           → tally n (cut R h s seen (follow (arriving false h left) at (x ∷ xs) d)) ≡ tally n (cut R h s seen (follow (plain h left) at (x ∷ xs) d))
-      on (Whole e next) f = judged e next (eqb (judge R seen (text_of s at e) (entry_of h s e)) 0) f
-      on (Broken v) f = refl
+      on (Ok (e, next)) f = judged e next (eqb (judge R seen (text_of s at e) (entry_of h s e)) 0) f
+      on (Err v) f = refl
 
-      go : (d : Decoded) → held_mode false h at (x ∷ xs) (read_mode (x ∷ xs)) ≡ d → (number_of (tally n (cut R h s seen (follow (arriving false h left) at (x ∷ xs) d))) ≡ 16 → ⊥)
+      go : (d : Result (EntryRecord × Cursor) Verdict) → held_mode false h at (x ∷ xs) (read_mode (x ∷ xs)) ≡ d → (number_of (tally n (cut R h s seen (follow (arriving false h left) at (x ∷ xs) d))) ≡ 16 → ⊥)
           → tally n (cut R h s seen (follow (arriving false h left) at (x ∷ xs) d)) ≡ tally n (cut R h s seen (follow (plain h left) at (x ∷ xs) (decode h at (x ∷ xs))))
-      go d q f = on d f ∙ ap (λ (y : Decoded). tally n (cut R h s seen (follow (plain h left) at (x ∷ xs) y))) (sym q ∙ same-decode h at (x ∷ xs) (λ z. f (sixteen d (sym q ∙ z))))
+      go d q f = on d f ∙ ap (λ (y : Result (EntryRecord × Cursor) Verdict). tally n (cut R h s seen (follow (plain h left) at (x ∷ xs) y))) (sym q ∙ same-decode h at (x ∷ xs) (λ z. f (sixteen d (sym q ∙ z))))
 
   alike : (left : ℕ) → Alike left
   alike zero = alike_none
@@ -98,9 +93,9 @@ module _ (R : Rules) (h : ℕ) (s : List ℕ) where
 -- ---- the answers
 
 -- with room enough, the strict reader tells what it counted
-in-room : (room : ℕ) (k : Counted) → ((in_room room k).verdict.number ≡ 4 → ⊥) → told k ≡ in_room room k
-in-room room (Stopped v) f = refl
-in-room room (Total n) f = go (leb n room) f
+in-room : (room : ℕ) (k : Result ℕ Verdict) → ((in_room room k).verdict.number ≡ 4 → ⊥) → told k ≡ in_room room k
+in-room room (Err v) f = refl
+in-room room (Ok n) f = go (leb n room) f
   where
     go : (v : Bool) → ((pick v (counted n) (refused (verdict 4 n))).verdict.number ≡ 4 → ⊥) → counted n ≡ pick v (counted n) (refused (verdict 4 n))
     go true f = refl
@@ -121,15 +116,15 @@ check_alike h k s lent l r n f =
     room = many (length lent)
 
     same : strict_answer k h s lent ≡ answer_of (rule_gate k h 0 0) (strictly (git_rules k) h s) room
-    same = ap (λ (g : Gate). answer_of g (strictly (git_rules k) h s) room) (gate_same h k (length s) room l r)
+    same = ap (λ (g : Result ⊤ Verdict). answer_of g (strictly (git_rules k) h s) room) (gate_same h k (length s) room l r)
 
     within : check_in (git_rules k) (ltb most_bytes (length s)) h (take most_bytes s) ≡ check_in (git_rules k) false h s
     within = ap (λ (v : Bool). check_in (git_rules k) v h (take most_bytes s)) (le-ltb most_bytes (length s) l) ∙ ap (check_in (git_rules k) false h) (take_all most_bytes s l)
 
-    go : (g : Gate) → ((or_shut g (check_in (git_rules k) (ltb most_bytes (length s)) h (take most_bytes s))).verdict.number ≡ 16 → ⊥)
+    go : (g : Result ⊤ Verdict) → ((or_shut g (check_in (git_rules k) (ltb most_bytes (length s)) h (take most_bytes s))).verdict.number ≡ 16 → ⊥)
         → ((answer_of g (strictly (git_rules k) h s) room).verdict.number ≡ 4 → ⊥)
         → or_shut g (check_in (git_rules k) (ltb most_bytes (length s)) h (take most_bytes s)) ≡ answer_of g (strictly (git_rules k) h s) room
-    go (Shut v) n f = refl
-    go Open n f =
+    go (Err v) n f = refl
+    go (Ok tt) n f =
         let a = alike (git_rules k) h s most_records 0 [] 0 s (λ z. n (ap (λ (x : Answer). x.verdict.number) within ∙ z)) in
         within ∙ ap told a ∙ in-room room (tally 0 (strictly (git_rules k) h s)) f

@@ -1,8 +1,7 @@
 -- What is claimed of the check in pieces (`proofs/Theorem.antt` proves it; paper/specs/Arrives says it of the calls). Assumes nothing.
-use Rattle.std.specs.Prelude.{ℕ, ◌≤◌, ◌<◌, ◌≡◌, List, [], ◌∷◌, ◌++◌, ◌⊎◌, ◌↔◌, length, take}
+use Rattle.std.specs.Prelude.{ℕ, ◌≤◌, ◌<◌, ◌≡◌, List, [], ◌∷◌, ◌++◌, ◌⊎◌, ◌↔◌, length, take, Ok}
 use Rattle.ground.specs.Verdict.{verdict, refused, most_bytes, most_records}
 use Rattle.ground.specs.declared.Answer.{Answer}
-use Rattle.ground.specs.declared.Gate.TheVariants.{Open}
 use Rattle.entry.specs.Record.{many}
 use Rattle.rules.specs.Gate.{rule_gate}
 use Rattle.strict.specs.Strict.{strict_answer}
@@ -39,7 +38,7 @@ pub record PieceLaws : Type 0 where
       → many (length lent) ≤ most_records → ((answer h k held ends ps).verdict.number ≡ 16 → ⊥) → ((strict_answer k h (joined ps) lent).verdict.number ≡ 4 → ⊥)
       → answer h k held ends ps ≡ strict_answer k h (joined ps) lent
   -- 16 is given at a place exactly where strict reading of the bytes up to the bound reaches there an entry with a readable mode and too long a name
-  pub sixteen : (h k : ℕ) (held ends : List ℕ) → Rooms held ends → (ps : List (List ℕ)) → rule_gate k h 0 0 ≡ Open → (place : ℕ)
+  pub sixteen : (h k : ℕ) (held ends : List ℕ) → Rooms held ends → (ps : List (List ℕ)) → rule_gate k h 0 0 ≡ Ok tt → (place : ℕ)
       → (answer h k held ends ps ≡ refused (verdict 16 place)) ↔ MeetsLong k h (take most_bytes (joined ps)) place
   -- past the bound 2 is given, unless the bytes up to it settle a refusal: it is the same whatever follows them, nothing included
   pub past_bound : (h k : ℕ) (held ends : List ℕ) → Rooms held ends → (ps : List (List ℕ)) → most_bytes < length (joined ps)

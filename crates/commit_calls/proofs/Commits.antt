@@ -13,8 +13,6 @@ use Rattle.header.specs.Words.{tree_word, author_word, committer_word}
 use Rattle.commit_line.specs.Line.{id_at, line_at}
 use Rattle.header.specs.Record.{well_formed, header_value}
 use Rattle.header.specs.declared.HeaderRecord.{HeaderRecord}
-use Rattle.commit_line.specs.declared.Line.{Line}
-use Rattle.commit_line.specs.declared.Line.TheVariants.{Value, Missing}
 use Rattle.unfold.specs.Unfold.{Plan, stores, refuses, has_form, plain_of, room_plan, value_plan, gate_plan, unfold_plan, answer_of, after_of}
 use Rattle.commit_fields.specs.Headers.{heads, tally}
 use Rattle.commit_fields.specs.Fields.{refusal, actor_of, actor_at, encoding_at, found_of, blank_of, ending_of, with_committer, with_author, people_of, fields_of}
@@ -23,15 +21,13 @@ use Rattle.commit_read.specs.Read.{answer_in, parents_in, headers_in}
 use Rattle.commit_fields.specs.declared.Found.{Found}
 use Rattle.commit_fields.specs.declared.Encoding.{Encoding}
 use Rattle.commit_fields.specs.declared.HeaderCount.{HeaderCount}
-use Rattle.commit_fields.specs.declared.Person.{Person}
-use Rattle.commit_fields.specs.declared.Person.TheVariants as person
-use Rattle.commit_fields.specs.declared.Outcome.{Outcome}
-use Rattle.commit_fields.specs.declared.Outcome.TheVariants.{Whole, Fails}
 use Rattle.call.specs.Call.{none, ◌and◌, Refusal, Fits}
 use Rattle.call.specs.Deeds.{of_answer}
 use Rattle.commit_calls.specs.Calls.{of_commit}
 use Rattle.commit_calls.specs.First.{OfCommits}
 use Rattle.call.proofs.Laws.{answers_once, Of, done, zero, wider, two-lists, keeps, keeps-writes, keeps-stores, each-pick, each_within, each-size, each_gate}
+use Rattle.std.specs.Prelude.{Err, None, Ok, Option, Result, Some}
+use Rattle.commit_fields.specs.declared.Refusal as commit
 
 -- every way to unfold: a value, 2, 10, 8
 pub each_plan : (Q : Plan → Type 0) → ((v : List ℕ) → Q (stores v)) → Q (refuses (verdict 2 0)) → Q (refuses (verdict 10 0))
@@ -53,18 +49,18 @@ plan_kept out (stores v) z = absurd (z refl)
 plan_kept out (refuses v) z = refl
 
 -- every way to read an author's or committer's line: its value, 11, 12
-each_person : (Q : Person → Type 0) → ((a e : ℕ) → Q (person.At a e)) → (s : List ℕ) (at : ℕ) (word : List ℕ) (field : ℕ)
-    → Q (person.Fails (refusal 11 at field)) → Q (person.Fails (refusal 12 at 0)) → Q (actor_at s at word field)
+each_person : (Q : Result (ℕ × ℕ) commit.Refusal → Type 0) → ((a e : ℕ) → Q (Ok (a, e))) → (s : List ℕ) (at : ℕ) (word : List ℕ) (field : ℕ)
+    → Q (Err (refusal 11 at field)) → Q (Err (refusal 12 at 0)) → Q (actor_at s at word field)
 unfolding actor_at actor_of
 each_person Q value s at word field eleven twelve = go (line_at word s at)
   where
-    go : (l : Line) → Q (actor_of s at field l)
-    go Missing = eleven
-    go (Value a e) = each-pick Q (is_actor (part a e s)) (person.At a e) (person.Fails (refusal 12 at 0)) (value a e) twelve
+    go : (l : Option (ℕ × ℕ)) → Q (actor_of s at field l)
+    go None = eleven
+    go (Some (a, e)) = each-pick Q (is_actor (part a e s)) (Ok (a, e)) (Err (refusal 12 at 0)) (value a e) twelve
 
 -- every way to read a commit: its parts, 1, 2, 11, 12, 4
-module _ (Q : Outcome → Type 0) (whole : (f : Found) → Q (Whole f)) (eleven : (at field : ℕ) → Q (Fails (refusal 11 at field)))
-    (twelve : (at : ℕ) → Q (Fails (refusal 12 at 0))) (s : List ℕ) (h : ℕ) where
+module _ (Q : Result Found commit.Refusal → Type 0) (whole : (f : Found) → Q (Ok f)) (eleven : (at field : ℕ) → Q (Err (refusal 11 at field)))
+    (twelve : (at : ℕ) → Q (Err (refusal 12 at 0))) (s : List ℕ) (h : ℕ) where
   each-people : (n at : ℕ) → Q (people_of s n at)
   unfolding people_of with_author with_committer ending_of blank_of
   each-people n at =
@@ -73,28 +69,28 @@ module _ (Q : Outcome → Type 0) (whole : (f : Found) → Q (Whole f)) (eleven 
       s at author_word 2 (eleven _ _) (twelve _)
     where
       blank : (a e b f : ℕ) (enc : Encoding) (k : HeaderCount) → Q (blank_of s n a e b f enc k)
-      blank a e b f enc k = each-pick Q (eqb (get_or s k.end 0) 10) (Whole (found_of s n a e b f enc k)) (Fails (refusal 11 k.end 4)) (whole _) (eleven _ _)
+      blank a e b f enc k = each-pick Q (eqb (get_or s k.end 0) 10) (Ok (found_of s n a e b f enc k)) (Err (refusal 11 k.end 4)) (whole _) (eleven _ _)
 
   each-fields : Q (fields_of s h)
   unfolding fields_of
-  each-fields = each-pick Q (id_at tree_word h s 0) _ (Fails (refusal 11 0 1)) (each-people _ _) (eleven 0 1)
+  each-fields = each-pick Q (id_at tree_word h s 0) _ (Err (refusal 11 0 1)) (each-people _ _) (eleven 0 1)
 
-pub each_outcome : (Q : Outcome → Type 0) → ((f : Found) → Q (Whole f)) → Q (Fails (refusal 1 0 0)) → Q (Fails (refusal 2 0 0))
-    → ((at field : ℕ) → Q (Fails (refusal 11 at field))) → ((at : ℕ) → Q (Fails (refusal 12 at 0)))
-    → (s : List ℕ) (h np nh : ℕ) → ((n : ℕ) → (np < n) ⊎ (nh < n) → Q (Fails (refusal 4 n 0))) → Q (outcome_of s h np nh)
+pub each_outcome : (Q : Result Found commit.Refusal → Type 0) → ((f : Found) → Q (Ok f)) → Q (Err (refusal 1 0 0)) → Q (Err (refusal 2 0 0))
+    → ((at field : ℕ) → Q (Err (refusal 11 at field))) → ((at : ℕ) → Q (Err (refusal 12 at 0)))
+    → (s : List ℕ) (h np nh : ℕ) → ((n : ℕ) → (np < n) ⊎ (nh < n) → Q (Err (refusal 4 n 0))) → Q (outcome_of s h np nh)
 unfolding outcome_of gated_by room_of
 each_outcome Q whole one two eleven twelve s h np nh four =
     each_gate (λ g. Q (gated_by g (room_of np nh (fields_of s h)))) (each-fields (λ o. Q (room_of np nh o)) room eleven twelve s h) one two h _ _
   where
-    room : (f : Found) → Q (room_of np nh (Whole f))
+    room : (f : Found) → Q (room_of np nh (Ok f))
     room f =
-        each_within Q f.parents np _ (Fails (refusal 4 f.parents 0))
-        (λ p. each_within Q f.headers nh (Whole f) (Fails (refusal 4 f.headers 0)) (λ q. whole f) (λ l. four f.headers (inr l))) (λ l. four f.parents (inl l))
+        each_within Q f.parents np _ (Err (refusal 4 f.parents 0))
+        (λ p. each_within Q f.headers nh (Ok f) (Err (refusal 4 f.headers 0)) (λ q. whole f) (λ l. four f.headers (inr l))) (λ l. four f.parents (inl l))
 
-pub outcome_kept : (s : List ℕ) (h : ℕ) (ps hs : List ℕ) (o : Outcome) → Refusal (answer_in o).verdict → parents_in h ps o ∷ headers_in s hs o ∷ [] ≡ ps ∷ hs ∷ []
+pub outcome_kept : (s : List ℕ) (h : ℕ) (ps hs : List ℕ) (o : Result Found commit.Refusal) → Refusal (answer_in o).verdict → parents_in h ps o ∷ headers_in s hs o ∷ [] ≡ ps ∷ hs ∷ []
 unfolding answer_in parents_in headers_in
-outcome_kept s h ps hs (Whole f) z = absurd (z refl)
-outcome_kept s h ps hs (Fails r) z = refl
+outcome_kept s h ps hs (Ok f) z = absurd (z refl)
+outcome_kept s h ps hs (Err r) z = refl
 
 pub unfold_fits : (s : List ℕ) (x : HeaderRecord) (room : ℕ) → Fits (0 ∷ 2 ∷ 8 ∷ 10 ∷ []) (of_answer (answer_of (unfold_plan s x room)))
 unfolding answer_of

@@ -7,15 +7,13 @@ use mathlib.Core.Path.{◌≡◌, refl, ap, sym, ◌∙◌}
 use mathlib.Core.Bool.{Bool, true, false}
 use mathlib.Core.List.{List, [], ◌∷◌, ◌++◌, map}
 use lib.Dec.{eqb, leb}
-use lib.ListN.{length, get_or, drop, length-append, length-map, length-drop, drop_of_length-le}
+use lib.ListN.{length, get_or, drop, length-append, length-map, length-drop}
 use lib.Seq.{drop-cons}
 use borrow.Author.Tests.{eq-eqb, ne_eqb, eqb-true, le-leb, lt-leb, leb-true}
 use Rattle.ground.specs.Basics.{pick}
 use Rattle.ground.specs.Verdict.{verdict, fine, gate_of}
 use Rattle.ground.proofs.Laws.{and_left, and_right, gate_open, gate_fine}
 use Rattle.ground.specs.declared.Verdict.{Verdict}
-use Rattle.ground.specs.declared.Gate.{Gate}
-use Rattle.ground.specs.declared.Gate.TheVariants.{Open, Shut}
 use Rattle.hex_digits.specs.Hex.{is_hex}
 use Rattle.extra_header.specs.Extra.{folded_form}
 use Rattle.header.specs.Record.{width, header_at, well_formed, header_value}
@@ -28,18 +26,11 @@ use Rattle.unfold.proofs.Laws.{form-any, form_folded}
 use Rattle.grammar.specs.Named.{id_named, records_from}
 use Rattle.commit_check.specs.Sound.{Sound}
 use Rattle.commit_check.specs.Check.{headers_of, ranged, id_fits, encoding_fits, header_fits, tests, late_tests, last_tests, passing, judged, after, checked}
+use Rattle.std.specs.Prelude.{Err, Ok, Result, ⊤}
 
 -- ---- one record
 
 module _ (from to len : ℕ) where
-  pub range_back : to < from → ranged from to len ≡ false
-  unfolding ranged
-  range_back p = simp (lt-leb from to p)
-
-  pub range-is : from ≤ to → ranged from to len ≡ leb to len
-  unfolding ranged
-  range-is p = simp (le-leb from to p)
-
   pub range-parts : ranged from to len ≡ true → (from ≤ to) × (to ≤ len)
   unfolding ranged
   range-parts e = (leb-true from to (and_left (leb from to) (leb to len) e), leb-true to len (and_right (leb from to) (leb to len) e))
@@ -69,10 +60,6 @@ module _ (len : ℕ) (p : CommitParts) where
   pub encoding-one : p.encoding ≡ 1 → encoding_fits len p ≡ ranged p.encoding_start p.encoding_end len
   unfolding encoding_fits
   encoding-one e = simp (ne_eqb p.encoding 0 (λ z. omega (arith, e)), eq-eqb p.encoding 1 e)
-
-  pub encoding_other : (p.encoding ≡ 0 → ⊥) → (p.encoding ≡ 1 → ⊥) → encoding_fits len p ≡ false
-  unfolding encoding_fits
-  encoding_other a b = simp (ne_eqb p.encoding 0 a, ne_eqb p.encoding 1 b)
 
 module _ (bytes : List ℕ) (x : HeaderRecord) where
   pub header-bad : well_formed x (length bytes) ≡ false → header_fits bytes x ≡ false
@@ -113,17 +100,6 @@ pub passing_on : (a b : List Bool) → length a ≤ passing a → passing (a ++ 
 passing_on [] b p = omega arith
 passing_on (true ∷ a) b p = omega (arith, passing_on a b (omega arith))
 passing_on (false ∷ a) b p = absurd (omega arith)
-
--- the lent parents from an index on
-module _ (f : ℕ → Bool) (l : List ℕ) (i : ℕ) where
-  pub run_end : length l ≤ i → passing (map f (drop i l)) ≡ 0
-  run_end p = rw (drop_of_length-le l {i = i} p)
-
-  pub run-bad : i < length l → f (get_or l i 0) ≡ false → passing (map f (drop i l)) ≡ 0
-  run-bad p e = rw (drop-cons l i 0 p) (rw e)
-
-  pub run_more : i < length l → f (get_or l i 0) ≡ true → passing (map f (drop i l)) ≡ suc (passing (map f (drop (i + 1) l)))
-  run_more p e = rw (add-one i, drop-cons l i 0 p) (rw e)
 
 -- the lent headers from an index on, n in all
 module _ (l : List ℕ) (n i : ℕ) where
@@ -274,15 +250,15 @@ module _ (h : ℕ) (bytes : List ℕ) (p : CommitParts) (parents headers : List 
   -- ---- behind the gate
 
   module _ (room longest most : ℕ) (e : longest ≡ max (length bytes) room) (f : most ≡ max (length parents) (length headers / width)) where
-    pub checked-shut : (v : Verdict) → gate_of h longest most ≡ Shut v → checked h bytes p parents headers room ≡ v
+    pub checked-shut : (v : Verdict) → gate_of h longest most ≡ Err v → checked h bytes p parents headers room ≡ v
     unfolding checked after
     checked-shut v g = rw (← e, ← f, g)
 
-    pub checked_open : gate_of h longest most ≡ Open → checked h bytes p parents headers room ≡ judged row
+    pub checked_open : gate_of h longest most ≡ Ok tt → checked h bytes p parents headers room ≡ judged row
     unfolding checked after
     checked_open g = rw (← e, ← f, g)
 
-    module _ (g : gate_of h longest most ≡ Open) (k : ℕ) (q : k ≡ passing row) where
+    module _ (g : gate_of h longest most ≡ Ok tt) (k : ℕ) (q : k ≡ passing row) where
       pub checked-stop : k < length parents + 5 + length headers / width → checked h bytes p parents headers room ≡ verdict 10 k
       checked-stop l = checked_open g ∙ judged-stop row k q (rw row-length l)
 
@@ -304,7 +280,7 @@ pass_both (t ∷ a) b e =
 
 module _ (h : ℕ) (bytes : List ℕ) (p : CommitParts) (parents headers : List ℕ) (room : ℕ) where
   -- the gate was open, and every record passes
-  passed : gate_of h (max (length bytes) room) (max (length parents) (length headers / width)) ≡ Open → passing (row h bytes p parents headers) ≡ length (row h bytes p parents headers)
+  passed : gate_of h (max (length bytes) room) (max (length parents) (length headers / width)) ≡ Ok tt → passing (row h bytes p parents headers) ≡ length (row h bytes p parents headers)
       → Sound h bytes p parents headers room
   passed g e =
       let o = gate_open h (max (length bytes) room) (max (length parents) (length headers / width)) g in
@@ -341,10 +317,10 @@ module _ (h : ℕ) (bytes : List ℕ) (p : CommitParts) (parents headers : List 
       most : ℕ
       most = max (length parents) (length headers / width)
 
-      go : (g : Gate) → gate_of h longest most ≡ g → Sound h bytes p parents headers room
-      go Open e =
+      go : (g : Result ⊤ Verdict) → gate_of h longest most ≡ g → Sound h bytes p parents headers room
+      go (Ok tt) e =
           passed e (judged-passes (row h bytes p parents headers) (ap (λ (v : Verdict). v.number) (sym (checked_open h bytes p parents headers room longest most refl refl e)) ∙ z))
-      go (Shut v) e = absurd (shut-refuses h longest most v e (ap (λ (u : Verdict). u.number) (sym (checked-shut h bytes p parents headers room longest most refl refl v e)) ∙ z))
+      go (Err v) e = absurd (shut-refuses h longest most v e (ap (λ (u : Verdict). u.number) (sym (checked-shut h bytes p parents headers room longest most refl refl v e)) ∙ z))
 
 -- and such a commit is not refused
 pub sound-checked : (h : ℕ) (bytes : List ℕ) (p : CommitParts) (parents headers : List ℕ) (room : ℕ) → Sound h bytes p parents headers room

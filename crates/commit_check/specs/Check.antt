@@ -1,10 +1,8 @@
 -- Which records of a commit that is to be written pass, and the refusals 1, 2 and 10 (docs/FORMAT.md, "Commit writing"). Assumes nothing.
-use Rattle.std.specs.Prelude.{ℕ, suc, ◌+◌, ◌*◌, ◌/◌, max, Bool, true, false, ◌&&◌, ◌||◌, List, [], ◌∷◌, ◌++◌, map, eqb, leb, length}
+use Rattle.std.specs.Prelude.{ℕ, suc, ◌+◌, ◌*◌, ◌/◌, max, Bool, true, false, ◌&&◌, ◌||◌, List, [], ◌∷◌, ◌++◌, map, eqb, leb, length, Err, Ok, Result, ⊤}
 use Rattle.ground.specs.Basics.{pick}
 use Rattle.ground.specs.Verdict.{verdict, fine, gate_of}
 use Rattle.ground.specs.declared.Verdict.{Verdict}
-use Rattle.ground.specs.declared.Gate.{Gate}
-use Rattle.ground.specs.declared.Gate.TheVariants.{Open, Shut}
 use Rattle.hex_digits.specs.Hex.{is_hex}
 use Rattle.header.specs.Record.{width, well_formed, header_value}
 use Rattle.header.specs.declared.HeaderRecord.{HeaderRecord}
@@ -57,9 +55,9 @@ unfoldable pub judged : List Bool → Verdict
 judged l = pick (eqb (passing l) (length l)) fine (verdict 10 (passing l))
 
 -- what a gate refuses, else another verdict
-unfoldable pub after : Gate → Verdict → Verdict
-after Open v = v
-after (Shut u) v = u
+unfoldable pub after : Result ⊤ Verdict → Verdict → Verdict
+after (Ok tt) v = v
+after (Err u) v = u
 
 -- 1, 2, then 10: what writing into so much room and measuring (with no room) refuse alike
 unfoldable pub checked : ℕ → List ℕ → CommitParts → List ℕ → List ℕ → ℕ → Verdict

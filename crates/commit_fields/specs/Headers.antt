@@ -1,9 +1,8 @@
 -- The extra headers from a place on: a list that ends with the place after them (docs/FORMAT.md, "Commits"). Assumes nothing.
-use Rattle.std.specs.Prelude.{ℕ, zero, suc, ◌+◌, ◌-◌, List, [], ◌∷◌, ◌++◌, length}
+use Rattle.std.specs.Prelude.{ℕ, zero, suc, ◌+◌, ◌-◌, List, [], ◌∷◌, ◌++◌, length, None, Some}
 use Rattle.extra_header.specs.Extra.{extra_at}
 use Rattle.header.specs.Record.{flat}
 use Rattle.header.specs.declared.HeaderRecord.{HeaderRecord}
-use Rattle.extra_header.specs.declared.Extra.TheVariants.{Got, No}
 use Rattle.commit_fields.specs.declared.HeaderCount.{HeaderCount}
 
 pub data Heads : Type 0 where
@@ -13,7 +12,7 @@ pub data Heads : Type 0 where
 -- one after another, at most `left`
 unfoldable pub heads_from : ℕ → List ℕ → ℕ → Heads
 heads_from zero s at = ended at
-heads_from (suc left) s at = elim (extra_at s at) [ No ↦ ended at | Got x next ↦ header x (heads_from left s next) ]
+heads_from (suc left) s at = elim (extra_at s at) [ None ↦ ended at | Some (x, next) ↦ header x (heads_from left s next) ]
 
 -- those that follow where n are read: no more than there are bytes can come
 unfoldable pub rest_heads : List ℕ → ℕ → ℕ → Heads

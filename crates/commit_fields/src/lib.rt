@@ -8,9 +8,9 @@ ghost use Rattle.commit_fields.specs.Fields.{actor_at, encoding_at, ending_of, p
 ghost use Rattle.commit_fields.specs.Outcome.{outcome_of};
 
 use actor::is_actor;
-use commit_line::{Line, id_line, value_line};
-use extra_header::{Extra, extra_at};
-use ground::{ACTOR, COMMIT_FIELD, FEW_RECORDS, FINE, Gate, Verdict, bounds, byte_at, longer};
+use commit_line::{id_line, value_line};
+use extra_header::extra_at;
+use ground::{ACTOR, COMMIT_FIELD, FEW_RECORDS, FINE, Verdict, bounds, byte_at, longer};
 use header::CommitParts;
 
 // Why a commit is refused.
@@ -18,13 +18,6 @@ use header::CommitParts;
 pub struct Refusal {
     pub verdict: Verdict,
     pub field: usize,
-}
-
-// The value of an author's or committer's line.
-#[derive(Clone, Copy)]
-pub enum Person {
-    At(usize, usize),
-    Fails(Refusal),
 }
 
 // The encoding's value, its mark 1 where there is one, and the place after it.
@@ -50,12 +43,6 @@ pub struct Found {
     pub headers: usize,
     pub first: usize,
     pub parts: CommitParts,
-}
-
-#[derive(Clone, Copy)]
-pub enum Outcome {
-    Whole(Found),
-    Fails(Refusal),
 }
 
 // Whether a parent's line stands at a place.
@@ -86,10 +73,10 @@ fn count_headers(s: &[u8], at: usize) -> HeaderCount
     let mut n: usize = 0;
     loop {
         match extra_at(s, p) {
-            Extra::No => {
+            None => {
                 return HeaderCount { count: n, end: p };
             }
-            Extra::Got(_, next) => {
+            Some((_, next)) => {
                 p = next;
                 n += 1;
             }
@@ -98,11 +85,11 @@ fn count_headers(s: &[u8], at: usize) -> HeaderCount
 }
 
 // An author's or committer's line at a place: 11 where it is missing, 12 where its value has not the actor form.
-fn actor_at(s: &[u8], at: usize, word: &[u8], field: usize) -> Person
+fn actor_at(s: &[u8], at: usize, word: &[u8], field: usize) -> Result<(usize, usize), Refusal>
     ensures { result ≡ actor_at s.now at word.now field }
 {
     match value_line(s, at, word) {
-        Line::Missing => Person::Fails(Refusal {
+        None => Err(Refusal {
             verdict: Verdict {
                 number: COMMIT_FIELD,
                 place: at,
@@ -110,11 +97,11 @@ fn actor_at(s: &[u8], at: usize, word: &[u8], field: usize) -> Person
             },
             field: field,
         }),
-        Line::Value(from, to) => {
+        Some((from, to)) => {
             if is_actor(&s[from..to]) {
-                return Person::At(from, to);
+                return Ok((from, to));
             }
-            Person::Fails(Refusal {
+            Err(Refusal {
                 verdict: Verdict {
                     number: ACTOR,
                     place: at,
@@ -131,13 +118,13 @@ fn encoding_at(s: &[u8], at: usize) -> Encoding
     ensures { result ≡ encoding_at s.now at }
 {
     match value_line(s, at, b"encoding") {
-        Line::Missing => Encoding {
+        None => Encoding {
             mark: 0,
             start: 0,
             end: 0,
             next: at,
         },
-        Line::Value(from, to) => {
+        Some((from, to)) => {
             let next = to + 1;
             Encoding {
                 mark: 1,
@@ -150,7 +137,7 @@ fn encoding_at(s: &[u8], at: usize) -> Encoding
 }
 
 // What follows the committer's line: the encoding, the extra headers, the blank line and the message.
-fn ending(s: &[u8], n: usize, a: usize, e: usize, b: usize, f: usize) -> Outcome
+fn ending(s: &[u8], n: usize, a: usize, e: usize, b: usize, f: usize) -> Result<Found, Refusal>
     requires { f < length s.now }
     ensures { result ≡ ending_of s.now n a e b f }
 {
@@ -161,7 +148,7 @@ fn ending(s: &[u8], n: usize, a: usize, e: usize, b: usize, f: usize) -> Outcome
     if byte_at(s, end) == b'\n' {
         let message = end + 1;
         let all = s.len();
-        return Outcome::Whole(Found {
+        return Ok(Found {
             parents: n,
             headers: k.count,
             first: enc.next,
@@ -179,7 +166,7 @@ fn ending(s: &[u8], n: usize, a: usize, e: usize, b: usize, f: usize) -> Outcome
             },
         });
     }
-    Outcome::Fails(Refusal {
+    Err(Refusal {
         verdict: Verdict {
             number: COMMIT_FIELD,
             place: end,
@@ -190,23 +177,23 @@ fn ending(s: &[u8], n: usize, a: usize, e: usize, b: usize, f: usize) -> Outcome
 }
 
 // Author and committer after n parents, and what follows them.
-fn people(s: &[u8], n: usize, p: usize) -> Outcome
+fn people(s: &[u8], n: usize, p: usize) -> Result<Found, Refusal>
     ensures { result ≡ people_of s.now n p }
 {
     match actor_at(s, p, b"author", 2) {
-        Person::Fails(r) => Outcome::Fails(r),
-        Person::At(a, e) => {
+        Err(r) => Err(r),
+        Ok((a, e)) => {
             let q = e + 1;
             match actor_at(s, q, b"committer", 3) {
-                Person::Fails(x) => Outcome::Fails(x),
-                Person::At(b, f) => ending(s, n, a, e, b, f),
+                Err(x) => Err(x),
+                Ok((b, f)) => ending(s, n, a, e, b, f),
             }
         }
     }
 }
 
 // Where the parts stand, or the first field that fails.
-fn fields(s: &[u8], h: usize) -> Outcome
+fn fields(s: &[u8], h: usize) -> Result<Found, Refusal>
     requires { h ≤ 32 }
     ensures { result ≡ fields_of s.now h }
 {
@@ -216,7 +203,7 @@ fn fields(s: &[u8], h: usize) -> Outcome
         let p = at + n * (8 + 2 * h);
         return people(s, n, p);
     }
-    Outcome::Fails(Refusal {
+    Err(Refusal {
         verdict: Verdict {
             number: COMMIT_FIELD,
             ..FINE
@@ -226,18 +213,18 @@ fn fields(s: &[u8], h: usize) -> Outcome
 }
 
 // All that reading decides, before anything is stored: room for np parents and nh headers is lent.
-pub fn decide(s: &[u8], h: usize, np: usize, nh: usize) -> Outcome
+pub fn decide(s: &[u8], h: usize, np: usize, nh: usize) -> Result<Found, Refusal>
     ensures { result ≡ outcome_of s.now h np nh }
 {
     match bounds(h, s.len(), longer(np, nh)) {
-        Gate::Shut(verdict) => Outcome::Fails(Refusal { verdict, field: 0 }),
-        Gate::Open => match fields(s, h) {
-            Outcome::Fails(r) => Outcome::Fails(r),
-            Outcome::Whole(f) => {
+        Err(verdict) => Err(Refusal { verdict, field: 0 }),
+        Ok(()) => match fields(s, h) {
+            Err(r) => Err(r),
+            Ok(f) => {
                 let n = f.parents;
                 let m = f.headers;
                 if np < n {
-                    return Outcome::Fails(Refusal {
+                    return Err(Refusal {
                         verdict: Verdict {
                             number: FEW_RECORDS,
                             place: n,
@@ -247,7 +234,7 @@ pub fn decide(s: &[u8], h: usize, np: usize, nh: usize) -> Outcome
                     });
                 }
                 if nh < m {
-                    return Outcome::Fails(Refusal {
+                    return Err(Refusal {
                         verdict: Verdict {
                             number: FEW_RECORDS,
                             place: m,
@@ -256,7 +243,7 @@ pub fn decide(s: &[u8], h: usize, np: usize, nh: usize) -> Outcome
                         field: 0,
                     });
                 }
-                Outcome::Whole(f)
+                Ok(f)
             }
         },
     }

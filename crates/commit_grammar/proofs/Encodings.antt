@@ -13,14 +13,13 @@ use Rattle.ground.specs.Scan.{count_to, free_of}
 use Rattle.ground.proofs.Laws.{count_free, is_false}
 use Rattle.header.specs.Words.{encoding_word}
 use Rattle.commit_line.specs.Line.{word_at, line_at}
-use Rattle.commit_line.specs.declared.Line.{Line}
-use Rattle.commit_line.specs.declared.Line.TheVariants.{Value, Missing}
 use Rattle.commit_line.proofs.Laws.{line-no}
 use Rattle.commit_fields.specs.Fields.{encoding_at}
 use Rattle.commit_fields.specs.declared.Encoding as read
 use Rattle.commit_fields.proofs.Laws.{encoding-none, encoding-some}
 use Rattle.grammar.specs.Grammar.{Header, Encoding, absent, given, line, encoding_bytes, last_lf, header_bytes, headers_bytes, folded_lines, FoldedForm, HeaderForm, HeaderForms, EncodingForm, FirstForm}
 use Rattle.commit_grammar.proofs.Pieces.{line-onto, word_read, value_read, value-stands, value-part, line_after}
+use Rattle.std.specs.Prelude.{None, Option, Some}
 
 -- the encoding that a read one names
 abbrev pub encoding_named : List ℕ → read.Encoding → Encoding
@@ -64,7 +63,7 @@ pub record EncodingRead (s : List ℕ) (at : ℕ) (e : read.Encoding) : Type 0 w
   pub bytes : drop at s ≡ encoding_bytes (encoding_named s e) ++ drop e.next s
   pub first : (xs : List Header) (r : List ℕ) → HeaderForms xs → drop e.next s ≡ headers_bytes xs ++ r → FirstForm (encoding_named s e) xs
 
-none_first : (s : List ℕ) (at : ℕ) → line_at encoding_word s at ≡ Missing → (xs : List Header) (r : List ℕ) → HeaderForms xs
+none_first : (s : List ℕ) (at : ℕ) → line_at encoding_word s at ≡ None → (xs : List Header) (r : List ℕ) → HeaderForms xs
     → drop at s ≡ headers_bytes xs ++ r → FirstForm absent xs
 unfolding headers_bytes
 none_first s at q [] r f e = tt
@@ -79,9 +78,9 @@ pub encoding-read : (s : List ℕ) (at : ℕ) → EncodingRead s at (encoding_at
 unfolding encoding_bytes
 encoding-read s at = by (line_at encoding_word s at) refl
   where
-    by : (l : Line) → line_at encoding_word s at ≡ l → EncodingRead s at (encoding_at s at)
-    by Missing q = rw (encoding-none s at q) (record { form = tt; bytes = refl; first = none_first s at q })
-    by (Value a e) q =
+    by : (l : Option (ℕ × ℕ)) → line_at encoding_word s at ≡ l → EncodingRead s at (encoding_at s at)
+    by None q = rw (encoding-none s at q) (record { form = tt; bytes = refl; first = none_first s at q })
+    by (Some (a, e)) q =
         let k = value_read encoding_word s at a e q in
         rw (encoding-some s at a e q) (record { form = k.0; bytes = k.1; first = λ xs r f g. tt })
 

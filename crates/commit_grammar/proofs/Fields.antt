@@ -15,9 +15,7 @@ use Rattle.commit_line.proofs.Laws.{id-line-no}
 use Rattle.commit_fields.specs.Parents.{parent_at, parent_starts}
 use Rattle.commit_fields.specs.Headers.{heads, records_of, tally}
 use Rattle.commit_fields.specs.Fields.{actor_at, encoding_at, found_of, fields_of}
-use Rattle.commit_fields.specs.declared.Person.TheVariants as person
 use Rattle.commit_fields.specs.declared.Found.{Found}
-use Rattle.commit_fields.specs.declared.Outcome.TheVariants.{Whole}
 use Rattle.commit_fields.proofs.Laws.{actor_good, actor_parts, ending-is, people-both, fields-are, Parts, fields-parts, blank_fits, tally-count}
 use Rattle.grammar.specs.Grammar.{Header, Encoding, Commit, line, parents_bytes, encoding_bytes, headers_bytes, commit_bytes, CommitForm}
 use Rattle.grammar.specs.Named.{id_named, header_named, commit_of}
@@ -25,6 +23,7 @@ use Rattle.commit_grammar.proofs.Pieces.{cut, part_none, after, byte-is, byte-af
 use Rattle.commit_grammar.proofs.Parents.{parents-read, parents_stand}
 use Rattle.commit_grammar.proofs.Headers.{headers-read, headers_stand}
 use Rattle.commit_grammar.proofs.Encodings.{encoding_named, encoding-read, encoding-stands}
+use Rattle.std.specs.Prelude.{Ok}
 
 -- the commit that was found
 abbrev pub found_commit : ℕ → List ℕ → Found → Commit
@@ -32,14 +31,14 @@ found_commit h s x = commit_of h s x.parts (parent_starts x.parents h (6 + 2 * h
 
 -- ---- an author's or committer's line
 
-actor_read : (s : List ℕ) (at : ℕ) (w : List ℕ) (field a e : ℕ) → actor_at s at w field ≡ person.At a e
+actor_read : (s : List ℕ) (at : ℕ) (w : List ℕ) (field a e : ℕ) → actor_at s at w field ≡ Ok (a, e)
     → ActorForm (part a e s) × (drop at s ≡ line w (part a e s) ++ drop (e + 1) s)
 actor_read s at w field a e q =
     let k = actor_parts s at w field a e q in
     (actor_form (part a e s) k.1, (value_read w s at a e k.0).1)
 
 actor_stands : (s : List ℕ) (at : ℕ) (w : List ℕ) (field : ℕ) (v r : List ℕ) → ActorForm v → drop at s ≡ line w v ++ r
-    → actor_at s at w field ≡ person.At (at + length w + 1) (at + length w + 1 + length v)
+    → actor_at s at w field ≡ Ok (at + length w + 1, at + length w + 1 + length v)
 actor_stands s at w field v r f e =
     actor_good s at w field _ _ (value-stands w s at v r (actor_one-line v f) e) (rw (value-part s at w v r e) (form_actor v f))
 
@@ -86,7 +85,7 @@ found-whole s h x k =
     )
 
 -- what reading finds in some bytes is a commit, and the bytes are its bytes
-pub found-is-commit : (s : List ℕ) (h : ℕ) (x : Found) → fields_of s h ≡ Whole x → (s ≡ commit_bytes (found_commit h s x)) × CommitForm h (found_commit h s x)
+pub found-is-commit : (s : List ℕ) (h : ℕ) (x : Found) → fields_of s h ≡ Ok x → (s ≡ commit_bytes (found_commit h s x)) × CommitForm h (found_commit h s x)
 found-is-commit s h x q = found-whole s h x (fields-parts s h x q)
 
 -- ---- a commit is found
@@ -110,7 +109,7 @@ no_parent h s at v r e = id-line-no parent_word h s at (is_false (word_at parent
 
 pub record CommitFound (h : ℕ) (s : List ℕ) (c : Commit) : Type 0 where
   pub found : Found
-  pub read : fields_of s h ≡ Whole found
+  pub read : fields_of s h ≡ Ok found
   pub named_is : found_commit h s found ≡ c
   pub parents_are : found.parents ≡ length c.parents
   pub headers_are : found.headers ≡ length (records_of (heads s found.first))
@@ -153,7 +152,7 @@ commit-is-found h s c k t0 =
     let e6 : drop count.end s ≡ 10 ∷ c.message =
     ap (λ (i : ℕ). drop i s) hs.end_is ∙ after s enc.next (headers_bytes c.headers) (10 ∷ c.message) es.rest in
     let x = found_of s n a e b f enc count in
-    let read : fields_of s h ≡ Whole x =
+    let read : fields_of s h ≡ Ok x =
     fields-are s h tree n (sym ps.counted)
     ∙ people-both s n p a e author b f committer
     ∙ ending-is s n a e b f enc count refl refl (byte-is s count.end 10 c.message e6) in

@@ -15,8 +15,6 @@ use Rattle.actor.proofs.Form.{free_both}
 use Rattle.extra_header.specs.Extra.{fold_from, fold_end, extra_at}
 use Rattle.header.specs.Record.{header_of}
 use Rattle.header.specs.declared.HeaderRecord.{HeaderRecord}
-use Rattle.extra_header.specs.declared.Extra.{Extra}
-use Rattle.extra_header.specs.declared.Extra.TheVariants.{Got, No}
 use Rattle.extra_header.proofs.Laws.{fold_within, extra_unnamed, extra_bare, extra_folded, extra_line, extra_parts, extra_next}
 use Rattle.commit_fields.specs.Headers.{Heads, ended, header, heads_from, rest_heads, tally, records_of}
 use Rattle.commit_fields.proofs.Laws.{heads_end, heads-more}
@@ -25,6 +23,7 @@ use Rattle.grammar.specs.Named.{header_named}
 use Rattle.grammar.proofs.Laws.{part_length}
 use Rattle.commit_grammar.proofs.Pieces.{below, piece, cut, cut-part, after, part-is, byte-is, byte_inside, byte-after, free_left, free_right, free_part, place_is, place_after}
 use Rattle.commit_grammar.proofs.Folded.{Folds, folds_read, folds_some, folds_stand}
+use Rattle.std.specs.Prelude.{None, Option, Some}
 
 -- ---- one header, read
 
@@ -121,7 +120,7 @@ module _ (s : List ℕ) (at : ℕ) where
           })
 
   -- what is read has the form, and stands there with its bytes
-  pub header_read : (x : HeaderRecord) (next : ℕ) → extra_at s at ≡ Got x next → HeaderRead s at (header_named s x) next
+  pub header_read : (x : HeaderRecord) (next : ℕ) → extra_at s at ≡ Some (x, next) → HeaderRead s at (header_named s x) next
   header_read x next e =
       let k = extra_parts s at x next e in
       header-read-by k.space k.lf k.end k.space_is k.lf_is k.end_is k.named k.spaced k.ended x next k.read
@@ -132,7 +131,7 @@ module _ (s : List ℕ) (at : ℕ) where
 pub record HeaderStands (s : List ℕ) (at : ℕ) (x : Header) : Type 0 where
   pub found : HeaderRecord
   pub next : ℕ
-  pub read : extra_at s at ≡ Got found next
+  pub read : extra_at s at ≡ Some (found, next)
   pub next-is : next ≡ at + length (header_bytes x)
   pub named_is : header_named s found ≡ x
 
@@ -251,11 +250,11 @@ header-stands s at x r f k e = by f.valued
 -- ---- all headers, read
 
 -- one step of the headers: none, or one and those behind it
-pub from-none : (left : ℕ) (s : List ℕ) (at : ℕ) → extra_at s at ≡ No → heads_from (suc left) s at ≡ ended at
+pub from-none : (left : ℕ) (s : List ℕ) (at : ℕ) → extra_at s at ≡ None → heads_from (suc left) s at ≡ ended at
 unfolding heads_from
 from-none left s at e = rw (e, heads_from)
 
-pub from_more : (left : ℕ) (s : List ℕ) (at : ℕ) (x : HeaderRecord) (next : ℕ) → extra_at s at ≡ Got x next
+pub from_more : (left : ℕ) (s : List ℕ) (at : ℕ) (x : HeaderRecord) (next : ℕ) → extra_at s at ≡ Some (x, next)
     → heads_from (suc left) s at ≡ header x (heads_from left s next)
 unfolding heads_from
 from_more left s at x next e = rw (e, heads_from)
@@ -287,16 +286,16 @@ headers-one s at x next l m q f g =
           ∙ sym (append_assoc (header_bytes (header_named s x)) (headers_bytes (map (header_named s) (records_of m))) (drop (tally (0 + 1) m).end s));
     })
 
-past-none : (s : List ℕ) (at : ℕ) → length s ≤ at → extra_at s at ≡ No
+past-none : (s : List ℕ) (at : ℕ) → length s ≤ at → extra_at s at ≡ None
 past-none s at h = extra_unnamed s at at (place_from 10 s at) (sym (place_end 32 s at h)) refl (omega arith)
 
 pub headers-read-from : (left : ℕ) (s : List ℕ) (at n : ℕ) → length s ≤ at + left → n ≤ at → HeadersRead s at (rest_heads s at n)
 headers-read-from zero s at n p q = headers-none s at _ (heads_end s at n (past-none s at (omega arith)))
 headers-read-from (suc left) s at n p q = by (extra_at s at) refl (λ next k. headers-read-from left s next (n + 1) (omega arith) (omega arith))
   where
-    by : (x : Extra) → extra_at s at ≡ x → ((next : ℕ) → at < next → HeadersRead s next (rest_heads s next (n + 1))) → HeadersRead s at (rest_heads s at n)
-    by No e ih = headers-none s at _ (heads_end s at n e)
-    by (Got x next) e ih =
+    by : (x : Option (HeaderRecord × ℕ)) → extra_at s at ≡ x → ((next : ℕ) → at < next → HeadersRead s next (rest_heads s next (n + 1))) → HeadersRead s at (rest_heads s at n)
+    by None e ih = headers-none s at _ (heads_end s at n e)
+    by (Some (x, next)) e ih =
         let k = extra_next s at e in
         headers-one s at x next _ _ (heads-more s at n (omega (arith, k)) e) (header_read s at x next e) (ih next k.0)
 
@@ -324,13 +323,13 @@ pub record HeadersStand (s : List ℕ) (at : ℕ) (l : Heads) (xs : List Header)
   pub named_are : map (header_named s) (records_of l) ≡ xs
   pub end_is : (tally 0 l).end ≡ at + length (headers_bytes xs)
 
-blank_none : (s : List ℕ) (at : ℕ) (m : List ℕ) → drop at s ≡ 10 ∷ m → extra_at s at ≡ No
+blank_none : (s : List ℕ) (at : ℕ) (m : List ℕ) → drop at s ≡ 10 ∷ m → extra_at s at ≡ None
 blank_none s at m e = by (below at (place_from 32 s at))
   where
     lf : at ≡ place_from 10 s at
     lf = sym (place_here 10 s at (byte_inside s at 10 m e) (byte-is s at 10 m e))
 
-    by : (at < place_from 32 s at) ⊎ (place_from 32 s at ≤ at) → extra_at s at ≡ No
+    by : (at < place_from 32 s at) ⊎ (place_from 32 s at ≤ at) → extra_at s at ≡ None
     by (inl a) = extra_bare s at (place_from 32 s at) at refl lf a (omega arith)
     by (inr b) = extra_unnamed s at (place_from 32 s at) at refl lf b
 

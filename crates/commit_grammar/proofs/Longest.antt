@@ -14,11 +14,7 @@ use Rattle.header.specs.Words.{encoding_word}
 use Rattle.commit_line.specs.Line.{line_at}
 use Rattle.extra_header.specs.Extra.{fold_from, fold_end, extra_at}
 use Rattle.header.specs.Record.{header_of}
-use Rattle.commit_line.specs.declared.Line.{Line}
-use Rattle.commit_line.specs.declared.Line.TheVariants.{Value, Missing}
 use Rattle.header.specs.declared.HeaderRecord.{HeaderRecord}
-use Rattle.extra_header.specs.declared.Extra.{Extra}
-use Rattle.extra_header.specs.declared.Extra.TheVariants.{Got, No}
 use Rattle.extra_header.proofs.Laws.{fold_end_here, fold_other, fold_open, fold_next, fold_within, extra_unnamed, extra_folded, extra_line, extra_parts, extra_next}
 use Rattle.commit_fields.specs.Headers.{Heads, ended, header, rest_heads, tally, records_of}
 use Rattle.commit_fields.specs.Fields.{encoding_at}
@@ -60,6 +56,7 @@ use Rattle.commit_grammar.proofs.Headers.{
   stand_one,
 }
 use Rattle.commit_grammar.proofs.Encodings.{first_line, EncodingStands, same_name}
+use Rattle.std.specs.Prelude.{None, Option, Some}
 
 -- the first byte of what follows a place
 pub byte_front : (s : List ℕ) (at : ℕ) → get_or s at 0 ≡ get_or (drop at s) 0 0
@@ -134,7 +131,7 @@ not_passed s r n i q e = by (below i (fold_end s i))
 
 -- ---- no header
 
-no_header : (s : List ℕ) (at : ℕ) → extra_at s at ≡ No → NoHeader (drop at s)
+no_header : (s : List ℕ) (at : ℕ) → extra_at s at ≡ None → NoHeader (drop at s)
 no_header s at q x r f e =
     let g = first_line x r f in
     let n = x.name in
@@ -151,16 +148,16 @@ no_header s at q x r f e =
     by space lf a b c d i (inl p) = let z : ◌≡◌ {A = ℕ} 0 1 = cc (extra_folded s at space lf a b c d i (fold_end s (lf + 1)) refl p) in omega arith
     by space lf a b c d i (inr p) = let z : ◌≡◌ {A = ℕ} 0 1 = cc (extra_line s at space lf a b c d i (fold_end s (lf + 1)) refl p) in omega arith
 
-none-there : (s : List ℕ) (at : ℕ) → NoHeader (drop at s) → extra_at s at ≡ No
+none-there : (s : List ℕ) (at : ℕ) → NoHeader (drop at s) → extra_at s at ≡ None
 none-there s at n = by (extra_at s at) refl
   where
-    by : (x : Extra) → extra_at s at ≡ x → x ≡ No
-    by No q = refl
-    by (Got x next) q = let k = header_read s at x next q in absurd (n (header_named s x) (drop next s) k.form k.bytes)
+    by : (x : Option (HeaderRecord × ℕ)) → extra_at s at ≡ x → x ≡ None
+    by None q = refl
+    by (Some (x, next)) q = let k = header_read s at x next q in absurd (n (header_named s x) (drop next s) k.form k.bytes)
 
 -- ---- read
 
-taken-read : (s : List ℕ) (at : ℕ) (x : HeaderRecord) (next : ℕ) → extra_at s at ≡ Got x next → Taken (header_named s x) (drop next s)
+taken-read : (s : List ℕ) (at : ℕ) (x : HeaderRecord) (next : ℕ) → extra_at s at ≡ Some (x, next) → Taken (header_named s x) (drop next s)
 taken-read s at x next q = let k = extra_parts s at x next q in by k.lf k.end k.space k.end_is k.read
   where
     by : (lf end space : ℕ) → end ≡ fold_end s (lf + 1)
@@ -187,7 +184,7 @@ unfolding tally
 tally-any m n (ended at) = refl
 tally-any m n (header x l) = tally-any (m + 1) (n + 1) l
 
-ends-none : (s : List ℕ) (at : ℕ) (l : Heads) → l ≡ ended at → extra_at s at ≡ No → Ends s l
+ends-none : (s : List ℕ) (at : ℕ) (l : Heads) → l ≡ ended at → extra_at s at ≡ None → Ends s l
 unfolding tally records_of
 ends-none s at l q e = rw q (record { taken = tt; longest = no_header s at e })
 
@@ -203,16 +200,16 @@ ends-one s x l m q t g =
       longest = subst (λ (i : ℕ). NoHeader (drop i s)) z g.longest;
     })
 
-past-none : (s : List ℕ) (at : ℕ) → length s ≤ at → extra_at s at ≡ No
+past-none : (s : List ℕ) (at : ℕ) → length s ≤ at → extra_at s at ≡ None
 past-none s at h = extra_unnamed s at at (place_from 10 s at) (sym (place_end 32 s at h)) refl (omega arith)
 
 ends-from : (left : ℕ) (s : List ℕ) (at n : ℕ) → length s ≤ at + left → n ≤ at → Ends s (rest_heads s at n)
 ends-from zero s at n p q = ends-none s at _ (heads_end s at n (past-none s at (omega arith))) (past-none s at (omega arith))
 ends-from (suc left) s at n p q = by (extra_at s at) refl (λ next k. ends-from left s next (n + 1) (omega arith) (omega arith))
   where
-    by : (x : Extra) → extra_at s at ≡ x → ((next : ℕ) → at < next → Ends s (rest_heads s next (n + 1))) → Ends s (rest_heads s at n)
-    by No e ih = ends-none s at _ (heads_end s at n e) e
-    by (Got x next) e ih =
+    by : (x : Option (HeaderRecord × ℕ)) → extra_at s at ≡ x → ((next : ℕ) → at < next → Ends s (rest_heads s next (n + 1))) → Ends s (rest_heads s at n)
+    by None e ih = ends-none s at _ (heads_end s at n e) e
+    by (Some (x, next)) e ih =
         let k = extra_next s at e in
         let b = headers-read-from left s next (n + 1) (omega (arith, k)) (omega (arith, k)) in
         ends-one s x _ _ (heads-more s at n (omega (arith, k)) e) (subst (Taken (header_named s x)) b.bytes (taken-read s at x next e)) (ih next k.0)
@@ -263,9 +260,9 @@ pub encoding-taken : (s : List ℕ) (at : ℕ) (c : Encoding) (xs : List Header)
 unfolding encoding_bytes
 encoding-taken s at absent xs r f g k l e = by (line_at encoding_word s at) refl
   where
-    by : (m : Line) → line_at encoding_word s at ≡ m → EncodingStands s (encoding_at s at) absent (headers_bytes xs ++ r)
-    by Missing q = rw (encoding-none s at q) (record { named_is = refl; rest = e })
-    by (Value a b) q = let w = value_read encoding_word s at a b q in absurd (no-encoding xs (part a b s) r (drop (b + 1) s) w.0 g k l (sym e ∙ w.1))
+    by : (m : Option (ℕ × ℕ)) → line_at encoding_word s at ≡ m → EncodingStands s (encoding_at s at) absent (headers_bytes xs ++ r)
+    by None q = rw (encoding-none s at q) (record { named_is = refl; rest = e })
+    by (Some (a, b)) q = let w = value_read encoding_word s at a b q in absurd (no-encoding xs (part a b s) r (drop (b + 1) s) w.0 g k l (sym e ∙ w.1))
 encoding-taken s at (given v) xs r f g k l e =
     let b = headers_bytes xs ++ r in
     let w = value-stands encoding_word s at v b f e in

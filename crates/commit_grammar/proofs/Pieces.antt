@@ -16,10 +16,10 @@ use Rattle.ground.specs.Scan.{count_to, place_from, same_bytes, free_of}
 use Rattle.ground.proofs.Laws.{and_left, and_right, count-is, count_free, free-count, place-from, same_refl, same_true}
 use Rattle.hex_digits.specs.Hex.{is_hex}
 use Rattle.commit_line.specs.Line.{word_at, id_from, id_at, line_at}
-use Rattle.commit_line.specs.declared.Line.TheVariants.{Value}
 use Rattle.commit_line.proofs.Laws.{word-is, word_fits, id-yes, id-fits, id-line-is, id-line-parts, line-value, line-parts}
 use Rattle.grammar.specs.Grammar.{line, HexForm}
 use Rattle.grammar.proofs.Laws.{part_length}
+use Rattle.std.specs.Prelude.{Some}
 
 -- ---- pieces
 
@@ -147,7 +147,7 @@ module _ (w : List ℕ) (h : ℕ) (s : List ℕ) (at : ℕ) where
 
 -- the line of a value: read, and standing
 module _ (w s : List ℕ) (at : ℕ) where
-  pub value_read : (a e : ℕ) → line_at w s at ≡ Value a e → (free_of 10 (part a e s) ≡ true) × (drop at s ≡ line w (part a e s) ++ drop (e + 1) s)
+  pub value_read : (a e : ℕ) → line_at w s at ≡ Some (a, e) → (free_of 10 (part a e s) ≡ true) × (drop at s ≡ line w (part a e s) ++ drop (e + 1) s)
   value_read a e q =
       let k = line-parts w s at a e q in
       let j : e ≡ place_from 10 s a = k.2 ∙ ap (place_from 10 s) (sym k.1) in
@@ -158,7 +158,7 @@ module _ (w s : List ℕ) (at : ℕ) where
             ∙ sym (line-onto w (part a e s) (drop (e + 1) s)),
       )
 
-  pub value-stands : (v r : List ℕ) → free_of 10 v ≡ true → drop at s ≡ line w v ++ r → line_at w s at ≡ Value (at + length w + 1) (at + length w + 1 + length v)
+  pub value-stands : (v r : List ℕ) → free_of 10 v ≡ true → drop at s ≡ line w v ++ r → line_at w s at ≡ Some (at + length w + 1, at + length w + 1 + length v)
   value-stands v r f e =
       let q = e ∙ line-onto w v r in
       let from = at + length w + 1 in

@@ -20,10 +20,6 @@ use Rattle.header.specs.Words.{tree_word, parent_word, author_word, committer_wo
 use Rattle.commit_line.specs.Line.{id_at, line_at}
 use Rattle.extra_header.specs.Extra.{extra_at}
 use Rattle.header.specs.Record.{width}
-use Rattle.commit_line.specs.declared.Line.{Line}
-use Rattle.commit_line.specs.declared.Line.TheVariants.{Value, Missing}
-use Rattle.extra_header.specs.declared.Extra.{Extra}
-use Rattle.extra_header.specs.declared.Extra.TheVariants.{Got, No}
 use Rattle.commit_line.proofs.Laws.{line-parts, line-fits}
 use Rattle.extra_header.proofs.Laws.{extra_next}
 use Rattle.commit_fields.specs.Parents.{parent_at, parents_from, rest_parents, parent_count, parent_starts}
@@ -31,11 +27,8 @@ use Rattle.commit_fields.specs.Headers.{Heads, heads_from, rest_heads, heads, re
 use Rattle.commit_fields.specs.Fields.{refusal, actor_at, encoding_at, ending_of, people_of, fields_of}
 use Rattle.commit_read.specs.Read.{refused_read, commit_answer, commit_outcome}
 use Rattle.commit_fields.specs.declared.Refusal.{Refusal}
-use Rattle.commit_fields.specs.declared.Person.TheVariants as person
 use Rattle.commit_fields.specs.declared.Found.{Found}
 use Rattle.commit_read.specs.declared.CommitRead.{CommitRead}
-use Rattle.commit_fields.specs.declared.Outcome.{Outcome}
-use Rattle.commit_fields.specs.declared.Outcome.TheVariants.{Whole, Fails}
 use Rattle.commit_fields.proofs.Laws.{parent_fits, parents-fit, actor_missing, actor_bad, actor_good, actor_fits, encoding-none, encoding-some, ending-no, ending-is, people-author, people-committer, people-both, fields-no, fields-are, tree-fits, outcome_field, outcome_parents, outcome_headers, outcome_whole}
 use Rattle.commit_read.proofs.Laws.{answer_fails, answer-whole}
 use Rattle.grammar.specs.Grammar.{line, parents_bytes, encoding_bytes, headers_bytes, HexForms}
@@ -59,6 +52,8 @@ use Rattle.commit_grammar.proofs.Headers.{from-none, from_more, headers-read}
 use Rattle.commit_grammar.proofs.Encodings.{encoding_named, encoding-read}
 use Rattle.commit_grammar.proofs.Longest.{byte_front, ends_read, headers-taken, encoding-taken}
 use Rattle.commit_grammar.proofs.Fields.{found_commit, found-is-commit, commit-is-found}
+use Rattle.header.specs.declared.HeaderRecord.{HeaderRecord}
+use Rattle.std.specs.Prelude.{Err, None, Ok, Option, Result, Some}
 
 -- ---- lines that do not stand
 
@@ -70,15 +65,15 @@ module _ (w : List ℕ) (h : ℕ) (s : List ℕ) (at : ℕ) where
   at_none n = is_false (id_at w h s at) (λ e. let k = id-read w h s at e in n _ _ k.0 k.1)
 
 module _ (w s : List ℕ) (at : ℕ) where
-  missing-none : line_at w s at ≡ Missing → NoLine w (drop at s)
+  missing-none : line_at w s at ≡ None → NoLine w (drop at s)
   missing-none q v r f e = let k = value-stands w s at v r f e in let z : ◌≡◌ {A = ℕ} 0 1 = cc in omega arith
 
-  none-missing : NoLine w (drop at s) → line_at w s at ≡ Missing
+  none-missing : NoLine w (drop at s) → line_at w s at ≡ None
   none-missing n = by (line_at w s at) refl
     where
-      by : (l : Line) → line_at w s at ≡ l → l ≡ Missing
-      by Missing q = refl
-      by (Value a e) q = let k = value_read w s at a e q in absurd (n (part a e s) (drop (e + 1) s) k.0 k.1)
+      by : (l : Option (ℕ × ℕ)) → line_at w s at ≡ l → l ≡ None
+      by None q = refl
+      by (Some (a, e)) q = let k = value_read w s at a e q in absurd (n (part a e s) (drop (e + 1) s) k.0 k.1)
 
 -- ---- an author's or committer's line
 
@@ -89,16 +84,16 @@ record There (w s : List ℕ) (at a e : ℕ) : Type 0 where
   size : at + length (line w (part a e s)) ≡ e + 1
 
 data PersonWay (w s : List ℕ) (at field : ℕ) : Type 0 where
-  missing : NoLine w (drop at s) → actor_at s at w field ≡ person.Fails (refusal 11 at field) → PersonWay w s at field
-  formless : BadActor w (drop at s) → actor_at s at w field ≡ person.Fails (refusal 12 at 0) → PersonWay w s at field
-  there : (a e : ℕ) → There w s at a e → actor_at s at w field ≡ person.At a e → PersonWay w s at field
+  missing : NoLine w (drop at s) → actor_at s at w field ≡ Err (refusal 11 at field) → PersonWay w s at field
+  formless : BadActor w (drop at s) → actor_at s at w field ≡ Err (refusal 12 at 0) → PersonWay w s at field
+  there : (a e : ℕ) → There w s at a e → actor_at s at w field ≡ Ok (a, e) → PersonWay w s at field
 
 person_way : (w s : List ℕ) (at field : ℕ) → PersonWay w s at field
 person_way w s at field = by (line_at w s at) refl
   where
-    by : (l : Line) → line_at w s at ≡ l → PersonWay w s at field
-    by Missing q = missing (missing-none w s at q) (actor_missing s at w field q)
-    by (Value a e) q = go (is_actor (part a e s)) refl
+    by : (l : Option (ℕ × ℕ)) → line_at w s at ≡ l → PersonWay w s at field
+    by None q = missing (missing-none w s at q) (actor_missing s at w field q)
+    by (Some (a, e)) q = go (is_actor (part a e s)) refl
       where
         go : (b : Bool) → is_actor (part a e s) ≡ b → PersonWay w s at field
         go false b =
@@ -126,17 +121,17 @@ person_way w s at field = by (line_at w s at) refl
 
 -- what stands is read
 module _ (w s : List ℕ) (at field : ℕ) where
-  none_read : NoLine w (drop at s) → actor_at s at w field ≡ person.Fails (refusal 11 at field)
+  none_read : NoLine w (drop at s) → actor_at s at w field ≡ Err (refusal 11 at field)
   none_read n = actor_missing s at w field (none-missing w s at n)
 
-  bad-read : BadActor w (drop at s) → actor_at s at w field ≡ person.Fails (refusal 12 at 0)
+  bad-read : BadActor w (drop at s) → actor_at s at w field ≡ Err (refusal 12 at 0)
   bad-read b =
       let v = b.value in
       let p : part (at + length w + 1) (at + length w + 1 + length v) s ≡ v = value-part s at w v b.rest b.whole in
       actor_bad s at w field _ _ (value-stands w s at v b.rest b.one_line b.whole)
       (ap is_actor p ∙ is_false (is_actor v) (λ e. b.formless (actor_form v e)))
 
-  good-read : (v r : List ℕ) → ActorForm v → drop at s ≡ line w v ++ r → actor_at s at w field ≡ person.At (at + length w + 1) (at + length w + 1 + length v)
+  good-read : (v r : List ℕ) → ActorForm v → drop at s ≡ line w v ++ r → actor_at s at w field ≡ Ok (at + length w + 1, at + length w + 1 + length v)
   good-read v r f e =
       actor_good s at w field _ _ (value-stands w s at v r (actor_one-line v f) e) (ap is_actor (value-part s at w v r e) ∙ form_actor v f)
 
@@ -237,7 +232,7 @@ record AuthorFrom (h : ℕ) (s : List ℕ) (k : ℕ) (r : List ℕ) : Type 0 whe
   a : ℕ
   e : ℕ
   go_on : fields_of s h ≡ people_of s count start
-  author : actor_at s start author_word 2 ≡ person.At a e
+  author : actor_at s start author_word 2 ≡ Ok (a, e)
   next : e + 1 ≡ k
   rest : drop k s ≡ r
 
@@ -261,13 +256,13 @@ author-from h s k r A =
 -- ---- every way through the fields
 
 data Way (h : ℕ) (s : List ℕ) : Type 0 where
-  treeless : NoIdLine tree_word h s → fields_of s h ≡ Fails (refusal 11 0 1) → Way h s
-  authorless : (k : ℕ) (r : List ℕ) → AfterParents h s k r → NoLine author_word r → fields_of s h ≡ Fails (refusal 11 k 2) → Way h s
-  bad-author : (k : ℕ) (r : List ℕ) → AfterParents h s k r → BadActor author_word r → fields_of s h ≡ Fails (refusal 12 k 0) → Way h s
-  committerless : (k : ℕ) (r : List ℕ) → AfterAuthor h s k r → NoLine committer_word r → fields_of s h ≡ Fails (refusal 11 k 3) → Way h s
-  bad-committer : (k : ℕ) (r : List ℕ) → AfterAuthor h s k r → BadActor committer_word r → fields_of s h ≡ Fails (refusal 12 k 0) → Way h s
-  blankless : (k : ℕ) (r : List ℕ) → AfterHeaders h s k r → (get_or r 0 0 ≡ 10 → ⊥) → fields_of s h ≡ Fails (refusal 11 k 4) → Way h s
-  whole : (x : Found) → fields_of s h ≡ Whole x → Way h s
+  treeless : NoIdLine tree_word h s → fields_of s h ≡ Err (refusal 11 0 1) → Way h s
+  authorless : (k : ℕ) (r : List ℕ) → AfterParents h s k r → NoLine author_word r → fields_of s h ≡ Err (refusal 11 k 2) → Way h s
+  bad-author : (k : ℕ) (r : List ℕ) → AfterParents h s k r → BadActor author_word r → fields_of s h ≡ Err (refusal 12 k 0) → Way h s
+  committerless : (k : ℕ) (r : List ℕ) → AfterAuthor h s k r → NoLine committer_word r → fields_of s h ≡ Err (refusal 11 k 3) → Way h s
+  bad-committer : (k : ℕ) (r : List ℕ) → AfterAuthor h s k r → BadActor committer_word r → fields_of s h ≡ Err (refusal 12 k 0) → Way h s
+  blankless : (k : ℕ) (r : List ℕ) → AfterHeaders h s k r → (get_or r 0 0 ≡ 10 → ⊥) → fields_of s h ≡ Err (refusal 11 k 4) → Way h s
+  whole : (x : Found) → fields_of s h ≡ Ok x → Way h s
 
 -- ---- the end of the headers lies within the bytes
 
@@ -276,17 +271,17 @@ unfolding heads_from tally
 within zero s at m p = p
 within (suc left) s at m p = by (extra_at s at) refl (λ next q. within left s next (m + 1) q)
   where
-    by : (x : Extra) → extra_at s at ≡ x → ((next : ℕ) → next ≤ length s → (tally (m + 1) (heads_from left s next)).end ≤ length s)
+    by : (x : Option (HeaderRecord × ℕ)) → extra_at s at ≡ x → ((next : ℕ) → next ≤ length s → (tally (m + 1) (heads_from left s next)).end ≤ length s)
         → (tally m (heads_from (suc left) s at)).end ≤ length s
-    by No q ih = subst (λ (l : Heads). (tally m l).end ≤ length s) (sym (from-none left s at q)) p
-    by (Got x next) q ih = subst (λ (l : Heads). (tally m l).end ≤ length s) (sym (from_more left s at x next q)) (ih next (extra_next s at q).1)
+    by None q ih = subst (λ (l : Heads). (tally m l).end ≤ length s) (sym (from-none left s at q)) p
+    by (Some (x, next)) q ih = subst (λ (l : Heads). (tally m l).end ≤ length s) (sym (from_more left s at x next q)) (ih next (extra_next s at q).1)
 
 encoding-within : (s : List ℕ) (at : ℕ) → at ≤ length s → (encoding_at s at).next ≤ length s
 encoding-within s at p = by (line_at encoding_word s at) refl
   where
-    by : (l : Line) → line_at encoding_word s at ≡ l → (encoding_at s at).next ≤ length s
-    by Missing q = rw (encoding-none s at q) p
-    by (Value a e) q = rw (encoding-some s at a e q) (omega (arith, (line-fits encoding_word s at a e q).1))
+    by : (l : Option (ℕ × ℕ)) → line_at encoding_word s at ≡ l → (encoding_at s at).next ≤ length s
+    by None q = rw (encoding-none s at q) p
+    by (Some (a, e)) q = rw (encoding-some s at a e q) (omega (arith, (line-fits encoding_word s at a e q).1))
 
 headers-within : (s : List ℕ) (at : ℕ) → at ≤ length s → (tally 0 (heads s at)).end ≤ length s
 unfolding rest_heads
@@ -339,7 +334,7 @@ module _ (h : ℕ) (s : List ℕ) where
           (λ z. g (byte_front s (tally 0 (heads s (encoding_at s (f + 1)).next)).end ∙ z))
           (q ∙ ending-no s c a e b f (encoding_at s (f + 1)) (tally 0 (heads s (encoding_at s (f + 1)).next)) refl refl g)
 
-  committer_way : (c p a e : ℕ) → fields_of s h ≡ people_of s c p → actor_at s p author_word 2 ≡ person.At a e → AfterAuthor h s (e + 1) (drop (e + 1) s) → Way h s
+  committer_way : (c p a e : ℕ) → fields_of s h ≡ people_of s c p → actor_at s p author_word 2 ≡ Ok (a, e) → AfterAuthor h s (e + 1) (drop (e + 1) s) → Way h s
   committer_way c p a e q u A = by (person_way committer_word s (e + 1) 3)
     where
       by : PersonWay committer_word s (e + 1) 3 → Way h s
@@ -374,7 +369,7 @@ record Same (n k f m j g : ℕ) : Type 0 where
   place : k ≡ j
   field : f ≡ g
 
-same : (s : List ℕ) (h n k f m j g : ℕ) → fields_of s h ≡ Fails (refusal n k f) → fields_of s h ≡ Fails (refusal m j g) → Same n k f m j g
+same : (s : List ℕ) (h n k f m j g : ℕ) → fields_of s h ≡ Err (refusal n k f) → fields_of s h ≡ Err (refusal m j g) → Same n k f m j g
 same s h n k f m j g p q =
     let z : refusal n k f ≡ refusal m j g = cc in
     record {
@@ -383,11 +378,11 @@ same s h n k f m j g p q =
       field = ap (λ (x : Refusal). x.field) z;
     }
 
-never : {A : Type 0} (s : List ℕ) (h : ℕ) (x : Found) (r : Refusal) → fields_of s h ≡ Whole x → fields_of s h ≡ Fails r → A
+never : {A : Type 0} (s : List ℕ) (h : ℕ) (x : Found) (r : Refusal) → fields_of s h ≡ Ok x → fields_of s h ≡ Err r → A
 never s h x r p q = let z : ◌≡◌ {A = ℕ} 0 1 = cc in absurd (omega arith)
 
 module _ (s : List ℕ) (h k : ℕ) where
-  to_treeless : fields_of s h ≡ Fails (refusal 11 k 1) → (k ≡ 0) × NoIdLine tree_word h s
+  to_treeless : fields_of s h ≡ Err (refusal 11 k 1) → (k ≡ 0) × NoIdLine tree_word h s
   to_treeless q = by (way h s)
     where
       by : Way h s → (k ≡ 0) × NoIdLine tree_word h s
@@ -399,7 +394,7 @@ module _ (s : List ℕ) (h k : ℕ) where
       by (blankless j r A x w) = absurd (omega (arith, (same s h 11 k 1 11 j 4 q w).field))
       by (whole x w) = never s h x _ w q
 
-  to_authorless : fields_of s h ≡ Fails (refusal 11 k 2) → (r : List ℕ) × AfterParents h s k r × NoLine author_word r
+  to_authorless : fields_of s h ≡ Err (refusal 11 k 2) → (r : List ℕ) × AfterParents h s k r × NoLine author_word r
   to_authorless q = by (way h s)
     where
       by : Way h s → (r : List ℕ) × AfterParents h s k r × NoLine author_word r
@@ -411,7 +406,7 @@ module _ (s : List ℕ) (h k : ℕ) where
       by (blankless j r A x w) = absurd (omega (arith, (same s h 11 k 2 11 j 4 q w).field))
       by (whole x w) = never s h x _ w q
 
-  to_committerless : fields_of s h ≡ Fails (refusal 11 k 3) → (r : List ℕ) × AfterAuthor h s k r × NoLine committer_word r
+  to_committerless : fields_of s h ≡ Err (refusal 11 k 3) → (r : List ℕ) × AfterAuthor h s k r × NoLine committer_word r
   to_committerless q = by (way h s)
     where
       by : Way h s → (r : List ℕ) × AfterAuthor h s k r × NoLine committer_word r
@@ -426,7 +421,7 @@ module _ (s : List ℕ) (h k : ℕ) where
   abbrev BadOne : Type 0
   BadOne = ((r : List ℕ) × AfterParents h s k r × BadActor author_word r) ⊎ ((r : List ℕ) × AfterAuthor h s k r × BadActor committer_word r)
 
-  to_bad : fields_of s h ≡ Fails (refusal 12 k 0) → BadOne
+  to_bad : fields_of s h ≡ Err (refusal 12 k 0) → BadOne
   to_bad q = by (way h s)
     where
       by : Way h s → BadOne
@@ -438,7 +433,7 @@ module _ (s : List ℕ) (h k : ℕ) where
       by (blankless j r A x w) = absurd (omega (arith, (same s h 12 k 0 11 j 4 q w).number))
       by (whole x w) = never s h x _ w q
 
-  to_blankless : fields_of s h ≡ Fails (refusal 11 k 4) → (r : List ℕ) × AfterHeaders h s k r × (get_or r 0 0 ≡ 10 → ⊥)
+  to_blankless : fields_of s h ≡ Err (refusal 11 k 4) → (r : List ℕ) × AfterHeaders h s k r × (get_or r 0 0 ≡ 10 → ⊥)
   to_blankless q = by (way h s)
     where
       by : Way h s → (r : List ℕ) × AfterHeaders h s k r × (get_or r 0 0 ≡ 10 → ⊥)
@@ -452,36 +447,36 @@ module _ (s : List ℕ) (h k : ℕ) where
 
   -- ---- what stands so is refused so
 
-  from_treeless : NoIdLine tree_word h s → fields_of s h ≡ Fails (refusal 11 0 1)
+  from_treeless : NoIdLine tree_word h s → fields_of s h ≡ Err (refusal 11 0 1)
   from_treeless n = fields-no s h (at_none tree_word h s 0 n)
 
-  from_authorless : (r : List ℕ) → AfterParents h s k r → NoLine author_word r → fields_of s h ≡ Fails (refusal 11 k 2)
+  from_authorless : (r : List ℕ) → AfterParents h s k r → NoLine author_word r → fields_of s h ≡ Err (refusal 11 k 2)
   from_authorless r A n =
       let f = fields-from h s k r A in
       f.go_on ∙ people-author s f.count k (refusal 11 k 2) (none_read author_word s k 2 (subst (NoLine author_word) (sym f.rest) n))
 
-  from-bad-author : (r : List ℕ) → AfterParents h s k r → BadActor author_word r → fields_of s h ≡ Fails (refusal 12 k 0)
+  from-bad-author : (r : List ℕ) → AfterParents h s k r → BadActor author_word r → fields_of s h ≡ Err (refusal 12 k 0)
   from-bad-author r A n =
       let f = fields-from h s k r A in
       f.go_on ∙ people-author s f.count k (refusal 12 k 0) (bad-read author_word s k 2 (subst (BadActor author_word) (sym f.rest) n))
 
-  from-committer : (r : List ℕ) (f : AuthorFrom h s k r) (x : Refusal) → actor_at s k committer_word 3 ≡ person.Fails x → fields_of s h ≡ Fails x
+  from-committer : (r : List ℕ) (f : AuthorFrom h s k r) (x : Refusal) → actor_at s k committer_word 3 ≡ Err x → fields_of s h ≡ Err x
   from-committer r f x q =
       f.go_on ∙ people-committer s f.count f.start f.a f.e f.author x (ap (λ (i : ℕ). actor_at s i committer_word 3) f.next ∙ q)
 
-  from_committerless : (r : List ℕ) → AfterAuthor h s k r → NoLine committer_word r → fields_of s h ≡ Fails (refusal 11 k 3)
+  from_committerless : (r : List ℕ) → AfterAuthor h s k r → NoLine committer_word r → fields_of s h ≡ Err (refusal 11 k 3)
   from_committerless r A n =
       let f = author-from h s k r A in
       from-committer r f (refusal 11 k 3) (none_read committer_word s k 3 (subst (NoLine committer_word) (sym f.rest) n))
 
-  from-bad-committer : (r : List ℕ) → AfterAuthor h s k r → BadActor committer_word r → fields_of s h ≡ Fails (refusal 12 k 0)
+  from-bad-committer : (r : List ℕ) → AfterAuthor h s k r → BadActor committer_word r → fields_of s h ≡ Err (refusal 12 k 0)
   from-bad-committer r A n =
       let f = author-from h s k r A in
       from-committer r f (refusal 12 k 0) (bad-read committer_word s k 3 (subst (BadActor committer_word) (sym f.rest) n))
 
 -- with all four there, the fields are whole or fail at the blank line
-from_blankless : (s : List ℕ) (h k : ℕ) (r : List ℕ) → AfterCommitter h s k r → ((x : Found) → fields_of s h ≡ Whole x → ⊥)
-    → (j : ℕ) × (fields_of s h ≡ Fails (refusal 11 j 4))
+from_blankless : (s : List ℕ) (h k : ℕ) (r : List ℕ) → AfterCommitter h s k r → ((x : Found) → fields_of s h ≡ Ok x → ⊥)
+    → (j : ℕ) × (fields_of s h ≡ Err (refusal 11 j 4))
 from_blankless s h k r A none =
     let v = A.committer in
     let g = author-from h s A.start (line committer_word v ++ r) A.before in
@@ -490,16 +485,16 @@ from_blankless s h k r A none =
     let q = g.go_on ∙ people-both s g.count g.start g.a g.e g.author _ _ w in
     by g.count g.a g.e _ _ q
   where
-    by : (c a e b f : ℕ) → fields_of s h ≡ ending_of s c a e b f → (j : ℕ) × (fields_of s h ≡ Fails (refusal 11 j 4))
+    by : (c a e b f : ℕ) → fields_of s h ≡ ending_of s c a e b f → (j : ℕ) × (fields_of s h ≡ Err (refusal 11 j 4))
     by c a e b f q = go (equal (get_or s (tally 0 (heads s (encoding_at s (f + 1)).next)).end 0) 10)
       where
         go : (get_or s (tally 0 (heads s (encoding_at s (f + 1)).next)).end 0 ≡ 10) ⊎ (get_or s (tally 0 (heads s (encoding_at s (f + 1)).next)).end 0 ≡ 10 → ⊥)
-            → (j : ℕ) × (fields_of s h ≡ Fails (refusal 11 j 4))
+            → (j : ℕ) × (fields_of s h ≡ Err (refusal 11 j 4))
         go (inl y) = absurd (none _ (q ∙ ending-is s c a e b f (encoding_at s (f + 1)) (tally 0 (heads s (encoding_at s (f + 1)).next)) refl refl y))
         go (inr y) = (_, q ∙ ending-no s c a e b f (encoding_at s (f + 1)) (tally 0 (heads s (encoding_at s (f + 1)).next)) refl refl y)
 
 -- with the headers there too and no LF after them, they fail there
-from-headers : (s : List ℕ) (h k : ℕ) (r : List ℕ) → AfterHeaders h s k r → (get_or r 0 0 ≡ 10 → ⊥) → fields_of s h ≡ Fails (refusal 11 k 4)
+from-headers : (s : List ℕ) (h k : ℕ) (r : List ℕ) → AfterHeaders h s k r → (get_or r 0 0 ≡ 10 → ⊥) → fields_of s h ≡ Err (refusal 11 k 4)
 from-headers s h k r A none =
     let xs = A.headers in
     let E = encoding_bytes A.encoding in
@@ -532,7 +527,7 @@ from-headers s h k r A none =
     = ap (λ (x : ℕ). drop x s) hs.end_is ∙ after s enc.next (headers_bytes xs) r es.rest in
     let n : get_or s (tally 0 (heads s enc.next)).end 0 ≡ 10 → ⊥
     = λ y. none (ap (λ (l : List ℕ). get_or l 0 0) (sym there) ∙ sym (byte_front s (tally 0 (heads s enc.next)).end) ∙ y) in
-    q ∙ ending-no s g.count g.a g.e _ f enc (tally 0 (heads s enc.next)) refl refl n ∙ ap (λ (x : ℕ). Fails (refusal 11 x 4)) end
+    q ∙ ending-no s g.count g.a g.e _ f enc (tally 0 (heads s enc.next)) refl refl n ∙ ap (λ (x : ℕ). Err (refusal 11 x 4)) end
 
 -- ---- the call
 
@@ -543,11 +538,11 @@ same-refusal r n k f p q =
 
 module _ (s : List ℕ) (h : ℕ) (ps hs : List ℕ) (g : Begins s h ps hs) where
   -- a refused field is the call's refusal
-  answers : (r : Refusal) → fields_of s h ≡ Fails r → commit_answer s h ps hs ≡ refused_read r
+  answers : (r : Refusal) → fields_of s h ≡ Err r → commit_answer s h ps hs ≡ refused_read r
   answers r q = answer_fails (commit_outcome s h ps hs) r (outcome_field s h (length ps) (length hs / width) g r q)
 
   -- whole fields are done, or refused 4
-  done_or_room : (x : Found) → fields_of s h ≡ Whole x → ((commit_answer s h ps hs).verdict.number ≡ 0) ⊎ ((commit_answer s h ps hs).verdict.number ≡ 4)
+  done_or_room : (x : Found) → fields_of s h ≡ Ok x → ((commit_answer s h ps hs).verdict.number ≡ 0) ⊎ ((commit_answer s h ps hs).verdict.number ≡ 4)
   done_or_room x q = go (leb x.parents (length ps)) refl (leb x.headers (length hs / width)) refl
     where
       go : (a : Bool) → leb x.parents (length ps) ≡ a → (b : Bool) → leb x.headers (length hs / width) ≡ b
@@ -565,7 +560,7 @@ module _ (s : List ℕ) (h : ℕ) (ps hs : List ℕ) (g : Begins s h ps hs) wher
           (outcome_whole s h (length ps) (length hs / width) g x q (leb-true x.parents (length ps) a) (leb-true x.headers (length hs / width) c))))
 
   -- a refusal of 11 or 12 is a refused field
-  asks : (n k f : ℕ) → 4 < n → Refuses s h ps hs n k f → fields_of s h ≡ Fails (refusal n k f)
+  asks : (n k f : ℕ) → 4 < n → Refuses s h ps hs n k f → fields_of s h ≡ Err (refusal n k f)
   asks n k f l e = by (fields_of s h) refl
     where
       m : (commit_answer s h ps hs).verdict.number ≡ n
@@ -575,18 +570,18 @@ module _ (s : List ℕ) (h : ℕ) (ps hs : List ℕ) (g : Begins s h ps hs) wher
       apart (inl z) = omega (arith, m)
       apart (inr z) = omega (arith, m)
 
-      by : (o : Outcome) → fields_of s h ≡ o → o ≡ Fails (refusal n k f)
-      by (Fails r) q =
+      by : (o : Result Found Refusal) → fields_of s h ≡ o → o ≡ Err (refusal n k f)
+      by (Err r) q =
           let z : refused_read r ≡ refused_read (refusal n k f) = sym (answers r q) ∙ e in
-          ap Fails (same-refusal r n k f (ap (λ (y : CommitRead). y.verdict) z) (ap (λ (y : CommitRead). y.field) z))
-      by (Whole x) q = absurd (apart (done_or_room x q))
+          ap Err (same-refusal r n k f (ap (λ (y : CommitRead). y.verdict) z) (ap (λ (y : CommitRead). y.field) z))
+      by (Ok x) q = absurd (apart (done_or_room x q))
 
 pub refused_commits : RefusedCommits
 refused_commits =
     record {
       no_tree = λ s h ps hs k g. (
         (λ e. to_treeless s h k (asks s h ps hs g 11 k 1 (omega arith) e)),
-        (λ w. answers s h ps hs g (refusal 11 k 1) (from_treeless s h k w.1 ∙ ap (λ (i : ℕ). Fails (refusal 11 i 1)) (sym w.0))),
+        (λ w. answers s h ps hs g (refusal 11 k 1) (from_treeless s h k w.1 ∙ ap (λ (i : ℕ). Err (refusal 11 i 1)) (sym w.0))),
       );
       no_author = λ s h ps hs k g. (
         (λ e. to_authorless s h k (asks s h ps hs g 11 k 2 (omega arith) e)),

@@ -14,8 +14,6 @@ use Rattle.commit_fields.specs.Parents.{parent_starts}
 use Rattle.commit_fields.specs.Headers.{heads, records_of, flats}
 use Rattle.commit_read.specs.Read.{commit_outcome, commit_answer, commit_parents, commit_headers, answer_in, parents_in, headers_in}
 use Rattle.commit_fields.specs.declared.Found.{Found}
-use Rattle.commit_fields.specs.declared.Outcome.{Outcome}
-use Rattle.commit_fields.specs.declared.Outcome.TheVariants.{Whole, Fails}
 use Rattle.commit_fields.proofs.Laws.{starts_length, outcome_inverse, outcome_whole, outcome_fits, tally-count}
 use Rattle.grammar.specs.Grammar.{Commit, commit_bytes, CommitForm}
 use Rattle.grammar.specs.Named.{header_named, records_from}
@@ -23,6 +21,8 @@ use Rattle.commit_grammar.specs.Named.{named}
 use Rattle.commit_grammar.specs.Claims.{ReadIsCommit, CommitIsRead}
 use Rattle.commit_grammar.proofs.Fields.{found_commit, found-is-commit, commit-is-found}
 use Rattle.commit_grammar.proofs.Refusals.{BadOutcome, outcome_bad}
+use Rattle.commit_fields.specs.declared.Refusal.{Refusal}
+use Rattle.std.specs.Prelude.{Err, Ok, Result}
 
 -- ---- the lent lists name what was found
 
@@ -61,7 +61,7 @@ records_back pre i q (x ∷ l) rest =
     (ap (records_from (i + 1) (length l)) b ∙ records_back (pre ++ flat x) (i + 1) m l rest))
 
 -- what the answer and the lent lists name is what was found
-named-found : (s : List ℕ) (h : ℕ) (ps hs : List ℕ) (o : Outcome) (x : Found) → o ≡ Whole x → x.headers ≡ length (records_of (heads s x.first))
+named-found : (s : List ℕ) (h : ℕ) (ps hs : List ℕ) (o : Result Found Refusal) (x : Found) → o ≡ Ok x → x.headers ≡ length (records_of (heads s x.first))
     → named h s (answer_in o) (parents_in h ps o) (headers_in s hs o) ≡ found_commit h s x
 unfolding answer_in parents_in headers_in
 named-found s h ps hs o x q n =
@@ -78,11 +78,11 @@ pub read_is_commit : ReadIsCommit
 unfolding answer_in
 read_is_commit s h ps hs v = by (commit_outcome s h ps hs) refl (outcome_bad s h (length ps) (length hs / width)) v
   where
-    by : (o : Outcome) → commit_outcome s h ps hs ≡ o → BadOutcome o → (answer_in o).verdict ≡ fine
+    by : (o : Result Found Refusal) → commit_outcome s h ps hs ≡ o → BadOutcome o → (answer_in o).verdict ≡ fine
         → (s ≡ commit_bytes (named h s (commit_answer s h ps hs) (commit_parents s h ps hs) (commit_headers s h ps hs)))
         × CommitForm h (named h s (commit_answer s h ps hs) (commit_parents s h ps hs) (commit_headers s h ps hs))
-    by (Fails r) q b v = absurd (b v)
-    by (Whole x) q b v =
+    by (Err r) q b v = absurd (b v)
+    by (Ok x) q b v =
         let f = outcome_fits s h (length ps) (length hs / width) x q in
         let n : x.headers ≡ length (records_of (heads s x.first)) = f.headers_are ∙ tally-count 0 (heads s x.first) ∙ omega arith in
         rw (named-found s h ps hs (commit_outcome s h ps hs) x q n) (found-is-commit s h x (outcome_inverse s h (length ps) (length hs / width) x q).1)
@@ -97,5 +97,5 @@ commit_is_read h c ps hs k id bytes np nh rp rh =
     let hc : x.headers ≡ length c.headers =
     f.headers_are ∙ sym (length-map (records_of (heads s x.first)) (header_named s)) ∙ ap (λ (d : Commit). length d.headers) f.named_is in
     let g = gate_fine h (length s) (max (length ps) nr) id bytes (omega arith) in
-    let q : commit_outcome s h ps hs ≡ Whole x = outcome_whole s h (length ps) nr g x f.read (omega (arith, f.parents_are)) (omega (arith, hc)) in
+    let q : commit_outcome s h ps hs ≡ Ok x = outcome_whole s h (length ps) nr g x f.read (omega (arith, f.parents_are)) (omega (arith, hc)) in
     (rw q, rw q f.parents_are, rw q hc, named-found s h ps hs (commit_outcome s h ps hs) x q f.headers_are ∙ f.named_is)

@@ -1,9 +1,8 @@
 -- Commits that are refused, in the grammar's words: the first field that is missing or malformed, and how many bytes stand before it
 -- (docs/FORMAT.md, "Commits" and "Numbers"). `proofs/Refused.antt` proves it. Assumes nothing.
-use Rattle.std.specs.Prelude.{ℕ, ◌+◌, ◌/◌, ◌<◌, max, ◌≡◌, true, List, [], ◌∷◌, ◌++◌, ◌⊎◌, ◌↔◌, length, get_or}
+use Rattle.std.specs.Prelude.{ℕ, ◌+◌, ◌/◌, ◌<◌, max, ◌≡◌, true, List, [], ◌∷◌, ◌++◌, ◌⊎◌, ◌↔◌, length, get_or, Ok}
 use Rattle.ground.specs.Scan.{free_of}
 use Rattle.ground.specs.Verdict.{gate_of}
-use Rattle.ground.specs.declared.Gate.TheVariants.{Open}
 use Rattle.actor.specs.Form.{ActorForm}
 use Rattle.header.specs.Words.{tree_word, parent_word, author_word, committer_word}
 use Rattle.header.specs.Record.{width}
@@ -115,7 +114,7 @@ pub record AfterHeaders (h : ℕ) (s : List ℕ) (k : ℕ) (r : List ℕ) : Type
 
 -- the call begins: its id length is one of the two, and what was lent is within the bounds
 abbrev pub Begins : List ℕ → ℕ → List ℕ → List ℕ → Type 0
-Begins s h ps hs = gate_of h (length s) (max (length ps) (length hs / width)) ≡ Open
+Begins s h ps hs = gate_of h (length s) (max (length ps) (length hs / width)) ≡ Ok tt
 
 -- it is refused with this number, place and field
 abbrev pub Refuses : List ℕ → ℕ → List ℕ → List ℕ → ℕ → ℕ → ℕ → Type 0

@@ -13,7 +13,8 @@ use Rattle.ground.specs.Scan.{place_from, same_bytes}
 use Rattle.ground.proofs.Laws.{and_left, and_right, place-from}
 use Rattle.hex_digits.specs.Hex.{is_hex}
 use Rattle.commit_line.specs.Line.{word_at, id_from, id_at, line_from, line_at}
-use Rattle.commit_line.specs.declared.Line.TheVariants.{Value, Missing}
+use Rattle.std.specs.Prelude.{None, Some}
+use Rattle.ground.proofs.Pairs.{some_parts}
 
 -- ---- a word and a space
 
@@ -69,21 +70,21 @@ module _ (w : List ℕ) (h : ℕ) (s : List ℕ) (at : ℕ) where
 -- ---- the line of a value
 
 module _ (w s : List ℕ) (at : ℕ) where
-  pub line-no : word_at w s at ≡ false → line_at w s at ≡ Missing
+  pub line-no : word_at w s at ≡ false → line_at w s at ≡ None
   unfolding line_at
   line-no e = simp e
 
   module _ (e : word_at w s at ≡ true) (lf : ℕ) (q : lf ≡ place_from 10 s (at + length w + 1)) where
-    pub line_open : length s ≤ lf → line_at w s at ≡ Missing
+    pub line_open : length s ≤ lf → line_at w s at ≡ None
     unfolding line_at line_from
     line_open h = rw (e, ← q) (simp (le-ltb lf (length s) h))
 
-    pub line-value : lf < length s → line_at w s at ≡ Value (at + length w + 1) lf
+    pub line-value : lf < length s → line_at w s at ≡ Some (at + length w + 1, lf)
     unfolding line_at line_from
     line-value h = rw (e, ← q) (simp (lt-ltb lf (length s) h))
 
 -- what a value says of the bytes: its word is there, and its LF ends it
-pub line-parts : (w s : List ℕ) (at a e : ℕ) → line_at w s at ≡ Value a e
+pub line-parts : (w s : List ℕ) (at a e : ℕ) → line_at w s at ≡ Some (a, e)
     → (word_at w s at ≡ true) × (a ≡ at + length w + 1) × (e ≡ place_from 10 s (at + length w + 1)) × (e < length s)
 line-parts w s at a e v = go (place_from 10 s (at + length w + 1)) refl (word_at w s at) refl (ltb (place_from 10 s (at + length w + 1)) (length s)) refl
   where
@@ -94,9 +95,8 @@ line-parts w s at a e v = go (place_from 10 s (at + length w + 1)) refl (word_at
     go lf r true q true p =
         let i = ltb-true lf (length s) p in
         let k = line-value w s at q lf r i in
-        let x : a ≡ at + length w + 1 = cc in
-        let y : e ≡ lf = cc in
-        (q, x, y ∙ r, omega arith)
+        let w = some_parts (sym v ∙ k) in
+        (q, w.0, w.1 ∙ r, omega (arith, w.1))
 
-pub line-fits : (w s : List ℕ) (at a e : ℕ) → line_at w s at ≡ Value a e → (a ≤ e) × (e < length s)
+pub line-fits : (w s : List ℕ) (at a e : ℕ) → line_at w s at ≡ Some (a, e) → (a ≤ e) × (e < length s)
 line-fits w s at a e v = let k = line-parts w s at a e v in (omega (arith, k, place-from 10 s (at + length w + 1)), k.3)

@@ -8,69 +8,44 @@ use ground::byte_at;
 use hex_digits::is_hex;
 use scan::{find_byte, same_bytes};
 
-// A line's value, from its first byte to its LF; or that there is no such line.
-#[derive(Clone, Copy)]
-pub enum Line {
-    Value(usize, usize),
-    Missing,
-}
-
 // Whether a word and one space stand at a place.
 fn word_at(s: &[u8], at: usize, word: &[u8]) -> bool
     ensures { result ≡ word_at word.now s.now at }
 {
-    if s.len() <= at {
-        return false;
-    }
-    if s.len() - at <= word.len() {
-        return false;
-    }
-    let end = at + word.len();
-    if s[end] != b' ' {
-        return false;
-    }
-    same_bytes(&s[at..end], word)
+    at < s.len()
+        && word.len() < s.len() - at
+        && s[at + word.len()] == b' '
+        && same_bytes(&s[at..at + word.len()], word)
 }
 
 // Whether 2H hex digits and LF stand at a place.
 fn id_from(s: &[u8], from: usize, h: usize) -> bool
     ensures { result ≡ id_from h s.now from }
 {
-    if s.len() <= from {
-        return false;
-    }
-    if (s.len() - from) / 2 < h {
-        return false;
-    }
-    let end = from + 2 * h;
-    if byte_at(s, end) != b'\n' {
-        return false;
-    }
-    is_hex(&s[from..end])
+    from < s.len()
+        && h <= (s.len() - from) / 2
+        && byte_at(s, from + 2 * h) == b'\n'
+        && is_hex(&s[from..from + 2 * h])
 }
 
 // Whether the line of an id stands at a place: the word, a space, 2H hex digits and LF.
 pub fn id_line(s: &[u8], at: usize, word: &[u8], h: usize) -> bool
     ensures { result ≡ id_at word.now h s.now at }
 {
-    if word_at(s, at, word) {
-        let from = at + word.len() + 1;
-        return id_from(s, from, h);
-    }
-    false
+    word_at(s, at, word) && id_from(s, at + word.len() + 1, h)
 }
 
 // The line at a place: the word, a space, and the value up to LF.
-pub fn value_line(s: &[u8], at: usize, word: &[u8]) -> Line
+pub fn value_line(s: &[u8], at: usize, word: &[u8]) -> Option<(usize, usize)>
     ensures { result ≡ line_at word.now s.now at }
 {
     if word_at(s, at, word) {
         let from = at + word.len() + 1;
         let lf = find_byte(s, from, b'\n');
         if lf < s.len() {
-            return Line::Value(from, lf);
+            return Some((from, lf));
         }
-        return Line::Missing;
+        return None;
     }
-    Line::Missing
+    None
 }

@@ -15,10 +15,9 @@ use Rattle.commit_fields.specs.Headers.{Heads, ended, header, heads, tally, reco
 use Rattle.commit_read.specs.Read.{refused_read, done_read, answer_in, parents_in, headers_in}
 use Rattle.commit_fields.specs.declared.Refusal.{Refusal}
 use Rattle.commit_fields.specs.declared.Found.{Found}
-use Rattle.commit_fields.specs.declared.Outcome.{Outcome}
-use Rattle.commit_fields.specs.declared.Outcome.TheVariants.{Whole, Fails}
 use Rattle.commit_read.specs.Stored.{stored, heads_stored}
 use Rattle.commit_fields.proofs.Laws.{starts_length, tally-count, flats-length}
+use Rattle.std.specs.Prelude.{Err, Ok, Result}
 
 -- ---- the parents, stored
 
@@ -76,28 +75,28 @@ written_all rec l n q k =
 
 -- ---- the three that the call promises
 
-module _ (o : Outcome) where
-  pub answer_fails : (r : Refusal) → o ≡ Fails r → answer_in o ≡ refused_read r
+module _ (o : Result Found Refusal) where
+  pub answer_fails : (r : Refusal) → o ≡ Err r → answer_in o ≡ refused_read r
   unfolding answer_in
   answer_fails r q = rw q
 
-  pub answer-whole : (f : Found) → o ≡ Whole f → answer_in o ≡ done_read f
+  pub answer-whole : (f : Found) → o ≡ Ok f → answer_in o ≡ done_read f
   unfolding answer_in
   answer-whole f q = rw q
 
-  pub parents-kept : (h : ℕ) (l : List ℕ) (r : Refusal) → o ≡ Fails r → parents_in h l o ≡ l
+  pub parents-kept : (h : ℕ) (l : List ℕ) (r : Refusal) → o ≡ Err r → parents_in h l o ≡ l
   unfolding parents_in
   parents-kept h l r q = rw q
 
-  pub headers-kept : (s l : List ℕ) (r : Refusal) → o ≡ Fails r → headers_in s l o ≡ l
+  pub headers-kept : (s l : List ℕ) (r : Refusal) → o ≡ Err r → headers_in s l o ≡ l
   unfolding headers_in
   headers-kept s l r q = rw q
 
-  pub parents-done : (h : ℕ) (l : List ℕ) (f : Found) → o ≡ Whole f → f.parents ≤ length l → parents_in h l o ≡ stored h l 0 (6 + 2 * h) f.parents
+  pub parents-done : (h : ℕ) (l : List ℕ) (f : Found) → o ≡ Ok f → f.parents ≤ length l → parents_in h l o ≡ stored h l 0 (6 + 2 * h) f.parents
   unfolding parents_in
   parents-done h l f q k = rw q (sym (stored_all h l (6 + 2 * h) f.parents k))
 
-  pub headers-done : (s l : List ℕ) (f : Found) → o ≡ Whole f → f.headers ≡ (tally 0 (heads s f.first)).count → f.headers ≤ length l / width
+  pub headers-done : (s l : List ℕ) (f : Found) → o ≡ Ok f → f.headers ≡ (tally 0 (heads s f.first)).count → f.headers ≤ length l / width
       → headers_in s l o ≡ heads_stored l 0 (heads s f.first)
   unfolding headers_in
   headers-done s l f q e k = rw q (sym (written_all l (heads s f.first) f.headers (omega (arith, e, tally-count 0 (heads s f.first))) k))

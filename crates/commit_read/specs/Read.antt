@@ -1,5 +1,5 @@
 -- Reading a commit into lent lists: the answer, and the lists afterwards (docs/FORMAT.md, "Commits" and "Numbers"). Assumes nothing.
-use Rattle.std.specs.Prelude.{ℕ, ◌+◌, ◌*◌, ◌/◌, List, ◌++◌, length, drop}
+use Rattle.std.specs.Prelude.{ℕ, ◌+◌, ◌*◌, ◌/◌, List, ◌++◌, length, drop, Err, Ok, Result}
 use Rattle.ground.specs.Verdict.{fine}
 use Rattle.header.specs.Record.{width}
 use Rattle.header.specs.declared.CommitParts.{CommitParts}
@@ -8,8 +8,6 @@ use Rattle.commit_fields.specs.Headers.{heads, records_of, flats}
 use Rattle.commit_fields.specs.Outcome.{outcome_of}
 use Rattle.commit_fields.specs.declared.Refusal.{Refusal}
 use Rattle.commit_fields.specs.declared.Found.{Found}
-use Rattle.commit_fields.specs.declared.Outcome.{Outcome}
-use Rattle.commit_fields.specs.declared.Outcome.TheVariants.{Whole, Fails}
 use Rattle.commit_read.specs.declared.CommitRead.{CommitRead}
 
 abbrev pub no_parts : CommitParts
@@ -34,22 +32,22 @@ refused_read r = record { verdict = r.verdict; field = r.field; parents = 0; hea
 abbrev pub done_read : Found → CommitRead
 done_read f = record { verdict = fine; field = 0; parents = f.parents; headers = f.headers; parts = f.parts }
 
-unfoldable pub answer_in : Outcome → CommitRead
-answer_in (Fails r) = refused_read r
-answer_in (Whole f) = done_read f
+unfoldable pub answer_in : Result Found Refusal → CommitRead
+answer_in (Err r) = refused_read r
+answer_in (Ok f) = done_read f
 
 -- the lent parents afterwards: where each one's hex digits start, the rest as it was
-unfoldable pub parents_in : ℕ → List ℕ → Outcome → List ℕ
-parents_in h l (Fails r) = l
-parents_in h l (Whole f) = parent_starts f.parents h (6 + 2 * h) ++ drop f.parents l
+unfoldable pub parents_in : ℕ → List ℕ → Result Found Refusal → List ℕ
+parents_in h l (Err r) = l
+parents_in h l (Ok f) = parent_starts f.parents h (6 + 2 * h) ++ drop f.parents l
 
 -- the lent headers afterwards: the records, the rest as it was
-unfoldable pub headers_in : List ℕ → List ℕ → Outcome → List ℕ
-headers_in s l (Fails r) = l
-headers_in s l (Whole f) = flats (records_of (heads s f.first)) ++ drop (f.headers * width) l
+unfoldable pub headers_in : List ℕ → List ℕ → Result Found Refusal → List ℕ
+headers_in s l (Err r) = l
+headers_in s l (Ok f) = flats (records_of (heads s f.first)) ++ drop (f.headers * width) l
 
 -- the three that the call promises
-abbrev pub commit_outcome : List ℕ → ℕ → List ℕ → List ℕ → Outcome
+abbrev pub commit_outcome : List ℕ → ℕ → List ℕ → List ℕ → Result Found Refusal
 commit_outcome s h ps hs = outcome_of s h (length ps) (length hs / width)
 
 abbrev pub commit_answer : List ℕ → ℕ → List ℕ → List ℕ → CommitRead

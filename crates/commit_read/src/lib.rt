@@ -6,8 +6,8 @@ ghost use Rattle.commit_fields.specs.Headers.{heads};
 ghost use Rattle.commit_read.specs.Stored.{stored, heads_stored};
 ghost use Rattle.commit_read.specs.Read.{refused_read, done_read, commit_answer, commit_parents, commit_headers};
 
-use commit_fields::{Found, Outcome, Refusal, decide};
-use extra_header::{Extra, extra_at};
+use commit_fields::{Found, Refusal, decide};
+use extra_header::extra_at;
 use ground::{FINE, Verdict};
 use header::{CommitParts, HEADER_WIDTH, put_header};
 
@@ -46,10 +46,10 @@ fn fill_headers(s: &[u8], at: usize, out: &mut [usize])
     let mut n: usize = 0;
     loop {
         match extra_at(s, p) {
-            Extra::No => {
+            None => {
                 return;
             }
-            Extra::Got(x, next) => {
+            Some((x, next)) => {
                 put_header(out, n, x);
                 p = next;
                 n += 1;
@@ -110,8 +110,8 @@ pub fn read_commit(
 {
     let room = headers.len() / HEADER_WIDTH;
     match decide(bytes, h, parents.len(), room) {
-        Outcome::Fails(r) => refused(r),
-        Outcome::Whole(f) => {
+        Err(r) => refused(r),
+        Ok(f) => {
             let at = 6 + 2 * h;
             let n = f.parents;
             let first = f.first;

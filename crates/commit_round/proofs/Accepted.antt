@@ -12,10 +12,6 @@ use Rattle.header.specs.Words.{author_word, committer_word, encoding_word}
 use Rattle.commit_line.specs.Line.{line_at}
 use Rattle.extra_header.specs.Extra.{extra_at}
 use Rattle.header.specs.Record.{header_of, header_value}
-use Rattle.commit_line.specs.declared.Line.{Line}
-use Rattle.commit_line.specs.declared.Line.TheVariants.{Value, Missing}
-use Rattle.extra_header.specs.declared.Extra.{Extra}
-use Rattle.extra_header.specs.declared.Extra.TheVariants.{Got, No}
 use Rattle.header.specs.declared.HeaderRecord.{HeaderRecord}
 use Rattle.header.specs.declared.CommitParts.{CommitParts}
 use Rattle.extra_header.proofs.Laws.{ExtraParts, extra_parts, fold_within}
@@ -27,7 +23,6 @@ use Rattle.commit_fields.specs.Headers.{Heads, ended, header, heads_from, heads,
 use Rattle.commit_fields.specs.Fields.{encoding_at, found_of, fields_of}
 use Rattle.commit_fields.specs.declared.Encoding.{Encoding}
 use Rattle.commit_fields.specs.declared.Found.{Found}
-use Rattle.commit_fields.specs.declared.Outcome.TheVariants.{Whole}
 use Rattle.commit_fields.proofs.Laws.{actor_parts, blank_fits, encoding-none, encoding-some, fields-parts}
 use Rattle.grammar.specs.Grammar.{FoldedForm, HexForm, HexForms}
 use Rattle.grammar.specs.Named.{id_named}
@@ -35,6 +30,7 @@ use Rattle.commit_grammar.proofs.Headers.{header_read, from-none, from_more}
 use Rattle.commit_grammar.proofs.Unfolded.{folded_exactly}
 use Rattle.commit_check.proofs.Laws as check
 use Rattle.commit_check.specs.Check.{ranged, id_fits, encoding_fits, header_fits, passing}
+use Rattle.std.specs.Prelude.{None, Ok, Option, Some}
 
 -- ---- ranges and ids
 
@@ -85,7 +81,7 @@ form s x (inl k) = form-any x.mark (header_value s x) (λ z. omega (arith, k.0))
 form s x (inr k) = form_folded x.mark (header_value s x) k.0 ∙ (folded_exactly (header_value s x)).1 k.1
 
 -- a header that is read fits
-header-fits : (s : List ℕ) (at : ℕ) (x : HeaderRecord) (next : ℕ) → extra_at s at ≡ Got x next → header_fits s x ≡ true
+header-fits : (s : List ℕ) (at : ℕ) (x : HeaderRecord) (next : ℕ) → extra_at s at ≡ Some (x, next) → header_fits s x ≡ true
 unfolding header_fits
 header-fits s at x next q =
     rw (well_made x (length s) (well s at x next (extra_parts s at x next q)), form s x (header_read s at x next q).form.valued)
@@ -107,9 +103,9 @@ unfolding heads_from
 heads-fit zero s at = all_none s at
 heads-fit (suc left) s at = go (extra_at s at) refl (λ next. heads-fit left s next)
   where
-    go : (x : Extra) → extra_at s at ≡ x → ((next : ℕ) → AllFit s (heads_from left s next)) → AllFit s (heads_from (suc left) s at)
-    go No q ih = subst (AllFit s) (sym (from-none left s at q)) (all_none s at)
-    go (Got x next) q ih = subst (AllFit s) (sym (from_more left s at x next q)) (all_more s x (heads_from left s next) (header-fits s at x next q) (ih next))
+    go : (x : Option (HeaderRecord × ℕ)) → extra_at s at ≡ x → ((next : ℕ) → AllFit s (heads_from left s next)) → AllFit s (heads_from (suc left) s at)
+    go None q ih = subst (AllFit s) (sym (from-none left s at q)) (all_none s at)
+    go (Some (x, next)) q ih = subst (AllFit s) (sym (from_more left s at x next q)) (all_more s x (heads_from left s next) (header-fits s at x next q) (ih next))
 
 -- ---- the parts
 
@@ -123,9 +119,9 @@ encoding-fits : (s : List ℕ) (at : ℕ) (p : CommitParts) → p.encoding ≡ (
     → p.encoding_end ≡ (encoding_at s at).end → encoding_fits (length s) p ≡ true
 encoding-fits s at p m a e = go (line_at encoding_word s at) refl
   where
-    go : (l : Line) → line_at encoding_word s at ≡ l → encoding_fits (length s) p ≡ true
-    go Missing q = check.encoding-none (length s) p (m ∙ ap (λ (x : Encoding). x.mark) (encoding-none s at q))
-    go (Value from to) q =
+    go : (l : Option (ℕ × ℕ)) → line_at encoding_word s at ≡ l → encoding_fits (length s) p ≡ true
+    go None q = check.encoding-none (length s) p (m ∙ ap (λ (x : Encoding). x.mark) (encoding-none s at q))
+    go (Some (from, to)) q =
         let k = encoding-some s at from to q in
         let f = line-fits encoding_word s at from to q in
         check.encoding-one (length s) p (m ∙ ap (λ (x : Encoding). x.mark) k)
@@ -133,7 +129,7 @@ encoding-fits s at p m a e = go (line_at encoding_word s at) refl
         (omega (arith, a, e, ap (λ (x : Encoding). x.start) k, ap (λ (x : Encoding). x.end) k, f.0))
         (omega (arith, e, ap (λ (x : Encoding). x.end) k, f.1))
 
-pub parts-fit : (s : List ℕ) (h : ℕ) (x : Found) → fields_of s h ≡ Whole x → PartsFit s x.parts
+pub parts-fit : (s : List ℕ) (h : ℕ) (x : Found) → fields_of s h ≡ Ok x → PartsFit s x.parts
 parts-fit s h x q =
     let k = fields-parts s h x q in
     let a = line-fits author_word s (6 + 2 * h + k.count * (8 + 2 * h)) k.a k.e (actor_parts s (6 + 2 * h + k.count * (8 + 2 * h)) author_word 2 k.a k.e k.author).0 in

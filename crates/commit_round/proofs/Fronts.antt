@@ -12,8 +12,6 @@ use Rattle.header.proofs.Laws.{header_is}
 use Rattle.header.specs.declared.HeaderRecord.{HeaderRecord}
 use Rattle.commit_fields.specs.Headers.{heads, records_of, flats}
 use Rattle.commit_read.specs.Read.{commit_outcome, commit_answer, commit_parents, commit_headers, answer_in, headers_in}
-use Rattle.commit_fields.specs.declared.Outcome.{Outcome}
-use Rattle.commit_fields.specs.declared.Outcome.TheVariants.{Whole, Fails}
 use Rattle.commit_fields.proofs.Laws.{outcome_fits, tally-count, flats-length}
 use Rattle.grammar.specs.Named.{commit_of, records_from}
 use Rattle.commit_grammar.specs.Named.{named}
@@ -24,6 +22,9 @@ use Rattle.commit_write.specs.Write.{commit_named, parts_written}
 use Rattle.commit_round.specs.Round.{LowerIds}
 use Rattle.commit_round.specs.Claims.{parents_front, headers_front}
 use Rattle.commit_round.proofs.Rewriting.{read-rewrites}
+use Rattle.commit_fields.specs.declared.Found.{Found}
+use Rattle.commit_fields.specs.declared.Refusal.{Refusal}
+use Rattle.std.specs.Prelude.{Err, Ok, Result}
 
 -- ---- the front of a list of records
 
@@ -57,9 +58,9 @@ pub headers-there : (s : List ℕ) (h : ℕ) (ps hs : List ℕ) → (commit_answ
 unfolding answer_in headers_in
 headers-there s h ps hs v = by (commit_outcome s h ps hs) refl (outcome_bad s h (length ps) (length hs / width)) v
   where
-    by : (o : Outcome) → commit_outcome s h ps hs ≡ o → BadOutcome o → (answer_in o).verdict ≡ fine → (answer_in o).headers * width ≤ length (headers_in s hs o)
-    by (Fails r) q b v = absurd (b v)
-    by (Whole x) q b v =
+    by : (o : Result Found Refusal) → commit_outcome s h ps hs ≡ o → BadOutcome o → (answer_in o).verdict ≡ fine → (answer_in o).headers * width ≤ length (headers_in s hs o)
+    by (Err r) q b v = absurd (b v)
+    by (Ok x) q b v =
         let f = outcome_fits s h (length ps) (length hs / width) x q in
         let l = records_of (heads s x.first) in
         let n : x.headers ≡ length l = f.headers_are ∙ tally-count 0 (heads s x.first) ∙ omega arith in

@@ -13,8 +13,6 @@ use Rattle.header.specs.declared.HeaderRecord.{HeaderRecord}
 use Rattle.commit_fields.specs.Headers.{heads, rest_heads, records_of, flats}
 use Rattle.commit_read.specs.Read.{commit_outcome, commit_answer, commit_parents, commit_headers, answer_in, headers_in}
 use Rattle.commit_fields.specs.declared.Found.{Found}
-use Rattle.commit_fields.specs.declared.Outcome.{Outcome}
-use Rattle.commit_fields.specs.declared.Outcome.TheVariants.{Whole, Fails}
 use Rattle.commit_fields.proofs.Laws.{outcome_inverse, outcome_fits, tally-count}
 use Rattle.grammar.specs.Grammar.{Encoding, absent, given, Commit, EncodingForm, CommitForm}
 use Rattle.grammar.specs.Named.{records_from}
@@ -30,22 +28,24 @@ use Rattle.commit_round.specs.Claims.{parents_front, headers_front, AcceptedRewr
 use Rattle.commit_round.specs.Round.{LowerIds}
 use Rattle.commit_round.proofs.Fronts.{front_records, headers-there, fronts_name, read_written}
 use Rattle.commit_round.proofs.Accepted.{AllFit, PartsFit, parts-fit, heads-fit, id-fits, ids_fit}
+use Rattle.commit_fields.specs.declared.Refusal.{Refusal}
+use Rattle.std.specs.Prelude.{Err, Ok, Result}
 
 -- ---- what was found
 
 record ReadFound (s : List ℕ) (h : ℕ) (ps hs : List ℕ) : Type 0 where
   found : Found
-  whole : commit_outcome s h ps hs ≡ Whole found
+  whole : commit_outcome s h ps hs ≡ Ok found
 
 read_found : (s : List ℕ) (h : ℕ) (ps hs : List ℕ) → (commit_answer s h ps hs).verdict ≡ fine → ReadFound s h ps hs
 unfolding answer_in
 read_found s h ps hs v = by (commit_outcome s h ps hs) refl (outcome_bad s h (length ps) (length hs / width)) v
   where
-    by : (o : Outcome) → commit_outcome s h ps hs ≡ o → BadOutcome o → (answer_in o).verdict ≡ fine → ReadFound s h ps hs
-    by (Fails r) q b v = absurd (b v)
-    by (Whole x) q b v = record { found = x; whole = q }
+    by : (o : Result Found Refusal) → commit_outcome s h ps hs ≡ o → BadOutcome o → (answer_in o).verdict ≡ fine → ReadFound s h ps hs
+    by (Err r) q b v = absurd (b v)
+    by (Ok x) q b v = record { found = x; whole = q }
 
-module _ (s : List ℕ) (h : ℕ) (ps hs : List ℕ) (x : Found) (q : commit_outcome s h ps hs ≡ Whole x) where
+module _ (s : List ℕ) (h : ℕ) (ps hs : List ℕ) (x : Found) (q : commit_outcome s h ps hs ≡ Ok x) where
   parts_are : (commit_answer s h ps hs).parts ≡ x.parts
   unfolding answer_in
   parts_are = rw q
@@ -79,7 +79,7 @@ module _ (s : List ℕ) (h : ℕ) (ps hs : List ℕ) (x : Found) (q : commit_out
   all_fit = heads-fit (length s - 0) s x.first
 
 module _ (s : List ℕ) (h : ℕ) (ps hs : List ℕ) (v : (commit_answer s h ps hs).verdict ≡ fine) (room : ℕ) (m : room ≤ most_bytes) where
-  sound-by : (x : Found) → commit_outcome s h ps hs ≡ Whole x → Sound h s (commit_answer s h ps hs).parts (parents_front s h ps hs) (headers_front s h ps hs) room
+  sound-by : (x : Found) → commit_outcome s h ps hs ≡ Ok x → Sound h s (commit_answer s h ps hs).parts (parents_front s h ps hs) (headers_front s h ps hs) room
   sound-by x q =
       let o = outcome_inverse s h (length ps) (length hs / width) x q in
       let g = gate_open h (length s) (max (length ps) (length hs / width)) o.0 in

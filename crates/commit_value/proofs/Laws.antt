@@ -6,9 +6,9 @@ use mathlib.Core.Path.{◌≡◌, refl, ap, sym, ◌∙◌}
 use mathlib.Core.Bool.{Bool, true, false}
 use mathlib.Core.List.{List, [], ◌∷◌, ◌++◌}
 use lib.Dec.{eqb}
-use lib.ListN.{length, get_or, drop, set, length-append, drop_of_length-le}
+use lib.ListN.{length, get_or, drop, length-append, drop_of_length-le}
 use lib.Seq.{sets, drop-cons}
-use borrow.Author.Tests.{eq-eqb, ne_eqb, le-leb, lt-leb}
+use borrow.Author.Tests.{eq-eqb, ne_eqb, le-leb}
 use Rattle.ground.specs.Basics.{pick}
 use Rattle.ground.specs.Verdict.{most_bytes}
 use Rattle.ground.specs.Scan.{count_to, free_of}
@@ -18,9 +18,6 @@ use Rattle.commit_value.specs.Fold.{fold_rest, fold_value, value_written, most_p
 use Rattle.commit_value.specs.Encoding.{encoding_refusal}
 
 -- ---- pieces stored one after another
-
-pub put_two : (l : List ℕ) (at a b : ℕ) (m r : List ℕ) → m ≡ set l at a → r ≡ set m (at + 1) b → r ≡ sets l at (a ∷ b ∷ [])
-put_two l at a b m r e f = f ∙ rw (e, add-one at)
 
 -- a walk that stores a whole piece by piece: what is left to store from a place on
 pub record Left (l : List ℕ) (at : ℕ) (whole m : List ℕ) (to : ℕ) (rest : List ℕ) : Type 0 where
@@ -80,36 +77,12 @@ pub fold_le : (v : List ℕ) → length (fold_value v) ≤ 2 * length v + 1
 unfolding fold_value
 fold_le v = rest_le 0 v
 
--- ---- a value at a place: past a bound, folded already, folded here
+-- ---- a value at a place, neither past its bound
 
 module _ (at mark : ℕ) (v : List ℕ) where
-  pub value_far : most_place < at → value_at at mark v ≡ []
+  pub value_inside : at ≤ most_place → length v ≤ most_bytes → value_at at mark v ≡ value_written mark v
   unfolding value_at
-  value_far p = simp (lt-leb at most_place p)
-
-  module _ (p : at ≤ most_place) where
-    pub value-long : most_bytes < length v → value_at at mark v ≡ []
-    unfolding value_at
-    value-long q = simp (le-leb at most_place p, lt-leb (length v) most_bytes q)
-
-    module _ (q : length v ≤ most_bytes) where
-      pub value_inside : value_at at mark v ≡ value_written mark v
-      unfolding value_at
-      value_inside = simp (le-leb at most_place p, le-leb (length v) most_bytes q)
-
-      pub value_same : mark ≡ 1 → value_at at mark v ≡ v
-      value_same e = value_inside ∙ rw (eq-eqb mark 1 e)
-
-      pub value_folded : (mark ≡ 1 → ⊥) → value_at at mark v ≡ fold_value v
-      value_folded e = value_inside ∙ rw (ne_eqb mark 1 e)
-
--- what was stored and the place past it, by a piece's name
-pub stored_as : {p q : List ℕ} (l m : List ℕ) (at to : ℕ) → q ≡ p → to ≡ at + length p → m ≡ sets l at p → (to ≡ at + length q) × (m ≡ sets l at q)
-stored_as l m at to e f g = (f ∙ ap (λ (x : List ℕ). at + length x) (sym e), g ∙ ap (sets l at) (sym e))
-
--- nothing was stored
-pub stored-none : {q : List ℕ} (l : List ℕ) (at : ℕ) → q ≡ [] → (at ≡ at + length q) × (l ≡ sets l at q)
-stored-none l at e = stored_as l l at at e (omega arith) refl
+  value_inside p q = simp (le-leb at most_place p, le-leb (length v) most_bytes q)
 
 -- ---- what refuses an encoding
 

@@ -30,38 +30,30 @@ fn put_folded(out: &mut [u8], at: usize, v: &[u8]) -> usize
     ensures out_after { out.new ≡ sets out.old at (fold_value v.now) }
 {
     let mut to = at;
-    let mut prev: u8 = 0;
-    let mut i = 0;
-    while i < v.len() {
+    let mut prev = 0;
+    for b in v {
         if prev == b'\n' {
             put_byte(out, to, b' ');
-            prev = v[i];
-            put_byte(out, to + 1, prev);
-            to += 2;
-            i += 1;
-            continue;
+            to += 1;
         }
-        prev = v[i];
-        put_byte(out, to, prev);
+        put_byte(out, to, *b);
         to += 1;
-        i += 1;
+        prev = *b;
     }
-    if prev == b'\n' {
-        return to;
+    if prev != b'\n' {
+        put_byte(out, to, b'\n');
+        to += 1;
     }
-    put_byte(out, to, b'\n');
-    to + 1
+    to
 }
 
 // Stores a header's value at a place, a folded one (mark 1) as it stands; nothing where the place or the value is past its bound.
+#[tactic(auto, unfolding(crate::specs::Fold::value_at))]
 pub fn put_value(out: &mut [u8], at: usize, v: &[u8], mark: usize) -> usize
     ensures value { result ≡ at + length (value_at at mark v.now) }
     ensures out_after { out.new ≡ sets out.old at (value_at at mark v.now) }
 {
-    if MOST_PLACE < at {
-        return at;
-    }
-    if MOST_BYTES < v.len() {
+    if MOST_PLACE < at || MOST_BYTES < v.len() {
         return at;
     }
     if mark == 1 {
@@ -75,7 +67,7 @@ pub fn put_value(out: &mut [u8], at: usize, v: &[u8], mark: usize) -> usize
 pub fn encoding_fault(v: &[u8]) -> usize
     ensures { result ≡ encoding_refusal (given v.now) }
 {
-    if v.len() == 0 {
+    if v.is_empty() {
         return EMPTY_ENCODING;
     }
     if count_to(v, b'\n') == v.len() {

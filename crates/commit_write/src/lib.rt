@@ -26,11 +26,8 @@ fn put_digits(out: &mut [u8], at: usize, digits: &[u8])
     requires { at + length digits.now < 18446744073709551616 }
     ensures { out.new ≡ sets out.old at (lower_hex digits.now) }
 {
-    let mut i = 0;
-    while i < digits.len() {
-        let to = at + i;
-        put_byte(out, to, lower(digits[i]));
-        i += 1;
+    for (i, digit) in digits.iter().enumerate() {
+        put_byte(out, at + i, lower(*digit));
     }
 }
 
@@ -83,9 +80,7 @@ fn put_header(out: &mut [u8], at: usize, bytes: &[u8], x: HeaderRecord) -> usize
     ensures out_after { out.new ≡ sets out.old at (header_written (header_named bytes.now x)) }
 {
     let value = put_name(out, at, bytes, x.name_start, x.name_end);
-    let from = x.value_start;
-    let to = x.value_end;
-    put_value(out, value, &bytes[from..to], x.mark)
+    put_value(out, value, &bytes[x.value_start..x.value_end], x.mark)
 }
 
 // Stores the lines of all parents.
@@ -96,10 +91,8 @@ fn put_parents(out: &mut [u8], at: usize, bytes: &[u8], h: usize, parents: &[usi
     ensures out_after { out.new ≡ sets out.old at (parents_bytes (map lower_hex (map (id_named h bytes.now) parents.now))) }
 {
     let mut to = at;
-    let mut i = 0;
-    while i < parents.len() {
-        to = put_id_line(out, to, b"parent", bytes, h, parents[i]);
-        i += 1;
+    for from in parents {
+        to = put_id_line(out, to, b"parent", bytes, h, *from);
     }
     to
 }
@@ -113,11 +106,8 @@ fn put_headers(out: &mut [u8], at: usize, bytes: &[u8], headers: &[usize]) -> us
 {
     let n = headers.len() / HEADER_WIDTH;
     let mut to = at;
-    let mut i = 0;
-    while i < n {
-        let x = header_at(headers, i);
-        to = put_header(out, to, bytes, x);
-        i += 1;
+    for i in 0..n {
+        to = put_header(out, to, bytes, header_at(headers, i));
     }
     to
 }
@@ -197,9 +187,7 @@ fn encoding_refusal(bytes: &[u8], p: CommitParts) -> usize
     ensures { result ≡ encoding_refusal (encoding_named bytes.now p) }
 {
     if p.encoding == 1 {
-        let from = p.encoding_start;
-        let to = p.encoding_end;
-        return encoding_fault(&bytes[from..to]);
+        return encoding_fault(&bytes[p.encoding_start..p.encoding_end]);
     }
     DONE
 }

@@ -18,16 +18,13 @@ use Rattle.entry.specs.Entry.{entry_of, entries_of}
 use Rattle.entry.specs.Decode.{decode}
 use Rattle.entry.specs.declared.EntryRecord.{EntryRecord}
 use Rattle.entry.specs.declared.Cursor.{Cursor}
-use Rattle.entry.specs.declared.Decoded.{Decoded}
-use Rattle.entry.specs.declared.Decoded.TheVariants.{Whole, Broken}
 use Rattle.entry.proofs.Laws.{decode-inside}
 use Rattle.reading.specs.Listing.{Listing, done, stop, entry, plain, records_in}
 use Rattle.reading.specs.Listing as reading
 use Rattle.reading.proofs.Laws.{plain-none, plain-some}
 use Rattle.component.specs.Component.{on_head, pieces, filled, most_components, is_path}
 use Rattle.component.specs.Named.{Found, there, nowhere, entries_read, first_named, first_in}
-use Rattle.component.specs.declared.Named.{Named}
-use Rattle.component.specs.declared.Named.TheVariants.{Entry, NoEntry}
+use Rattle.std.specs.Prelude.{Err, None, Ok, Option, Result, Some}
 
 -- ---- components
 
@@ -125,7 +122,7 @@ module _ (path : List ℕ) (at n to : ℕ) (inside : at ≤ length path) (e : to
 -- ---- the first entry of a name
 
 module _ (h : ℕ) (b name : List ℕ) (k at : ℕ) where
-  pub named_end : length b ≤ at → first_in b name (plain h k at (drop at b)) ≡ NoEntry
+  pub named_end : length b ≤ at → first_in b name (plain h k at (drop at b)) ≡ None
   unfolding first_in
   named_end p = rw (drop_of_length-le b {i = at} p) (ap (first_in b name) (plain-none h k at))
 
@@ -135,11 +132,11 @@ module _ (h : ℕ) (b name : List ℕ) (k at : ℕ) where
         let z : k ≡ suc (k - 1) = omega arith in
         ap (λ (j : ℕ). plain h j at (drop at b)) z ∙ plain-some h (k - 1) at (drop at b) (omega (arith, length-drop at b))
 
-    pub named-broken : {v : Verdict} → decode h at (drop at b) ≡ Broken v → first_in b name (plain h k at (drop at b)) ≡ NoEntry
+    pub named-broken : {v : Verdict} → decode h at (drop at b) ≡ Err v → first_in b name (plain h k at (drop at b)) ≡ None
     unfolding first_in reading.follow
     named-broken d = ap (first_in b name) plain-next ∙ rw d
 
-    module _ (e : EntryRecord) (next : Cursor) (d : decode h at (drop at b) ≡ Whole e next) where
+    module _ (e : EntryRecord) (next : Cursor) (d : decode h at (drop at b) ≡ Ok (e, next)) where
       plain_entry : plain h k at (drop at b) ≡ entry at e (plain h (k - 1) next.at (drop next.at b))
       unfolding reading.follow
       plain_entry =
@@ -148,7 +145,7 @@ module _ (h : ℕ) (b name : List ℕ) (k at : ℕ) where
           let w : drop (next.at - at) (drop at b) ≡ drop next.at b = drop-drop (next.at - at) at b ∙ ap (λ (j : ℕ). drop j b) z in
           plain-next ∙ rw (d, w)
 
-      pub named_here : same_bytes (take (e.name_end - e.name_start) (drop e.name_start b)) name ≡ true → first_in b name (plain h k at (drop at b)) ≡ Entry e
+      pub named_here : same_bytes (take (e.name_end - e.name_start) (drop e.name_start b)) name ≡ true → first_in b name (plain h k at (drop at b)) ≡ Some e
       unfolding first_in name_of
       named_here t = ap (first_in b name) plain_entry ∙ rw t
 
@@ -158,9 +155,9 @@ module _ (h : ℕ) (b name : List ℕ) (k at : ℕ) where
       named_on t = ap (first_in b name) plain_entry ∙ rw t
 
 -- a record that was found, as an entry
-unfoldable pub seen : ℕ → List ℕ → Named → Found
-seen h b (Entry e) = there e.mode (id_of h b e)
-seen h b NoEntry = nowhere
+unfoldable pub seen : ℕ → List ℕ → Option EntryRecord → Found
+seen h b (Some e) = there e.mode (id_of h b e)
+seen h b None = nowhere
 
 pub first-named : (h : ℕ) (b name : List ℕ) (l : Listing) → seen h b (first_in b name l) ≡ first_named name (entries_of h b (records_in l))
 unfolding seen first_in first_named records_in entry_of
@@ -169,25 +166,25 @@ first-named h b name (stop v) = refl
 first-named h b name (entry at e l) = go (first-named h b name l) (same_bytes (name_of b e) name)
   where
     go : seen h b (first_in b name l) ≡ first_named name (entries_of h b (records_in l)) → (v : Bool)
-        → seen h b (pick v (Entry e) (first_in b name l)) ≡ pick v (there e.mode (id_of h b e)) (first_named name (entries_of h b (records_in l)))
+        → seen h b (pick v (Some e) (first_in b name l)) ≡ pick v (there e.mode (id_of h b e)) (first_named name (entries_of h b (records_in l)))
     go ih true = refl
     go ih false = ih
 
-no_fuel : (h : ℕ) (b name : List ℕ) (at : ℕ) (r : List ℕ) → first_in b name (plain h 0 at r) ≡ NoEntry
+no_fuel : (h : ℕ) (b name : List ℕ) (at : ℕ) (r : List ℕ) → first_in b name (plain h 0 at r) ≡ None
 unfolding first_in plain
 no_fuel h b name at [] = refl
 no_fuel h b name at (x ∷ xs) = refl
 
 -- its id lies inside the tree
-pub first-within : (h : ℕ) (b name : List ℕ) (k at : ℕ) (e : EntryRecord) → first_in b name (plain h k at (drop at b)) ≡ Entry e → e.id_start + h ≤ length b
+pub first-within : (h : ℕ) (b name : List ℕ) (k at : ℕ) (e : EntryRecord) → first_in b name (plain h k at (drop at b)) ≡ Some e → e.id_start + h ≤ length b
 first-within h b name zero at e q = let z : ◌≡◌ {A = ℕ} 0 1 = cc (no_fuel h b name at (drop at b)) in absurd (omega arith)
 first-within h b name (suc k) at e q = split (λ (j : ℕ) p. first-within h b name k j e p) (leb (length b) at) refl
   where
-    none : Entry e ≡ NoEntry → ⊥
+    none : Some e ≡ None → ⊥
     none z = let y : ◌≡◌ {A = ℕ} 0 1 = cc in omega arith
 
-    found : ((j : ℕ) → first_in b name (plain h k j (drop j b)) ≡ Entry e → e.id_start + h ≤ length b)
-        → (g : EntryRecord) (next : Cursor) → at < length b → decode h at (drop at b) ≡ Whole g next → (v : Bool)
+    found : ((j : ℕ) → first_in b name (plain h k j (drop j b)) ≡ Some e → e.id_start + h ≤ length b)
+        → (g : EntryRecord) (next : Cursor) → at < length b → decode h at (drop at b) ≡ Ok (g, next) → (v : Bool)
         → same_bytes (take (g.name_end - g.name_start) (drop g.name_start b)) name ≡ v → e.id_start + h ≤ length b
     found ih g next p d true t =
         let r = sym q ∙ named_here h b name (suc k) at p (omega arith) g next d t in
@@ -199,23 +196,23 @@ first-within h b name (suc k) at e q = split (λ (j : ℕ) p. first-within h b n
         let z : suc k - 1 ≡ k = omega arith in
         ih next.at (rw z at (sym (named_on h b name (suc k) at p (omega arith) g next d t) ∙ q))
 
-    go : ((j : ℕ) → first_in b name (plain h k j (drop j b)) ≡ Entry e → e.id_start + h ≤ length b)
-        → at < length b → (r : Decoded) → decode h at (drop at b) ≡ r → e.id_start + h ≤ length b
-    go ih p (Whole g next) d = found ih g next p d (same_bytes (take (g.name_end - g.name_start) (drop g.name_start b)) name) refl
-    go ih p (Broken v) d = absurd (none (sym q ∙ named-broken h b name (suc k) at p (omega arith) d))
+    go : ((j : ℕ) → first_in b name (plain h k j (drop j b)) ≡ Some e → e.id_start + h ≤ length b)
+        → at < length b → (r : Result (EntryRecord × Cursor) Verdict) → decode h at (drop at b) ≡ r → e.id_start + h ≤ length b
+    go ih p (Ok (g, next)) d = found ih g next p d (same_bytes (take (g.name_end - g.name_start) (drop g.name_start b)) name) refl
+    go ih p (Err v) d = absurd (none (sym q ∙ named-broken h b name (suc k) at p (omega arith) d))
 
-    split : ((j : ℕ) → first_in b name (plain h k j (drop j b)) ≡ Entry e → e.id_start + h ≤ length b) → (v : Bool) → leb (length b) at ≡ v → e.id_start + h ≤ length b
+    split : ((j : ℕ) → first_in b name (plain h k j (drop j b)) ≡ Some e → e.id_start + h ≤ length b) → (v : Bool) → leb (length b) at ≡ v → e.id_start + h ≤ length b
     split ih true t = absurd (none (sym q ∙ named_end h b name (suc k) at (leb-true _ _ t)))
     split ih false t = go ih (leb-false _ _ t) (decode h at (drop at b)) refl
 
 -- it has h bytes
-seen_size : (h : ℕ) (b name : List ℕ) (r : Named) → r ≡ first_in b name (plain h (length b) 0 b) → (m : ℕ) (i : List ℕ) → seen h b r ≡ there m i → length i ≡ h
+seen_size : (h : ℕ) (b name : List ℕ) (r : Option EntryRecord) → r ≡ first_in b name (plain h (length b) 0 b) → (m : ℕ) (i : List ℕ) → seen h b r ≡ there m i → length i ≡ h
 unfolding seen id_of
-seen_size h b name (Entry e) q m i w =
+seen_size h b name (Some e) q m i w =
     let j : take h (drop e.id_start b) ≡ i = cc in
     let l = first-within h b name (length b) 0 e (sym q) in
     sym (ap length j) ∙ length-take-le h (drop e.id_start b) (omega (arith, length-drop e.id_start b))
-seen_size h b name NoEntry q m i w = let z : ◌≡◌ {A = ℕ} 0 1 = cc in absurd (omega arith)
+seen_size h b name None q m i w = let z : ◌≡◌ {A = ℕ} 0 1 = cc in absurd (omega arith)
 
 pub named-size : (h : ℕ) (b name : List ℕ) (m : ℕ) (i : List ℕ) → first_named name (entries_read h b) ≡ there m i → length i ≡ h
 unfolding entries_read

@@ -1,12 +1,11 @@
 -- The first entry of a name in a tree (docs/FORMAT.md, "Paths"). Assumes nothing.
-use Rattle.std.specs.Prelude.{ℕ, List, [], ◌∷◌, length}
+use Rattle.std.specs.Prelude.{ℕ, List, [], ◌∷◌, length, None, Option, Some}
 use Rattle.ground.specs.Basics.{pick}
 use Rattle.ground.specs.Scan.{same_bytes}
 use Rattle.entry.specs.Record.{name_of}
 use Rattle.entry.specs.Entry.{Entry, entries_of}
 use Rattle.reading.specs.Listing.{Listing, done, stop, entry, plain, records_in}
-use Rattle.component.specs.declared.Named.{Named}
-use Rattle.component.specs.declared.Named.TheVariants as named
+use Rattle.entry.specs.declared.EntryRecord.{EntryRecord}
 
 -- what one component, or a whole path, leads to: an entry's mode and id, or nothing
 pub data Found : Type 0 where
@@ -23,7 +22,7 @@ first_named name [] = nowhere
 first_named name (e ∷ es) = pick (same_bytes e.name name) (there e.mode e.id) (first_named name es)
 
 -- the first entry of a name in a listing, before its end or its fault
-unfoldable pub first_in : List ℕ → List ℕ → Listing → Named
-first_in b name done = named.NoEntry
-first_in b name (stop v) = named.NoEntry
-first_in b name (entry at e l) = pick (same_bytes (name_of b e) name) (named.Entry e) (first_in b name l)
+unfoldable pub first_in : List ℕ → List ℕ → Listing → Option EntryRecord
+first_in b name done = None
+first_in b name (stop v) = None
+first_in b name (entry at e l) = pick (same_bytes (name_of b e) name) (Some e) (first_in b name l)

@@ -6,26 +6,18 @@ ghost use Rattle.reading.specs.Listing.{plain};
 ghost use Rattle.component.specs.Component.{pieces, is_path};
 ghost use Rattle.component.specs.Named.{first_in};
 
-use entry::{Cursor, Decoded, EntryRecord};
+use entry::{Cursor, EntryRecord};
 use scan::{find_byte, same_bytes};
 
 // The most components of a path.
 pub const MOST_COMPONENTS: usize = 64;
-
-// The first entry of a name, if there is one.
-#[derive(Clone, Copy)]
-pub enum Named {
-    Entry(EntryRecord),
-    NoEntry,
-}
 
 // Whether no component is empty, and there are at most 64.
 pub fn is_path(path: &[u8]) -> bool
     ensures { result ≡ is_path (pieces path.now) }
 {
     let mut at: usize = 0;
-    let mut n: usize = 0;
-    while n < MOST_COMPONENTS {
+    for _ in 0..MOST_COMPONENTS {
         let end = find_byte(path, at, b'/');
         if end == at {
             return false;
@@ -34,28 +26,27 @@ pub fn is_path(path: &[u8]) -> bool
             return true;
         }
         at = end + 1;
-        n += 1;
     }
     false
 }
 
 // The first entry of a name, of any kind, before any entry that cannot be read.
-pub fn find_entry(tree: &[u8], h: usize, name: &[u8]) -> Named
+pub fn find_entry(tree: &[u8], h: usize, name: &[u8]) -> Option<EntryRecord>
     ensures { result ≡ first_in tree.now name.now (plain h (length tree.now) 0 tree.now) }
 {
     let mut c = Cursor { at: 0 };
     while c.at < tree.len() {
         match c.decode(tree, h) {
-            Decoded::Broken(_) => return Named::NoEntry,
-            Decoded::Whole(e, next) => {
+            Err(_) => return None,
+            Ok((e, next)) => {
                 let start = e.name_start;
                 let end = e.name_end;
                 if same_bytes(&tree[start..end], name) {
-                    return Named::Entry(e);
+                    return Some(e);
                 }
                 c = next;
             }
         }
     }
-    Named::NoEntry
+    None
 }

@@ -7,7 +7,6 @@ use mathlib.Core.Logic.{◌⊎◌, ⊎_elim}
 use lib.ListN.{length}
 use Rattle.mode.specs.Read.{read_mode}
 use Rattle.mode.specs.Write.{write_mode}
-use Rattle.mode.specs.declared.ModeRead.TheVariants.{Mode}
 use Rattle.mode_round.proofs.Again.{again-same, written_reads}
 use Rattle.tree_round.proofs.Writing.{reads_back}
 use Rattle.actor.proofs.Form.{actor_exactly}
@@ -23,12 +22,13 @@ use Rattle.demands.proofs.Documented.{documented}
 use Rattle.demands.proofs.Found.{found_is_entry}
 use Rattle.demands.proofs.Stepping.{stepping_ends, steps_are_reading}
 use Rattle.demands.proofs.Sentences.{cursor_sentences, lookup_sentences, size_sentences}
+use Rattle.std.specs.Prelude.{Some}
 
 reads-written : (m : ℕ) (rest : List ℕ) → 0 < m → m < 65536 → (m ≤ 49152) ⊎ (53248 ≤ m)
-    → read_mode (write_mode m ++ 32 ∷ rest) ≡ Mode (record { internal = m }) (length (write_mode m) + 1)
+    → read_mode (write_mode m ++ 32 ∷ rest) ≡ Some (record { internal = m }, length (write_mode m) + 1)
 reads-written m rest some small out =
     written_reads m rest (λ z. omega arith) small
-    ∙ ap (λ (k : ℕ). Mode (record { internal = k }) (length (write_mode m) + 1)) (again-same m (λ a b. ⊎_elim (λ l. omega arith) (λ l. omega arith) out))
+    ∙ ap (λ (k : ℕ). Some (record { internal = k }, length (write_mode m) + 1)) (again-same m (λ a b. ⊎_elim (λ l. omega arith) (λ l. omega arith) out))
 
 pub second_demand : SecondDemand
 second_demand = record {

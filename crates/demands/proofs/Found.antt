@@ -7,8 +7,6 @@ use mathlib.Core.Bool.{true, false, false≢true}
 use mathlib.Core.List.{List, [], ◌∷◌, ◌++◌}
 use lib.ListN.{length, get_or, take, drop, length-drop}
 use Rattle.ground.specs.Verdict.{gate_of}
-use Rattle.ground.specs.declared.Gate.{Gate}
-use Rattle.ground.specs.declared.Gate.TheVariants.{Open, Shut}
 use Rattle.ground.proofs.Laws.{free-count, gate_open, id_small}
 use Rattle.mode.specs.Read.{text_len}
 use Rattle.mode.proofs.Laws.{read-parts, rest_more}
@@ -17,13 +15,13 @@ use Rattle.entry.specs.Record.{name_of, id_of}
 use Rattle.entry.specs.Decode.{decode, step_of}
 use Rattle.entry.specs.declared.EntryRecord.{EntryRecord}
 use Rattle.entry.specs.declared.Cursor.{Cursor}
-use Rattle.entry.specs.declared.Decoded.{Decoded}
-use Rattle.entry.specs.declared.Decoded.TheVariants.{Whole, Broken}
 use Rattle.entry.specs.declared.Step.{Step}
 use Rattle.entry.proofs.Laws.{decode-parts, step-shut, step_end, step-whole, step-broken}
 use Rattle.one_listing.proofs.Cutting.{name-is, id-sized, laid_out, rest-there}
 use Rattle.demands.specs.Demand2.{text_in, EntryForm}
 use Rattle.demands.proofs.Octal.{by_places}
+use Rattle.ground.specs.declared.Verdict.{Verdict}
+use Rattle.std.specs.Prelude.{Err, Ok, Result, ⊤}
 
 -- bytes up to a space, and the space
 space-ends : (b : List ℕ) (k : ℕ) → k < length b → get_or b k 0 ≡ 32 → take (k + 1) b ≡ take k b ++ 32 ∷ []
@@ -33,7 +31,7 @@ space-ends (x ∷ xs) (suc k) l e =
     let z : suc k + 1 ≡ suc (k + 1) = omega arith in
     ap (λ (n : ℕ). take n (x ∷ xs)) z ∙ ap (λ (r : List ℕ). x ∷ r) (space-ends xs k (omega arith) e)
 
-entry-form : (h : ℕ) (s : List ℕ) (at : ℕ) (e : EntryRecord) (next : Cursor) → 6 < h → decode h at (drop at s) ≡ Whole e next → EntryForm h s at next.at e
+entry-form : (h : ℕ) (s : List ℕ) (at : ℕ) (e : EntryRecord) (next : Cursor) → 6 < h → decode h at (drop at s) ≡ Ok (e, next) → EntryForm h s at next.at e
 entry-form h s at e next o d =
     let b : List ℕ = drop at s in
     let P = decode-parts h at b e next d in
@@ -65,15 +63,15 @@ found_is_entry h s c f = start (gate_of h (length s) 0) refl
     none : {A : Type 0} (x : Step) → step_of h s c ≡ x → x.found ≡ false → A
     none x w e = absurd (false≢true (sym e ∙ sym (ap (λ (y : Step). y.found) w) ∙ f))
 
-    inside : gate_of h (length s) 0 ≡ Open → c.at < length s → (d : Decoded) → decode h c.at (drop c.at s) ≡ d → Form (step_of h s c)
-    inside g l (Whole e next) d =
+    inside : gate_of h (length s) 0 ≡ Ok tt → c.at < length s → (d : Result (EntryRecord × Cursor) Verdict) → decode h c.at (drop c.at s) ≡ d → Form (step_of h s c)
+    inside g l (Ok (e, next)) d =
         subst Form (sym (step-whole h s c e next g l d))
         (entry-form h s c.at e next (omega (arith, id_small h (gate_open h (length s) 0 g).0)) d)
-    inside g l (Broken v) d = none _ (step-broken h s c v g l d) refl
+    inside g l (Err v) d = none _ (step-broken h s c v g l d) refl
 
-    start : (g : Gate) → gate_of h (length s) 0 ≡ g → Form (step_of h s c)
-    start (Shut v) g = none _ (step-shut h s c v g) refl
-    start Open g = elim (dec_lt c.at (length s)) [
+    start : (g : Result ⊤ Verdict) → gate_of h (length s) 0 ≡ g → Form (step_of h s c)
+    start (Err v) g = none _ (step-shut h s c v g) refl
+    start (Ok tt) g = elim (dec_lt c.at (length s)) [
       | yes l ↦ inside g l (decode h c.at (drop c.at s)) refl
       | no l ↦ none _ (step_end h s c g (omega arith)) refl
     ]

@@ -9,10 +9,10 @@ use lib.ListN.{length, get_or, length-take}
 use Rattle.ground.specs.Basics.{pick}
 use Rattle.mode.specs.Read.{is_octal, octal_from, text_len, settle, mode_of, read_mode}
 use Rattle.mode.specs.declared.EntryMode.{EntryMode}
-use Rattle.mode.specs.declared.ModeRead.{ModeRead}
-use Rattle.mode.specs.declared.ModeRead.TheVariants.{Mode, Bad}
 use Rattle.mode.proofs.Laws.{read-parts}
 use Rattle.demands.specs.Demand2.{octal, are_octal, text_in}
+use Rattle.std.specs.Prelude.{None, Option, Some}
+use Rattle.ground.proofs.Pairs.{some_parts}
 
 -- ---- modulo 65,536
 
@@ -42,30 +42,29 @@ shifted sum d n rest =
 
 -- the mode of digits, by the first of them
 digit : (first rest sum b : ℕ) (bs : List ℕ)
-    → mode_of first rest (octal_from sum (b ∷ bs)) ≡ pick (is_octal b) (mode_of first rest (octal_from ((sum * 8 + (b - 48)) % 65536) bs)) Bad
+    → mode_of first rest (octal_from sum (b ∷ bs)) ≡ pick (is_octal b) (mode_of first rest (octal_from ((sum * 8 + (b - 48)) % 65536) bs)) None
 unfolding octal_from
 digit first rest sum b bs = picked (mode_of first rest) (is_octal b) _ _
   where
-    picked : {X : Type 0} (f : X → ModeRead) (t : Bool) (x y : X) → f (pick t x y) ≡ pick t (f x) (f y)
+    picked : {X : Type 0} (f : X → Option (EntryMode × ℕ)) (t : Bool) (x y : X) → f (pick t x y) ≡ pick t (f x) (f y)
     picked f true x y = refl
     picked f false x y = refl
 
-mode-says : (first rest sum : ℕ) (bs : List ℕ) (m n : ℕ) → sum < 65536 → mode_of first rest (octal_from sum bs) ≡ Mode (record { internal = m }) n
+mode-says : (first rest sum : ℕ) (bs : List ℕ) (m n : ℕ) → sum < 65536 → mode_of first rest (octal_from sum bs) ≡ Some (record { internal = m }, n)
     → (are_octal bs ≡ true) × (m ≡ settle ((sum * 8 ^ length bs + octal bs) % 65536) first)
 unfolding octal_from octal
 mode-says first rest sum [] m n l e =
-    let i : ◌≡◌ {A = EntryMode} (record { internal = settle sum first }) (record { internal = m }) = cc in
     let z : sum ≡ (sum * 1 + 0) % 65536 = omega arith in
-    (refl, sym (ap (λ (x : EntryMode). x.internal) i) ∙ ap (λ (v : ℕ). settle v first) z)
+    (refl, sym (ap (λ (x : EntryMode). x.internal) (some_parts e).0) ∙ ap (λ (v : ℕ). settle v first) z)
 mode-says first rest sum (b ∷ bs) m n l e =
     go (mode-says first rest ((sum * 8 + (b - 48)) % 65536) bs m n (omega arith)) (is_octal b) refl (sym (digit first rest sum b bs) ∙ e)
   where
     next : ℕ
     next = (sum * 8 + (b - 48)) % 65536
 
-    go : (mode_of first rest (octal_from next bs) ≡ Mode (record { internal = m }) n
+    go : (mode_of first rest (octal_from next bs) ≡ Some (record { internal = m }, n)
         → (are_octal bs ≡ true) × (m ≡ settle ((next * 8 ^ length bs + octal bs) % 65536) first))
-        → (t : Bool) → is_octal b ≡ t → pick t (mode_of first rest (octal_from next bs)) Bad ≡ Mode (record { internal = m }) n
+        → (t : Bool) → is_octal b ≡ t → pick t (mode_of first rest (octal_from next bs)) None ≡ Some (record { internal = m }, n)
         → (are_octal (b ∷ bs) ≡ true) × (m ≡ settle ((sum * 8 ^ suc (length bs) + ((b - 48) * 8 ^ length bs + octal bs)) % 65536) first)
     go ih true q e =
         let i = ih e in
@@ -77,7 +76,7 @@ mode-says first rest sum (b ∷ bs) m n l e =
 none_before : (k y : ℕ) → (0 * k + y) % 65536 ≡ y % 65536
 none_before k y = let z : 0 + y ≡ y = omega arith in ap (λ (n : ℕ). (n + y) % 65536) (mul_comm 0 k ∙ mul-zero k) ∙ ap (λ (n : ℕ). n % 65536) z
 
-pub by_places : (s : List ℕ) (m n : ℕ) → read_mode s ≡ Mode (record { internal = m }) n
+pub by_places : (s : List ℕ) (m n : ℕ) → read_mode s ≡ Some (record { internal = m }, n)
     → (are_octal (text_in s) ≡ true) × (length (text_in s) ≤ 7) × (m ≡ settle (octal (text_in s) % 65536) (get_or s 0 0))
 by_places s m n e =
     let p = read-parts s m n e in

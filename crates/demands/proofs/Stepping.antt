@@ -12,24 +12,19 @@ use Rattle.ground.specs.Basics.{pick}
 use Rattle.ground.specs.Verdict.{verdict, fine, counted, refused, gate_of, stored, most_records}
 use Rattle.ground.specs.declared.Verdict.{Verdict}
 use Rattle.ground.specs.declared.Answer.{Answer}
-use Rattle.ground.specs.declared.Gate.{Gate}
-use Rattle.ground.specs.declared.Gate.TheVariants.{Open, Shut}
 use Rattle.ground.proofs.Laws.{gate_fine, gate_open, gate_shut}
 use Rattle.entry.specs.Record.{many, records_of}
 use Rattle.entry.specs.Decode.{decode, step_of}
 use Rattle.entry.specs.declared.EntryRecord.{EntryRecord}
 use Rattle.entry.specs.declared.Cursor.{Cursor}
-use Rattle.entry.specs.declared.Decoded.{Decoded}
-use Rattle.entry.specs.declared.Decoded.TheVariants.{Whole, Broken}
 use Rattle.entry.specs.declared.Step.{Step}
 use Rattle.entry.proofs.Laws.{decode-inside, step_end, step-whole, step-broken}
 use Rattle.reading.specs.Listing.{Listing, done, stop, entry, follow, plain, listing, records_in, flats, tally}
 use Rattle.reading.specs.Whole.{in_room, answer_of, read_answer, read_records}
-use Rattle.reading.specs.declared.Counted.{Counted}
-use Rattle.reading.specs.declared.Counted.TheVariants.{Total, Stopped}
 use Rattle.reading.proofs.Laws.{Refusal, tally-length, tally_stops, plain-refuses}
 use Rattle.one_listing.proofs.Theorem.{stored-records}
 use Rattle.demands.specs.Demand2.{Steps, ReadOut}
+use Rattle.std.specs.Prelude.{Err, Ok, Result, ⊤}
 
 -- what a listing ends with
 abbrev end_of : Listing → Verdict
@@ -37,13 +32,13 @@ end_of done = fine
 end_of (stop v) = v
 end_of (entry at e l) = end_of l
 
-tally-done : (n : ℕ) (l : Listing) (m : ℕ) → tally n l ≡ Total m → end_of l ≡ fine
+tally-done : (n : ℕ) (l : Listing) (m : ℕ) → tally n l ≡ Ok m → end_of l ≡ fine
 unfolding tally
 tally-done n done m t = refl
 tally-done n (stop v) m t = let z : ◌≡◌ {A = ℕ} 0 1 = cc in absurd (omega arith)
 tally-done n (entry at e l) m t = tally-done (n + 1) l m t
 
-tally_stopped : (n : ℕ) (l : Listing) (v : Verdict) → tally n l ≡ Stopped v → end_of l ≡ v
+tally_stopped : (n : ℕ) (l : Listing) (v : Verdict) → tally n l ≡ Err v → end_of l ≡ v
 unfolding tally
 tally_stopped n done v t = let z : ◌≡◌ {A = ℕ} 0 1 = cc in absurd (omega arith)
 tally_stopped n (stop w) v t = cc
@@ -51,7 +46,7 @@ tally_stopped n (entry at e l) v t = tally_stopped (n + 1) l v t
 
 -- ---- the steps
 
-module _ (h : ℕ) (s : List ℕ) (g : gate_of h (length s) 0 ≡ Open) where
+module _ (h : ℕ) (s : List ℕ) (g : gate_of h (length s) 0 ≡ Ok tt) where
   abbrev from : ℕ → Cursor
   from at = record { at = at }
 
@@ -70,10 +65,10 @@ module _ (h : ℕ) (s : List ℕ) (g : gate_of h (length s) 0 ≡ Open) where
     where
       go : ((i : ℕ) (c : List ℕ) → drop i s ≡ c → ((end_of (plain h left i c)).number ≡ 2 → ⊥)
           → Steps h s (from i) (records_in (plain h left i c)) (end_of (plain h left i c)))
-          → (b : List ℕ) → drop at s ≡ b → at < length s → (d : Decoded) → decode h at b ≡ d → ((end_of (follow (plain h left) at b d)).number ≡ 2 → ⊥)
+          → (b : List ℕ) → drop at s ≡ b → at < length s → (d : Result (EntryRecord × Cursor) Verdict) → decode h at b ≡ d → ((end_of (follow (plain h left) at b d)).number ≡ 2 → ⊥)
           → Steps h s (from at) (records_in (follow (plain h left) at b d)) (end_of (follow (plain h left) at b d))
-      go ih b q l (Whole e next) d f =
-          let k : decode h at (drop at s) ≡ Whole e next = ap (decode h at) q ∙ d in
+      go ih b q l (Ok (e, next)) d f =
+          let k : decode h at (drop at s) ≡ Ok (e, next) = ap (decode h at) q ∙ d in
           let w = step-whole h s (from at) e next g l k in
           let i = decode-inside h s at e next k in
           let z : at + (next.at - at) ≡ next.at = omega arith in
@@ -84,7 +79,7 @@ module _ (h : ℕ) (s : List ℕ) (g : gate_of h (length s) 0 ≡ Open) where
             ap (λ (x : Step). x.entry) w,
             subst (λ (c : Cursor). Steps h s c (records_in m) (end_of m)) (sym (ap (λ (x : Step). x.next) w)) (ih next.at (drop (next.at - at) b) r f),
           )
-      go ih b q l (Broken v) d f =
+      go ih b q l (Err v) d f =
           let w = step-broken h s (from at) v g l (ap (decode h at) q ∙ d) in
           (ap (λ (x : Step). x.found) w, ap (λ (x : Step). x.verdict) w)
 
@@ -109,7 +104,7 @@ module _ (h : ℕ) (s lent : List ℕ) where
   room = many (length lent)
 
   abbrev Out : Answer → Type 0
-  Out a = (gate_of h (length s) 0 ≡ Open) × (end_of l ≡ a.verdict) × (a.verdict.number ≡ 0 → take a.count (records_of (stored a.verdict (flats
+  Out a = (gate_of h (length s) 0 ≡ Ok tt) × (end_of l ≡ a.verdict) × (a.verdict.number ≡ 0 → take a.count (records_of (stored a.verdict (flats
       (records_in l)) lent)) ≡ records_in l)
 
   came-out : ReadOut h s lent → Out (read_answer h s l lent)
@@ -119,22 +114,22 @@ module _ (h : ℕ) (s lent : List ℕ) where
       Num : Answer → Type 0
       Num a = (a.verdict.number ≡ 0) ⊎ (a.verdict.number ≡ 3)
 
-      last : gate_of h (length s) 0 ≡ Open → (n : ℕ) → tally 0 l ≡ Total n → (v : Bool) → Num (pick v (counted n) (refused (verdict 4 n)))
+      last : gate_of h (length s) 0 ≡ Ok tt → (n : ℕ) → tally 0 l ≡ Ok n → (v : Bool) → Num (pick v (counted n) (refused (verdict 4 n)))
           → Out (pick v (counted n) (refused (verdict 4 n)))
       last g n t true r =
           let z : 0 + length (records_in l) ≡ length (records_in l) = omega arith in
           (g, tally-done 0 l n t, (λ e. stored-records l fine lent n refl (tally-length 0 l n t ∙ z)))
       last g n t false r = absurd (⊎_elim (λ e. omega arith) (λ e. omega arith) r)
 
-      go : gate_of h (length s) 0 ≡ Open → (k : Counted) → tally 0 l ≡ k → Num (in_room room k) → Out (in_room room k)
-      go g (Total n) t r = last g n t (leb n room) r
-      go g (Stopped v) t r = (g, tally_stopped 0 l v t, (λ z. absurd (tally_stops Refusal 0 l v (plain-refuses h s) t z)))
+      go : gate_of h (length s) 0 ≡ Ok tt → (k : Result ℕ Verdict) → tally 0 l ≡ k → Num (in_room room k) → Out (in_room room k)
+      go g (Ok n) t r = last g n t (leb n room) r
+      go g (Err v) t r = (g, tally_stopped 0 l v t, (λ z. absurd (tally_stops Refusal 0 l v (plain-refuses h s) t z)))
 
-      start : (g : Gate) → gate_of h (length s) room ≡ g → Num (answer_of g l room) → Out (answer_of g l room)
-      start Open q r =
+      start : (g : Result ⊤ Verdict) → gate_of h (length s) room ≡ g → Num (answer_of g l room) → Out (answer_of g l room)
+      start (Ok tt) q r =
           let o = gate_open h (length s) room q in
           go (gate_fine h (length s) 0 o.0 o.1 (omega arith)) (tally 0 l) refl r
-      start (Shut v) q r = absurd (⊎_elim (λ e. never 1 e (omega arith) (omega arith) r) (λ e. never 2 e (omega arith) (omega arith) r) (gate_shut h
+      start (Err v) q r = absurd (⊎_elim (λ e. never 1 e (omega arith) (omega arith) r) (λ e. never 2 e (omega arith) (omega arith) r) (gate_shut h
           (length s) room v q))
         where
           never : (k : ℕ) → v ≡ verdict k 0 → 0 < k → k < 3 → (v.number ≡ 0) ⊎ (v.number ≡ 3) → ⊥

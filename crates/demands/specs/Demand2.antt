@@ -1,15 +1,12 @@
 -- The second demand in one place: what joins the calls to Git's format in plain words, over the definitions that their contracts name (docs/FORMAT.md).
 -- `proofs/Demand2.antt` proves it. Assumes nothing.
-use Rattle.std.specs.Prelude.{ℕ, ◌+◌, ◌-◌, ◌*◌, ◌/◌, ◌%◌, ◌^◌, ◌≤◌, ◌<◌, ◌≡◌, Bool, true, false, ◌&&◌, List, [], ◌∷◌, ◌++◌, ◌⊎◌, ◌↔◌, length, get_or, take, drop}
+use Rattle.std.specs.Prelude.{ℕ, ◌+◌, ◌-◌, ◌*◌, ◌/◌, ◌%◌, ◌^◌, ◌≤◌, ◌<◌, ◌≡◌, Bool, true, false, ◌&&◌, List, [], ◌∷◌, ◌++◌, ◌⊎◌, ◌↔◌, length, get_or, take, drop, Some}
 use Rattle.ground.specs.Scan.{free_of}
 use Rattle.ground.specs.Verdict.{fine, most_bytes, most_records}
 use Rattle.ground.specs.declared.Verdict.{Verdict}
 use Rattle.mode.specs.Read.{is_octal, text_len, settle, read_mode}
 use Rattle.mode.specs.Write.{write_mode}
-use Rattle.mode.specs.declared.ModeRead.TheVariants.{Mode}
 use Rattle.order.specs.Order.{by_number, then_by, name_order}
-use Rattle.order.specs.declared.Order.{Order}
-use Rattle.order.specs.declared.Order.TheVariants.{Below, Same, Above}
 use Rattle.entry.specs.Record.{records_of, name_of, id_of}
 use Rattle.entry.specs.Decode.{step_of}
 use Rattle.entry.specs.declared.EntryRecord.{EntryRecord}
@@ -28,6 +25,8 @@ use Rattle.commit_grammar.specs.Refused.{RefusedCommits}
 use Rattle.commit_round.specs.Claims as round
 use Rattle.commit_round.specs.Claims.{AcceptedRewrites, FoldLine, FoldLines, FoldGains, FoldUnfolds, UnfoldedFolds}
 use Rattle.demands.specs.Sentences.{CursorSentences, LookupSentences, SizeSentences}
+use Rattle.std.specs.declared.cmp.Ordering.{Ordering}
+use Rattle.std.specs.declared.cmp.Ordering.TheVariants.{Equal, Greater, Less}
 
 -- ---- modes
 
@@ -48,19 +47,19 @@ text_in s = take (text_len s) s
 pub record OfModeTexts : Type 0 where
   -- a mode that is read has a text of at most seven octal digits, and its number is what they say by their places, modulo 65,536; but 16384 from a text
   -- that begins with `0` is kept as 49152
-  pub by_places : (s : List ℕ) (m n : ℕ) → read_mode s ≡ Mode (record { internal = m }) n
+  pub by_places : (s : List ℕ) (m n : ℕ) → read_mode s ≡ Some (record { internal = m }, n)
       → (are_octal (text_in s) ≡ true) × (length (text_in s) ≤ 7) × (m ≡ settle (octal (text_in s) % 65536) (get_or s 0 0))
   -- the text of a mode, a space and anything behind it read as that mode: every one but 0 and those from 49153 to 53247
   pub written_reads : (m : ℕ) (rest : List ℕ) → 0 < m → m < 65536 → (m ≤ 49152) ⊎ (53248 ≤ m)
-      → read_mode (write_mode m ++ 32 ∷ rest) ≡ Mode (record { internal = m }) (length (write_mode m) + 1)
+      → read_mode (write_mode m ++ 32 ∷ rest) ≡ Some (record { internal = m }, length (write_mode m) + 1)
 
 -- ---- order
 
 -- the plain order of bytes: the first two that differ decide, and what ends first is below
-unfoldable pub byte_order : List ℕ → List ℕ → Order
-byte_order [] [] = Same
-byte_order [] (y ∷ b) = Below
-byte_order (x ∷ a) [] = Above
+unfoldable pub byte_order : List ℕ → List ℕ → Ordering
+byte_order [] [] = Equal
+byte_order [] (y ∷ b) = Less
+byte_order (x ∷ a) [] = Greater
 byte_order (x ∷ a) (y ∷ b) = then_by (by_number x y) (byte_order a b)
 
 -- a name as Git sorts it: a folder's has a slash behind it

@@ -1,7 +1,6 @@
 -- Sentences of docs/FORMAT.md about single calls, over the definitions that their contracts name. Assumes nothing.
-use Rattle.std.specs.Prelude.{ℕ, ◌≤◌, ◌≡◌, Bool, List, ◌⊎◌, length}
+use Rattle.std.specs.Prelude.{ℕ, ◌≤◌, ◌≡◌, Bool, List, ◌⊎◌, length, Ok}
 use Rattle.ground.specs.Verdict.{fine, gate_of}
-use Rattle.ground.specs.declared.Gate.TheVariants.{Open}
 use Rattle.entry.specs.Record.{records_of}
 use Rattle.entry.specs.Decode.{no_entry, step_of}
 use Rattle.entry.specs.declared.EntryRecord.{EntryRecord}
@@ -21,7 +20,7 @@ pub record CursorSentences : Type 0 where
   -- after a 3 it stands at the end
   pub at-end : (h : ℕ) (s : List ℕ) (c : Cursor) → (step_of h s c).verdict.number ≡ 3 → (step_of h s c).next.at ≡ length s
   -- at or past the end it answers 0 with no entry, and stays
-  pub past_end : (h : ℕ) (s : List ℕ) (c : Cursor) → gate_of h (length s) 0 ≡ Open → length s ≤ c.at → step_of h s c ≡ no_entry fine c
+  pub past_end : (h : ℕ) (s : List ℕ) (c : Cursor) → gate_of h (length s) 0 ≡ Ok tt → length s ≤ c.at → step_of h s c ≡ no_entry fine c
 
 -- what a lookup returns besides its verdict ("Lookup")
 pub record LookupSentences : Type 0 where

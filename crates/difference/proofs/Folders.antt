@@ -10,35 +10,33 @@ use Rattle.ground.specs.Basics.{pick, part}
 use Rattle.ground.specs.Verdict.{verdict, most_bytes}
 use Rattle.frame.specs.Place.{place_of}
 use Rattle.frame.specs.declared.Header.{Header}
-use Rattle.frame.specs.declared.Placed.{Placed}
-use Rattle.frame.specs.declared.Placed.TheVariants.{At, Absent}
-use Rattle.reading.specs.declared.Counted.{Counted}
-use Rattle.reading.specs.declared.Counted.TheVariants.{Total, Stopped}
 use Rattle.strict.specs.Strict.{strict_count}
 use Rattle.seeking.specs.Index.{IsIndex}
 use Rattle.opening.specs.Opening.{open_counted, open_placed, open_by, open_at}
-use Rattle.opening.specs.declared.Opened.TheVariants.{Shut}
 use Rattle.opening.proofs.Laws.{strict-exact, open_indexed}
 use Rattle.item.specs.Items.{Folder, shut, read_strictly, tree_of, folder_of}
 use Rattle.walk.specs.Walk.{levels, compare_folders}
 use Rattle.walk.specs.Code.{entries_from, folder_at, walk_in}
 use Rattle.walk.proofs.Steps.{plain-zero}
 use Rattle.difference.specs.Whole.{stored_at, store_of, folders_of, differences}
+use Rattle.frame.specs.declared.Frame.{Frame}
+use Rattle.ground.specs.declared.Verdict.{Verdict}
+use Rattle.std.specs.Prelude.{Err, None, Ok, Option, Result, Some}
 
 module _ (k : Header) (s : List ℕ) where
-  counted_is : (start end : ℕ) (c : Counted) → strict_count k.rules k.h (part start end s) ≡ c
+  counted_is : (start end : ℕ) (c : Result ℕ Verdict) → strict_count k.rules k.h (part start end s) ≡ c
       → folder_at k.h s (open_counted start end c) ≡ read_strictly k.rules k.h start (part start end s) c
   unfolding read_strictly folder_at open_counted entries_from
-  counted_is start end (Stopped v) t = refl
-  counted_is start end (Total n) t = rw (strict-exact k.rules k.h (part start end s) n t)
+  counted_is start end (Err v) t = refl
+  counted_is start end (Ok n) t = rw (strict-exact k.rules k.h (part start end s) n t)
 
-  placed-is : (p : Placed) → folder_at k.h s (open_placed k s p) ≡ tree_of k.rules k.h (stored_at s p)
+  placed-is : (p : Option Frame) → folder_at k.h s (open_placed k s p) ≡ tree_of k.rules k.h (stored_at s p)
   unfolding stored_at tree_of open_placed folder_at
-  placed-is Absent = refl
-  placed-is (At f) = kinds (eqb f.kind 2)
+  placed-is None = refl
+  placed-is (Some f) = kinds (eqb f.kind 2)
     where
       kinds : (t : Bool)
-          → folder_at k.h s (pick t (open_counted f.start f.end (strict_count k.rules k.h (part f.start f.end s))) (Shut (verdict 28 0)))
+          → folder_at k.h s (pick t (open_counted f.start f.end (strict_count k.rules k.h (part f.start f.end s))) (Err (verdict 28 0)))
           ≡ pick t (read_strictly k.rules k.h f.start (part f.start f.end s) (strict_count k.rules k.h (part f.start f.end s))) (shut (verdict 28 0))
       kinds true = counted_is f.start f.end (strict_count k.rules k.h (part f.start f.end s)) refl
       kinds false = refl

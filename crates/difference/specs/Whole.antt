@@ -1,26 +1,22 @@
 -- The call `compare_trees`: its answer, and what was lent afterwards (docs/FORMAT.md, "Differences"). Assumes nothing.
-use Rattle.std.specs.Prelude.{ℕ, max, List, [], eqb, length}
+use Rattle.std.specs.Prelude.{ℕ, max, List, [], eqb, length, Err, None, Ok, Option, Result, Some, ⊤}
 use Rattle.ground.specs.Basics.{pick, part}
 use Rattle.ground.specs.Verdict.{verdict, size_gate, stored}
 use Rattle.ground.specs.declared.Answer.{Answer}
-use Rattle.ground.specs.declared.Gate.{Gate}
-use Rattle.ground.specs.declared.Gate.TheVariants as gate
 use Rattle.frame.specs.Place.{place_of}
 use Rattle.frame.specs.declared.Header.{Header}
-use Rattle.frame.specs.declared.Placed.{Placed}
-use Rattle.frame.specs.declared.Placed.TheVariants.{At, Absent}
 use Rattle.bundle.specs.Bundle.{open_of}
-use Rattle.bundle.specs.declared.Opening.{Opening}
-use Rattle.bundle.specs.declared.Opening.TheVariants as opening
 use Rattle.item.specs.Items.{Stored, missing, object, Folder, folder_of}
 use Rattle.walk.specs.Walk.{Out, refused_by, levels, compare_folders}
 use Rattle.walk.specs.Lent.{paths_of, numbers_of, items_in, fitted}
+use Rattle.frame.specs.declared.Frame.{Frame}
+use Rattle.ground.specs.declared.Verdict.{Verdict}
 
 -- ---- a bundle as a store
 
-unfoldable pub stored_at : List ℕ → Placed → Stored
-stored_at s Absent = missing
-stored_at s (At f) = object f.kind f.start (part f.start f.end s)
+unfoldable pub stored_at : List ℕ → Option Frame → Stored
+stored_at s None = missing
+stored_at s (Some f) = object f.kind f.start (part f.start f.end s)
 
 unfoldable pub store_of : List ℕ → List ℕ → Stored
 store_of s id = stored_at s (place_of s id)
@@ -36,16 +32,16 @@ differences k s left right = compare_folders (folders_of k s) levels [] left rig
 -- ---- the whole: 2, 24, 25, then the walk
 
 -- 24 for roots of two lengths, which cannot both be H; then as a bundle is opened for one
-unfoldable pub roots_of : List ℕ → ℕ → ℕ → Opening
-roots_of s left right = pick (eqb left right) (open_of s left) (opening.Shut (verdict 24 0))
+unfoldable pub roots_of : List ℕ → ℕ → ℕ → Result Header Verdict
+roots_of s left right = pick (eqb left right) (open_of s left) (Err (verdict 24 0))
 
-unfoldable pub walked : List ℕ → List ℕ → List ℕ → Opening → Out
-walked s left right (opening.Shut v) = refused_by v
-walked s left right (opening.Open k) = differences k s left right
+unfoldable pub walked : List ℕ → List ℕ → List ℕ → Result Header Verdict → Out
+walked s left right (Err v) = refused_by v
+walked s left right (Ok k) = differences k s left right
 
-unfoldable pub gated : List ℕ → List ℕ → List ℕ → Gate → Out
-gated s left right (gate.Shut v) = refused_by v
-gated s left right gate.Open = walked s left right (roots_of s (length left) (length right))
+unfoldable pub gated : List ℕ → List ℕ → List ℕ → Result ⊤ Verdict → Out
+gated s left right (Err v) = refused_by v
+gated s left right (Ok tt) = walked s left right (roots_of s (length left) (length right))
 
 -- what the call finds where so many bytes for paths and so many items are lent
 unfoldable pub found : List ℕ → List ℕ → List ℕ → ℕ → ℕ → Out

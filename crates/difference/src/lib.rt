@@ -7,9 +7,9 @@ ghost use Rattle.seeking.specs.Index.{IsIndex};
 ghost use Rattle.walk.specs.Lent.{paths_of, numbers_of, items_in, fitted};
 ghost use Rattle.difference.specs.Whole.{differences, roots_of, answer, items_after, paths_after};
 
-use bundle::{Opening, open_bundle};
+use bundle::open_bundle;
 use frame::Header;
-use ground::{Answer, FINE, Gate, MOST_RECORDS, NOT_FRAMED, Verdict, longer, sizes};
+use ground::{Answer, FINE, MOST_RECORDS, NOT_FRAMED, Verdict, longer, sizes};
 use indexing::make_index;
 use item::ITEM;
 use walk::walk_trees;
@@ -101,11 +101,11 @@ fn compare_in(
 }
 
 // Opens a bundle for two root ids: 24, 25.
-fn open_roots(bundle: &[u8], left: &[u8], right: &[u8]) -> Opening
+fn open_roots(bundle: &[u8], left: &[u8], right: &[u8]) -> Result<Header, Verdict>
     ensures { result ≡ roots_of bundle.now (length left.now) (length right.now) }
 {
     if left.len() != right.len() {
-        return Opening::Shut(Verdict {
+        return Err(Verdict {
             number: NOT_FRAMED,
             ..FINE
         });
@@ -132,16 +132,16 @@ pub fn compare_trees(
         longer(left.len(), right.len()),
     );
     match sizes(most, room) {
-        Gate::Shut(v) => Answer {
+        Err(v) => Answer {
             verdict: v,
             count: 0,
         },
-        Gate::Open => match open_roots(bundle, left, right) {
-            Opening::Shut(w) => Answer {
+        Ok(()) => match open_roots(bundle, left, right) {
+            Err(w) => Answer {
                 verdict: w,
                 count: 0,
             },
-            Opening::Open(k) => compare_in(bundle, k, left, right, items, paths),
+            Ok(k) => compare_in(bundle, k, left, right, items, paths),
         },
     }
 }

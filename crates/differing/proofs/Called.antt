@@ -11,16 +11,11 @@ use lib.ListN.{length}
 use Rattle.ground.specs.Basics.{pick}
 use Rattle.ground.specs.Verdict.{verdict, counted, refused, size_gate, most_bytes, most_records}
 use Rattle.ground.specs.declared.Answer.{Answer}
-use Rattle.ground.specs.declared.Gate.TheVariants as gate
 use Rattle.ground.proofs.Laws.{stored-done}
 use Rattle.frame.specs.Frame.{head_of, frames_by, whole}
 use Rattle.frame.specs.declared.Header.{Header}
-use Rattle.frame.specs.declared.Head.{Head}
-use Rattle.frame.specs.declared.Head.TheVariants.{Good, Bad}
 use Rattle.twice.specs.Ids.{ids_in, repeats}
 use Rattle.bundle.specs.Bundle.{open_by, open_from, open_of}
-use Rattle.bundle.specs.declared.Opening.{Opening}
-use Rattle.bundle.specs.declared.Opening.TheVariants.{Open, Shut}
 use Rattle.item.specs.Items.{Item, folder_of}
 use Rattle.walk.specs.Walk.{Out, Done}
 use Rattle.walk.specs.Walk.{levels}
@@ -30,6 +25,8 @@ use Rattle.difference.specs.Whole.{answer, items_after, paths_after}
 use Rattle.differing.specs.Exactly.{Differing, StoreExactly, CompareRun, CallExactly}
 use Rattle.differing.proofs.Stores.{store_ascending}
 use Rattle.differing.proofs.Exact.{exactly}
+use Rattle.ground.specs.declared.Verdict.{Verdict}
+use Rattle.std.specs.Prelude.{Err, None, Ok, Option, Result, Some}
 
 pub store_exactly : StoreExactly
 store_exactly k h store d prefix a b n g x = exactly (folder_of k h store) (store_ascending k h store) d prefix a b n g x
@@ -37,26 +34,26 @@ store_exactly k h store d prefix a b n g x = exactly (folder_of k h store) (stor
 -- ---- the call
 
 -- a bundle that stays shut has a number
-abbrev Fair : Opening → Type 0
-Fair (Open k) = Unit {0}
-Fair (Shut v) = v.number ≡ 0 → ⊥
+abbrev Fair : Result Header Verdict → Type 0
+Fair (Ok k) = Unit {0}
+Fair (Err v) = v.number ≡ 0 → ⊥
 
-fair_by : (s : List ℕ) (n : ℕ) (d : Head) → Fair (open_by s n d)
+fair_by : (s : List ℕ) (n : ℕ) (d : Option Header) → Fair (open_by s n d)
 unfolding open_by
-fair_by s n (Good k) = cases (eqb n k.h) (whole (frames_by s k)) (repeats (ids_in k.h s (frames_by s k)))
+fair_by s n (Some k) = cases (eqb n k.h) (whole (frames_by s k)) (repeats (ids_in k.h s (frames_by s k)))
   where
-    cases : (t u v : Bool) → Fair (pick t (pick u (pick v (Shut (verdict 25 0)) (Open k)) (Shut (verdict 24 0))) (Shut (verdict 24 0)))
+    cases : (t u v : Bool) → Fair (pick t (pick u (pick v (Err (verdict 25 0)) (Ok k)) (Err (verdict 24 0))) (Err (verdict 24 0)))
     cases true true true = λ h. omega arith
     cases true true false = tt
     cases true false v = λ h. omega arith
     cases false u v = λ h. omega arith
-fair_by s n Bad = λ h. omega arith
+fair_by s n None = λ h. omega arith
 
 fair_open : (s : List ℕ) (n : ℕ) → Fair (open_of s n)
 unfolding open_from size_gate
 fair_open s n = cases (leb (length s) most_bytes && leb 0 most_records)
   where
-    cases : (t : Bool) → Fair (open_from s n (pick t gate.Open (gate.Shut (verdict 2 0))))
+    cases : (t : Bool) → Fair (open_from s n (pick t (Ok tt) (Err (verdict 2 0))))
     cases true = fair_by s n (head_of s)
     cases false = λ h. omega arith
 
@@ -79,21 +76,21 @@ fitted-done room bytes o = cases (eqb o.verdict.number 0) (leb (length o.items) 
 
 module _ (s left right : List ℕ) where
   abbrev Told : Out → Type 0
-  Told o = (k : Header) × (open_of s (length left) ≡ Open k) × ((x : Item) → Memᴰ x o.items ↔ Differing (folders_of k s) [] left right x)
+  Told o = (k : Header) × (open_of s (length left) ≡ Ok k) × ((x : Item) → Memᴰ x o.items ↔ Differing (folders_of k s) [] left right x)
 
-  by_opening : (o : Opening) → open_of s (length left) ≡ o → Fair o → Done (walked s left right o) → Told (walked s left right o)
+  by_opening : (o : Result Header Verdict) → open_of s (length left) ≡ o → Fair o → Done (walked s left right o) → Told (walked s left right o)
   unfolding walked differences
-  by_opening (Shut v) e f h = absurd (f h)
-  by_opening (Open k) e f h = (k, e, λ x. store_exactly k.rules k.h (store_of s) levels [] left right 0 h x)
+  by_opening (Err v) e f h = absurd (f h)
+  by_opening (Ok k) e f h = (k, e, λ x. store_exactly k.rules k.h (store_of s) levels [] left right 0 h x)
 
-  by-roots : (t : Bool) → Done (walked s left right (pick t (open_of s (length left)) (Shut (verdict 24 0))))
-      → Told (walked s left right (pick t (open_of s (length left)) (Shut (verdict 24 0))))
+  by-roots : (t : Bool) → Done (walked s left right (pick t (open_of s (length left)) (Err (verdict 24 0))))
+      → Told (walked s left right (pick t (open_of s (length left)) (Err (verdict 24 0))))
   unfolding walked
   by-roots true h = by_opening (open_of s (length left)) refl (fair_open s (length left)) h
   by-roots false h = absurd (omega arith)
 
-  by-gate : (t : Bool) → Done (gated s left right (pick t gate.Open (gate.Shut (verdict 2 0))))
-      → Told (gated s left right (pick t gate.Open (gate.Shut (verdict 2 0))))
+  by-gate : (t : Bool) → Done (gated s left right (pick t (Ok tt) (Err (verdict 2 0))))
+      → Told (gated s left right (pick t (Ok tt) (Err (verdict 2 0))))
   unfolding gated roots_of
   by-gate true h = by-roots (eqb (length left) (length right)) h
   by-gate false h = absurd (omega arith)

@@ -9,8 +9,6 @@ use native.Mathlib.Omega.{arith}
 use lib.ListN.{length}
 use Rattle.ground.specs.Basics.{pick}
 use Rattle.order.specs.Order.{name_order, opposite}
-use Rattle.order.specs.declared.Order.{Order}
-use Rattle.order.specs.declared.Order.TheVariants.{Below, Same, Above}
 use Rattle.order.proofs.Laws.{order_same, order_flip, order_trans, order_irreflexive}
 use Rattle.rules.specs.Rules.{permitted}
 use Rattle.rules.proofs.Laws.{permitted-parts}
@@ -22,6 +20,8 @@ use Rattle.walk.proofs.Walks.{then_is, then-first, then-second, put-done}
 use Rattle.differing.specs.Differing.{Bound, any, past, Ascending}
 use Rattle.differing.specs.Exactly.{Alone, Changed, only-left, only-right, in_both, item_of, goes_on, Differing, here, inside, Exactly}
 use Rattle.differing.proofs.Theorems.{trees_open}
+use Rattle.std.specs.declared.cmp.Ordering.{Ordering}
+use Rattle.std.specs.declared.cmp.Ordering.TheVariants.{Equal, Greater, Less}
 
 -- where nothing is refused, an item is among those of a walk exactly in this case
 abbrev Tells : Out → Item → Type 0 → Type 0
@@ -29,16 +29,16 @@ Tells o x T = Done o → Memᴰ x o.items ↔ T
 
 -- ---- an entry and those behind it
 
-beyond_all : (n : List ℕ) (s : Bool) (es : List Named) → Ascending (past n s) es → (f : Named) → Memᴰ f es → name_order n s f.name (is_folder f) ≡ Below
+beyond_all : (n : List ℕ) (s : Bool) (es : List Named) → Ascending (past n s) es → (f : Named) → Memᴰ f es → name_order n s f.name (is_folder f) ≡ Less
 beyond_all n s [] a f m = absurd (Memᴰ.not-nil m)
 beyond_all n s (e ∷ es) a f m = go (Memᴰ.cases_cons m) (beyond_all e.name (is_folder e) es a.2 f)
   where
-    go : (f ≡ e) ⊎ Memᴰ f es → (Memᴰ f es → name_order e.name (is_folder e) f.name (is_folder f) ≡ Below)
-        → name_order n s f.name (is_folder f) ≡ Below
-    go (inl q) ih = subst (λ (k : Named). name_order n s k.name (is_folder k) ≡ Below) (sym q) a.1
+    go : (f ≡ e) ⊎ Memᴰ f es → (Memᴰ f es → name_order e.name (is_folder e) f.name (is_folder f) ≡ Less)
+        → name_order n s f.name (is_folder f) ≡ Less
+    go (inl q) ih = subst (λ (k : Named). name_order n s k.name (is_folder k) ≡ Less) (sym q) a.1
     go (inr k) ih = order_trans n s e.name (is_folder e) f.name (is_folder f) a.1 (ih k)
 
-no-below : (a b : List ℕ) (s t : Bool) → a ≡ b → s ≡ t → name_order a s b t ≡ Below → ⊥
+no-below : (a b : List ℕ) (s t : Bool) → a ≡ b → s ≡ t → name_order a s b t ≡ Less → ⊥
 no-below a b s t p q h = order_irreflexive b t (rw (p, q) at h)
 
 alone : (e : Named) (es : List Named) → Ascending (past e.name (is_folder e)) es → Alone e es
@@ -242,20 +242,20 @@ module _ (Inside : List ℕ → List ℕ → List ℕ → Item → Type 0) (pref
         (name_order l.name (is_folder l) r.name (is_folder r)) refl h
       where
         cases : ((m : ℕ) → Tells (against below prefix l next m rs) x (Some (l ∷ ls) rs x))
-            → (o : Order) → name_order l.name (is_folder l) r.name (is_folder r) ≡ o
+            → (o : Ordering) → name_order l.name (is_folder l) r.name (is_folder r) ≡ o
             → Tells
             (by_order o (left_only below prefix n l (λ m. next m (r ∷ rs))) (both below prefix n l r (λ m. next m rs))
             (right_only below prefix n r (λ m. against below prefix l next m rs))) x (Some (l ∷ ls) (r ∷ rs) x)
-        cases rec Below e h =
+        cases rec Less e h =
             let q : Ascending (past l.name (is_folder l)) (r ∷ rs) = (a.0, e, a.2) in
             change-exact n l.name (is_folder l) l.side absent (λ m. next m (r ∷ rs)) (Some ls (r ∷ rs) x) (Some (l ∷ ls) (r ∷ rs) x) x
             (λ m k. nx (r ∷ rs) (past l.name (is_folder l)) q m k) (left_step l ls (r ∷ rs) (alone l (r ∷ rs) q) x) h
-        cases rec Same e h =
+        cases rec Equal e h =
             let k = order_same l.name (is_folder l) r.name (is_folder r) (permitted-parts l.name f).2 (permitted-parts r.name a.0).2 e in
             let q : Ascending (past l.name (is_folder l)) rs = rw (k.0, k.1) a.2 in
             let q' : Ascending (past r.name (is_folder r)) ls = rw (k.0, k.1) at p in
             both-exact l r ls rs x (λ m. next m rs) k.0 k.1 (alone l rs q) (alone r ls q') (λ m g. nx rs (past l.name (is_folder l)) q m g) n h
-        cases rec Above e h =
+        cases rec Greater e h =
             let q : Ascending (past r.name (is_folder r)) (l ∷ ls) = (f, order_flip l.name (is_folder l) r.name (is_folder r) ∙ ap opposite e, p) in
             change-exact n r.name (is_folder r) absent r.side (λ m. against below prefix l next m rs) (Some (l ∷ ls) rs x) (Some (l ∷ ls) (r ∷ rs) x) x
             rec (right-step r (l ∷ ls) rs (alone r (l ∷ ls) q) x) h

@@ -10,12 +10,12 @@ use lib.ListN.{length, length-append}
 use Rattle.ground.specs.Scan.{free_of}
 use Rattle.ground.proofs.Laws.{and_right}
 use Rattle.order.specs.Order.{name_order}
-use Rattle.order.specs.declared.Order.TheVariants.{Below}
 use Rattle.order.proofs.Laws.{order_trans, order_irreflexive}
 use Rattle.rules.specs.Rules.{permitted}
 use Rattle.rules.proofs.Laws.{permitted-parts}
 use Rattle.item.specs.Items.{Item, join}
 use Rattle.differing.specs.Differing.{of_folder, Bound, any, past, Beyond, InOrder, none, block, Differs, All, Distinct}
+use Rattle.std.specs.declared.cmp.Ordering.TheVariants.{Less}
 
 -- ---- lists
 
@@ -81,7 +81,7 @@ pub record Under (prefix : List ℕ) (b : Bound) (y : Item) : Type 0 where
   pub later : Beyond b name sort
   pub there : ((y.path ≡ join prefix name) × (of_folder y ≡ sort)) ⊎ ((sort ≡ true) × ((rest : List ℕ) × (y.path ≡ join prefix name ++ (47 ∷ rest))))
 
-beyond_trans : (b : Bound) (n : List ℕ) (s : Bool) (m : List ℕ) (t : Bool) → Beyond b n s → name_order n s m t ≡ Below → Beyond b m t
+beyond_trans : (b : Bound) (n : List ℕ) (s : Bool) (m : List ℕ) (t : Bool) → Beyond b n s → name_order n s m t ≡ Less → Beyond b m t
 beyond_trans any n s m t h g = tt
 beyond_trans (past k u) n s m t h g = order_trans k u n s m t h g
 

@@ -11,8 +11,6 @@ use Rattle.ground.specs.Basics.{pick}
 use Rattle.ground.specs.Verdict.{verdict, fine, most_records}
 use Rattle.mode.specs.Mode.{value_of, sort_of, is_tree}
 use Rattle.order.specs.Order.{name_order, opposite}
-use Rattle.order.specs.declared.Order.{Order}
-use Rattle.order.specs.declared.Order.TheVariants.{Below, Same, Above}
 use Rattle.order.proofs.Laws.{order_same, order_flip, order_trans}
 use Rattle.rules.specs.Rules.{permitted}
 use Rattle.rules.proofs.Laws.{permitted-parts}
@@ -21,6 +19,8 @@ use Rattle.walk.specs.Walk.{Out, refused_by, nothing, put, and_then, Lower, chan
 use Rattle.merge.specs.Merge.{by_order}
 use Rattle.differing.specs.Differing.{Bound, any, past, Beyond, Ascending, InOrder, none, block, GitOrder}
 use Rattle.walk.proofs.Walks.{then_is, then-stop, put-done}
+use Rattle.std.specs.declared.cmp.Ordering.{Ordering}
+use Rattle.std.specs.declared.cmp.Ordering.TheVariants.{Equal, Greater, Less}
 
 done_or : (o : Out) → Done o ⊎ (Done o → ⊥)
 done_or o = cases (eqb o.verdict.number 0) refl
@@ -55,7 +55,7 @@ left-sort m = rw tree-zero (or-false (is_tree m))
 right-sort : (m : ℕ) → is_tree 0 || is_tree m ≡ is_tree m
 right-sort m = rw tree-zero
 
-beyond_trans : (b : Bound) (n : List ℕ) (s : Bool) (m : List ℕ) (t : Bool) → Beyond b n s → name_order n s m t ≡ Below → Beyond b m t
+beyond_trans : (b : Bound) (n : List ℕ) (s : Bool) (m : List ℕ) (t : Bool) → Beyond b n s → name_order n s m t ≡ Less → Beyond b m t
 beyond_trans any n s m t h g = tt
 beyond_trans (past k u) n s m t h g = order_trans k u n s m t h g
 
@@ -145,16 +145,16 @@ module _ (below : Lower) (prefix : List ℕ) (ordered : (path a b : List ℕ) (n
       cases (λ e m. against_order l next f nx rs (past r.name (is_folder r)) (order_flip l.name (is_folder l) r.name (is_folder r) ∙ ap opposite e) a.2 m)
       (name_order l.name (is_folder l) r.name (is_folder r)) refl
     where
-      cases : (name_order l.name (is_folder l) r.name (is_folder r) ≡ Above → (m : ℕ) → InOrder prefix (past r.name (is_folder r)) (against below prefix l next m rs).items)
-          → (o : Order) → name_order l.name (is_folder l) r.name (is_folder r) ≡ o
+      cases : (name_order l.name (is_folder l) r.name (is_folder r) ≡ Greater → (m : ℕ) → InOrder prefix (past r.name (is_folder r)) (against below prefix l next m rs).items)
+          → (o : Ordering) → name_order l.name (is_folder l) r.name (is_folder r) ≡ o
           → InOrder prefix b
           (by_order o (left_only below prefix n l (λ m. next m (r ∷ rs))) (both below prefix n l r (λ m. next m rs)) (right_only below prefix n r (λ m. against below prefix l next m rs))).items
-      cases rec Below e = left_order l (λ m. next m (r ∷ rs)) b f y (λ m. nx (r ∷ rs) (a.0, e, a.2) m) n
-      cases rec Same e =
+      cases rec Less e = left_order l (λ m. next m (r ∷ rs)) b f y (λ m. nx (r ∷ rs) (a.0, e, a.2) m) n
+      cases rec Equal e =
           let k = order_same l.name (is_folder l) r.name (is_folder r) (permitted-parts l.name f).2 (permitted-parts r.name a.0).2 e in
           let asc : Ascending (past l.name (is_folder l)) rs = rw (k.0, k.1) a.2 in
           both_order l r (λ m. next m rs) b f k.1 y (λ m. nx rs asc m) n
-      cases rec Above e = right_order r (λ m. against below prefix l next m rs) b a.0 a.1 (rec e) n
+      cases rec Greater e = right_order r (λ m. against below prefix l next m rs) b a.0 a.1 (rec e) n
 
   entries_order : (ls : List Named) (b : Bound) → Ascending b ls → (rs : List Named) → Ascending b rs → (n : ℕ) → InOrder prefix b (compare_entries below prefix ls n rs).items
   unfolding compare_entries

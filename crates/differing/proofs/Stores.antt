@@ -17,14 +17,14 @@ use Rattle.reading.specs.Listing.{Listing, done, stop, entry, listing, records_i
 use Rattle.doubles.specs.Doubles.{named_before}
 use Rattle.rules.specs.Rules.{git_rules, judge, modes_of, or_else, is_text, permitted, is_dot_git, name_number, stands_before, is_after, after_number}
 use Rattle.strict.specs.Strict.{strict_count, cut, text_of}
-use Rattle.reading.specs.declared.Counted.{Counted}
-use Rattle.reading.specs.declared.Counted.TheVariants.{Total, Stopped}
 use Rattle.rules.proofs.Laws.{permitted-parts}
 use Rattle.item.specs.Items.{Named, named_of, is_folder, Stored, missing, object, shut, holds, read_strictly, tree_of, folder_of}
 use Rattle.differing.specs.Differing.{Slashless, Bound, any, past, Beyond, Ascending, StoreOrder, StoreEmpty, StoreDistinct}
 use Rattle.differing.proofs.Theorems.{empty_exactly}
 use Rattle.differing.proofs.Ordered.{git_order}
 use Rattle.differing.proofs.Once.{distinct}
+use Rattle.ground.specs.declared.Verdict.{Verdict}
+use Rattle.std.specs.Prelude.{Err, Ok, Result}
 
 judged : (k : ℕ) (before : List Entry) (text : List ℕ) (e : Entry) → judge (git_rules k) before text e ≡ 0 → (permitted e.name ≡ true) × (is_after before e ≡ true)
 unfolding judge git_rules name_number after_number
@@ -69,9 +69,9 @@ unfolding folder_of tree_of read_strictly bound_of
 store_ascending k h store [] es e = subst (λ (l : List Named). Ascending any l) (holds-is [] es e) tt
 store_ascending k h store (x ∷ id) es e = found (store (x ∷ id)) e
   where
-    counted : (start : ℕ) (s : List ℕ) (c : Counted) → read_strictly k h start s c ≡ holds es → Ascending any es
-    counted start s (Stopped v) q = let z : ◌≡◌ {A = ℕ} 0 1 = cc in absurd (omega arith)
-    counted start s (Total n) q = subst (λ (l : List Named). Ascending any l) (holds-is _ es q) (cut_ascending k h start s [] (listing h s))
+    counted : (start : ℕ) (s : List ℕ) (c : Result ℕ Verdict) → read_strictly k h start s c ≡ holds es → Ascending any es
+    counted start s (Err v) q = let z : ◌≡◌ {A = ℕ} 0 1 = cc in absurd (omega arith)
+    counted start s (Ok n) q = subst (λ (l : List Named). Ascending any l) (holds-is _ es q) (cut_ascending k h start s [] (listing h s))
 
     found : (o : Stored) → tree_of k h o ≡ holds es → Ascending any es
     found missing q = let z : ◌≡◌ {A = ℕ} 0 1 = cc in absurd (omega arith)

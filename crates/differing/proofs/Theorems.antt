@@ -11,8 +11,6 @@ use Rattle.ground.proofs.Laws.{same_refl, same_true}
 use Rattle.ground.specs.Basics.{pick}
 use Rattle.ground.specs.Scan.{same_bytes}
 use Rattle.order.specs.Order.{name_order}
-use Rattle.order.specs.declared.Order.{Order}
-use Rattle.order.specs.declared.Order.TheVariants.{Below, Same, Above}
 use Rattle.order.proofs.Laws.{order_self, order_same}
 use Rattle.entry.specs.Entry.{Entry}
 use Rattle.item.specs.Items.{Side, absent, Named, is_folder, Item, Folder, holds, join, same_id, same_side, entry_of}
@@ -20,6 +18,8 @@ use Rattle.walk.specs.Walk.{Out, nothing, put, and_then, Lower, change, left_onl
 use Rattle.merge.specs.Merge.{by_order}
 use Rattle.differing.specs.Differing.{Slashless, EmptyExactly, EqualUnopened}
 use Rattle.walk.proofs.Walks.{then_is, then-first, put-done, then_same}
+use Rattle.std.specs.declared.cmp.Ordering.{Ordering}
+use Rattle.std.specs.declared.cmp.Ordering.TheVariants.{Equal, Greater, Less}
 
 -- ---- folders with equal ids are not opened
 
@@ -105,16 +105,16 @@ equal_none below prefix (l ∷ ls) n (r ∷ rs) h =
     let em : l.side.mode ≡ r.side.mode = ap (λ (x : Entry). x.mode) e in
     let en : l.name ≡ r.name = ap (λ (x : Entry). x.name) e in
     let ei : l.side.id ≡ r.side.id = ap (λ (x : Entry). x.id) e in
-    let o : name_order l.name (is_folder l) r.name (is_folder r) ≡ Same = rw (en, em) (order_self r.name (is_folder r)) in
+    let o : name_order l.name (is_folder l) r.name (is_folder r) ≡ Equal = rw (en, em) (order_self r.name (is_folder r)) in
     let t : same_side l.side r.side ≡ true = rw (ei, eq-eqb _ _ em) (same_refl r.side.id) in
     rw (o, t) (equal_none below prefix ls n rs rest)
 
 -- no item was made: of three walks it was the middle one, and of two the first
-middle : (o : Order) (A B C : Out) → (Done A → A.items ≡ [] → ⊥) → (Done C → C.items ≡ [] → ⊥) → Done (by_order o A B C) → (by_order o A B C).items ≡ []
-    → (o ≡ Same) × Done B × (B.items ≡ [])
-middle Below A B C f g h k = absurd (f h k)
-middle Same A B C f g h k = (refl, h, k)
-middle Above A B C f g h k = absurd (g h k)
+middle : (o : Ordering) (A B C : Out) → (Done A → A.items ≡ [] → ⊥) → (Done C → C.items ≡ [] → ⊥) → Done (by_order o A B C) → (by_order o A B C).items ≡ []
+    → (o ≡ Equal) × Done B × (B.items ≡ [])
+middle Less A B C f g h k = absurd (f h k)
+middle Equal A B C f g h k = (refl, h, k)
+middle Greater A B C f g h k = absurd (g h k)
 
 first : (t : Bool) (A B : Out) → (Done B → B.items ≡ [] → ⊥) → Done (pick t A B) → (pick t A B).items ≡ [] → (t ≡ true) × Done A × (A.items ≡ [])
 first true A B g h k = (refl, h, k)

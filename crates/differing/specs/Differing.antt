@@ -1,17 +1,16 @@
 -- What is claimed of a difference (docs/FORMAT.md, "Differences"): of any folders, and of the folders of every store. `proofs/` prove it.
 -- Assumes nothing.
-use Rattle.std.specs.Prelude.{ℕ, zero, suc, ◌<◌, Bool, true, false, ◌||◌, ◌≡◌, List, [], ◌∷◌, ◌++◌, map, ◌↔◌}
+use Rattle.std.specs.Prelude.{ℕ, zero, suc, ◌<◌, Bool, true, false, ◌||◌, ◌≡◌, List, [], ◌∷◌, ◌++◌, map, ◌↔◌, Ok}
 use Rattle.ground.specs.Basics.{pick}
 use Rattle.ground.specs.Scan.{free_of}
 use Rattle.ground.specs.Verdict.{verdict}
 use Rattle.mode.specs.Mode.{is_tree}
 use Rattle.order.specs.Order.{name_order}
-use Rattle.order.specs.declared.Order.TheVariants.{Below}
 use Rattle.rules.specs.Rules.{permitted}
 use Rattle.strict.specs.Strict.{strict_count}
-use Rattle.reading.specs.declared.Counted.TheVariants.{Total}
 use Rattle.item.specs.Items.{Side, absent, Named, is_folder, Item, Stored, object, Folder, holds, folder_of, join, entry_of}
 use Rattle.walk.specs.Walk.{Lower, Out, refused_by, nothing, Done, put, and_then, opened, compare_entries, compare_folders}
+use Rattle.std.specs.declared.cmp.Ordering.TheVariants.{Less}
 
 -- ---- no item exactly where nothing differs
 
@@ -49,7 +48,7 @@ pub data Bound : Type 0 where
 -- a name and sort strictly behind it in Git's order
 abbrev pub Beyond : Bound → List ℕ → Bool → Type 0
 Beyond any name sort = Unit {0}
-Beyond (past n s) name sort = name_order n s name sort ≡ Below
+Beyond (past n s) name sort = name_order n s name sort ≡ Less
 
 -- entries that ascend, under names that strict reading permits
 abbrev pub Ascending : Bound → List Named → Type 0
@@ -129,6 +128,6 @@ StoreEmpty =
 abbrev pub StoreSameBytes : Type 0
 StoreSameBytes =
     (k h : ℕ) (store : List ℕ → Stored) (d x y : ℕ) (a b : List ℕ) (p q n m : ℕ) (s t : List ℕ) → 6 < h
-    → store (x ∷ a) ≡ object 2 p s → strict_count k h s ≡ Total n → store (y ∷ b) ≡ object 2 q t → strict_count k h t ≡ Total m
+    → store (x ∷ a) ≡ object 2 p s → strict_count k h s ≡ Ok n → store (y ∷ b) ≡ object 2 q t → strict_count k h t ≡ Ok m
     → Done (compare_folders (folder_of k h store) d [] (x ∷ a) (y ∷ b) 0)
     → ((compare_folders (folder_of k h store) d [] (x ∷ a) (y ∷ b) 0).items ≡ []) ↔ (s ≡ t)

@@ -1,6 +1,6 @@
 -- What differs between two folders, said of their entries alone and not of the walk that finds it (docs/FORMAT.md, "Differences"); and that the items of a
 -- difference are exactly this. `proofs/` prove it. Assumes nothing.
-use Rattle.std.specs.Prelude.{ℕ, Bool, true, false, ◌&&◌, not, ◌≡◌, ◌↔◌, length, drop}
+use Rattle.std.specs.Prelude.{ℕ, Bool, true, false, ◌&&◌, not, ◌≡◌, ◌↔◌, length, drop, Ok}
 use mathlib.Core.List.{List, [], ◌++◌, Memᴰ}
 use contract.Lifetimes.{Lfts}
 use denote.Triple.Clauses.{AtExit}
@@ -9,7 +9,6 @@ use Rattle.ground.specs.Verdict.{counted}
 use Rattle.ground.specs.declared.Answer.{Answer}
 use Rattle.frame.specs.declared.Header.{Header}
 use Rattle.bundle.specs.Bundle.{open_of}
-use Rattle.bundle.specs.declared.Opening.TheVariants.{Open}
 use Rattle.item.specs.Items.{absent, Named, is_folder, Item, Stored, Folder, holds, folder_of, join, same_id, same_side}
 use Rattle.walk.specs.Walk.{Done, compare_folders}
 use Rattle.walk.specs.Lent.{numbers_of, paths_of}
@@ -86,7 +85,7 @@ pub record CompareRun (s left right items paths : List ℕ) (answer : Answer) (i
 -- paths at the front of the bytes for them, which both stay as they were behind that
 pub record Listed (s left right items paths : List ℕ) (answer : Answer) (items' paths' : List ℕ) : Type 0 where
   pub header : Header
-  pub opens : open_of s (length left) ≡ Open header
+  pub opens : open_of s (length left) ≡ Ok header
   pub list : List Item
   pub exact : (x : Item) → Memᴰ x list ↔ Differing (folders_of header s) [] left right x
   pub count : answer ≡ counted (length list)

@@ -9,8 +9,8 @@ use lib.ListN.{length}
 use Rattle.ground.specs.Scan.{common_start}
 use Rattle.ground.proofs.Laws.{equal, common_same, common_differ}
 use Rattle.order.specs.Order.{name_order, next}
-use Rattle.order.specs.declared.Order.TheVariants.{Below}
 use Rattle.order.proofs.Laws.{by-below, first_le, below_rest}
+use Rattle.std.specs.declared.cmp.Ordering.TheVariants.{Less}
 
 common_none : (a : List ℕ) → common_start a [] ≡ 0
 unfolding common_start
@@ -59,7 +59,7 @@ common_whole (x ∷ a) (y ∷ b) e h =
     (equal x y)
 
 -- what stands between a file and a later name that starts with the file's name starts with it too
-pub common_between : (d c : List ℕ) (u : Bool) (l : List ℕ) (t : Bool) → name_order d false c u ≡ Below → name_order c u l t ≡ Below → length d ≤ common_start d l → length d ≤ common_start d c
+pub common_between : (d c : List ℕ) (u : Bool) (l : List ℕ) (t : Bool) → name_order d false c u ≡ Less → name_order c u l t ≡ Less → length d ≤ common_start d l → length d ≤ common_start d c
 unfolding common_start name_order next
 common_between [] c u l t h k s = omega arith
 common_between (x ∷ d) c u [] t h k s = absurd (omega arith)

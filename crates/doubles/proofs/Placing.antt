@@ -13,15 +13,16 @@ use Rattle.ground.specs.Basics.{pick}
 use Rattle.ground.specs.Scan.{common_start}
 use Rattle.mode.specs.Mode.{is_tree}
 use Rattle.order.specs.Order.{name_order}
-use Rattle.order.specs.declared.Order.{Order}
-use Rattle.order.specs.declared.Order.TheVariants.{Below, Same, Above}
 use Rattle.entry.specs.Entry.{Entry}
 use Rattle.doubles.specs.Doubles.{named_before, shut, top_is, last_name, noted, opened, held}
 use Rattle.doubles.specs.Stack.{stack_of, open_at, marks_at, is_double, place_of, marks_of}
-use Rattle.doubles.specs.declared.Placed.{Placed}
-use Rattle.doubles.specs.declared.Placed.TheVariants.{Fine, NotAfter, Double}
 use Rattle.doubles.proofs.Theorem.{Ascends, marked, marked_is, name_bytes, held-few, shut_drops, shut_stops, noted-tree, noted-file}
 use Rattle.doubles.proofs.Stacking.{kept-shut, kept-le}
+use Rattle.doubles.specs.declared.Misplaced.{Misplaced}
+use Rattle.doubles.specs.declared.Misplaced.TheVariants.{Double, NotAfter}
+use Rattle.std.specs.Prelude.{Err, Ok, Result}
+use Rattle.std.specs.declared.cmp.Ordering.{Ordering}
+use Rattle.std.specs.declared.cmp.Ordering.TheVariants.{Equal, Greater, Less}
 
 -- the first n of the array are the names that were open before the last entry
 pub record Tracks (a : List ℕ) (n : ℕ) (seen : List Entry) : Type 0 where
@@ -110,17 +111,17 @@ module _ (a : List ℕ) (n : ℕ) (l : Entry) (seen : List Entry) (t : Tracks a 
 -- ---- the rule
 
 module _ (a : List ℕ) (n : ℕ) (l : Entry) (seen : List Entry) (e : Entry) where
-  abbrev r· : Placed
+  abbrev r· : Result ℕ Misplaced
   r· = place_of a n l.name (is_tree l.mode) e.name (is_tree e.mode)
 
   abbrev Stands : Type 0
-  Stands = name_order l.name (is_tree l.mode) e.name (is_tree e.mode) ≡ Below
+  Stands = name_order l.name (is_tree l.mode) e.name (is_tree e.mode) ≡ Less
 
   -- what each answer tells
   pub record Told : Type 0 where
-    pub not_after : r· ≡ NotAfter → Stands → ⊥
-    pub double : r· ≡ Double → Stands × (named_before (l ∷ seen) e.name ≡ true)
-    pub fine : (k : ℕ) → r· ≡ Fine k
+    pub not_after : r· ≡ Err NotAfter → Stands → ⊥
+    pub double : r· ≡ Err Double → Stands × (named_before (l ∷ seen) e.name ≡ true)
+    pub fine : (k : ℕ) → r· ≡ Ok k
         → Stands × (named_before (l ∷ seen) e.name ≡ false) × Tracks (marks_of a n l.name (is_tree l.mode) e.name (is_tree e.mode)) k (e ∷ l ∷ seen)
 
 -- they are told where the listing ascends, and the marks are as many as its names can open
@@ -143,7 +144,7 @@ module _ (a : List ℕ) (n : ℕ) (l : Entry) (seen : List Entry) (t : Tracks a 
   abbrev marks : List ℕ
   marks = marks_at a n (common_start l.name e.name) (length l.name) (is_tree l.mode)
 
-  place-below : Stands a n l seen e → r· a n l seen e ≡ pick (is_double marks next (length e.name) (is_tree e.mode)) Double (Fine next)
+  place-below : Stands a n l seen e → r· a n l seen e ≡ pick (is_double marks next (length e.name) (is_tree e.mode)) (Err Double) (Ok next)
   unfolding place_of
   place-below o = rw (o, fits)
 
@@ -151,7 +152,7 @@ module _ (a : List ℕ) (n : ℕ) (l : Entry) (seen : List Entry) (t : Tracks a 
   unfolding marks_of
   marks-below o = rw (o, fits)
 
-  when_not : (Stands a n l seen e → ⊥) → r· a n l seen e ≡ NotAfter → Told a n l seen e
+  when_not : (Stands a n l seen e → ⊥) → r· a n l seen e ≡ Err NotAfter → Told a n l seen e
   when_not f q =
       record {
         not_after = λ z. f;
@@ -159,7 +160,7 @@ module _ (a : List ℕ) (n : ℕ) (l : Entry) (seen : List Entry) (t : Tracks a 
         fine = λ k z. let y : ◌≡◌ {A = ℕ} 0 1 = cc in absurd (omega arith);
       }
 
-  when_below : Stands a n l seen e → (v : Bool) → named_before (l ∷ seen) e.name ≡ v → r· a n l seen e ≡ pick v Double (Fine next) → Told a n l seen e
+  when_below : Stands a n l seen e → (v : Bool) → named_before (l ∷ seen) e.name ≡ v → r· a n l seen e ≡ pick v (Err Double) (Ok next) → Told a n l seen e
   when_below o true d q =
       record {
         not_after = λ z. let y : ◌≡◌ {A = ℕ} 0 1 = cc in absurd (omega arith);
@@ -177,9 +178,9 @@ module _ (a : List ℕ) (n : ℕ) (l : Entry) (seen : List Entry) (t : Tracks a 
   unfolding place_of
   told = go (name_order l.name (is_tree l.mode) e.name (is_tree e.mode)) refl
     where
-      go : (o : Order) → name_order l.name (is_tree l.mode) e.name (is_tree e.mode) ≡ o → Told a n l seen e
-      go Below q =
+      go : (o : Ordering) → name_order l.name (is_tree l.mode) e.name (is_tree e.mode) ≡ o → Told a n l seen e
+      go Less q =
           when_below q (named_before (l ∷ seen) e.name) refl
-          (place-below q ∙ ap (λ (v : Bool). pick v Double (Fine next)) (double_is a n l seen t e roomy short (q, up)))
-      go Same q = when_not (λ o. let y : ◌≡◌ {A = ℕ} 0 1 = cc in omega arith) (rw q)
-      go Above q = when_not (λ o. let y : ◌≡◌ {A = ℕ} 0 1 = cc in omega arith) (rw q)
+          (place-below q ∙ ap (λ (v : Bool). pick v (Err Double) (Ok next)) (double_is a n l seen t e roomy short (q, up)))
+      go Equal q = when_not (λ o. let y : ◌≡◌ {A = ℕ} 0 1 = cc in omega arith) (rw q)
+      go Greater q = when_not (λ o. let y : ◌≡◌ {A = ℕ} 0 1 = cc in omega arith) (rw q)

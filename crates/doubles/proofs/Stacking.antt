@@ -12,12 +12,13 @@ use borrow.Author.Tests.{lt-ltb, le-ltb, ltb-true}
 use Rattle.ground.specs.Basics.{pick}
 use Rattle.ground.specs.Scan.{common_start}
 use Rattle.order.specs.Order.{name_order}
-use Rattle.order.specs.declared.Order.{Order}
-use Rattle.order.specs.declared.Order.TheVariants.{Below, Same, Above}
 use Rattle.doubles.specs.Doubles.{shut, top_is}
 use Rattle.doubles.specs.Stack.{stack_of, kept_of, open_at, marks_at, is_double, open_of, if_below, place_of, marks_of}
-use Rattle.doubles.specs.declared.Placed.{Placed}
-use Rattle.doubles.specs.declared.Placed.TheVariants.{Fine, NotAfter, Double}
+use Rattle.doubles.specs.declared.Misplaced.{Misplaced}
+use Rattle.doubles.specs.declared.Misplaced.TheVariants.{Double, NotAfter}
+use Rattle.std.specs.Prelude.{Err, Ok, Result}
+use Rattle.std.specs.declared.cmp.Ordering.{Ordering}
+use Rattle.std.specs.declared.cmp.Ordering.TheVariants.{Equal, Greater, Less}
 
 -- ---- how many stay
 
@@ -127,30 +128,30 @@ module _ (a : List ℕ) (k len : ℕ) (folder : Bool) where
 -- ---- an entry after one of whose name so much is shared
 
 -- what is answered, and the marks afterwards
-abbrev pub Opened : List ℕ → ℕ → ℕ → ℕ → Bool → ℕ → Bool → Placed → List ℕ → Type 0
+abbrev pub Opened : List ℕ → ℕ → ℕ → ℕ → Bool → ℕ → Bool → Result ℕ Misplaced → List ℕ → Type 0
 Opened a n p len was size folder r b = (r ≡ open_of a n p len was size folder) × (b ≡ marks_at a (min n (length a)) p len was)
 
 module _ (a : List ℕ) (n p len : ℕ) (was : Bool) (size : ℕ) (folder : Bool) (m k : ℕ) (b : List ℕ) (e : m ≡ min n (length a)) (d : Did a m p len was k b) where
-  pub opened_double : is_double b k size folder ≡ true → Opened a n p len was size folder Double b
+  pub opened_double : is_double b k size folder ≡ true → Opened a n p len was size folder (Err Double) b
   unfolding open_of
   opened_double q = (rw (← e, ← d.0, ← d.1, q), rw (← e) d.1)
 
-  pub opened-fine : is_double b k size folder ≡ false → Opened a n p len was size folder (Fine k) b
+  pub opened-fine : is_double b k size folder ≡ false → Opened a n p len was size folder (Ok k) b
   unfolding open_of
   opened-fine q = (rw (← e, ← d.0, ← d.1, q), rw (← e) d.1)
 
 -- ---- an entry after one whose name is at hand
 
 -- what is answered, and the marks afterwards
-abbrev pub Went : List ℕ → ℕ → List ℕ → Bool → List ℕ → Bool → Placed → List ℕ → Type 0
+abbrev pub Went : List ℕ → ℕ → List ℕ → Bool → List ℕ → Bool → Result ℕ Misplaced → List ℕ → Type 0
 Went a n last was name folder r b = (r ≡ place_of a n last was name folder) × (b ≡ marks_of a n last was name folder)
 
 module _ (a : List ℕ) (n : ℕ) (last : List ℕ) (was : Bool) (name : List ℕ) (folder : Bool) where
-  pub went_same : name_order last was name folder ≡ Same → Went a n last was name folder NotAfter a
+  pub went_same : name_order last was name folder ≡ Equal → Went a n last was name folder (Err NotAfter) a
   unfolding place_of marks_of
   went_same o = (rw o, rw o)
 
-  pub went_above : name_order last was name folder ≡ Above → Went a n last was name folder NotAfter a
+  pub went_above : name_order last was name folder ≡ Greater → Went a n last was name folder (Err NotAfter) a
   unfolding place_of marks_of
   went_above o = (rw o, rw o)
 
@@ -159,13 +160,13 @@ module _ (a : List ℕ) (n : ℕ) (last : List ℕ) (was : Bool) (name : List �
   unfolding marks_of marks_at
   marks-length = go (name_order last was name folder) (was || ltb (common_start last name) (length last))
     where
-      go : (o : Order) (v : Bool) → length (if_below o (pick v a (set a (min n (length a)) (length last % 4294967296))) a) ≡ length a
-      go Below true = refl
-      go Below false = length-set a (min n (length a)) (length last % 4294967296)
-      go Same v = refl
-      go Above v = refl
+      go : (o : Ordering) (v : Bool) → length (if_below o (pick v a (set a (min n (length a)) (length last % 4294967296))) a) ≡ length a
+      go Less true = refl
+      go Less false = length-set a (min n (length a)) (length last % 4294967296)
+      go Equal v = refl
+      go Greater v = refl
 
-  pub went_below : name_order last was name folder ≡ Below → (p : ℕ) {r : Placed} {b : List ℕ} → p ≡ common_start last name
+  pub went_below : name_order last was name folder ≡ Less → (p : ℕ) {r : Result ℕ Misplaced} {b : List ℕ} → p ≡ common_start last name
       → Opened a n p (length last) was (length name) folder r b → Went a n last was name folder r b
   unfolding place_of marks_of open_of
   went_below o p e d = (rw (o, ← e) d.0, rw (o, ← e) d.1)

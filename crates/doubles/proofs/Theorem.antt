@@ -13,18 +13,18 @@ use Rattle.ground.specs.Scan.{common_start, same_bytes}
 use Rattle.ground.proofs.Laws.{same_test, same_true, same_refl, common_right}
 use Rattle.mode.specs.Mode.{is_tree}
 use Rattle.order.specs.Order.{name_order, next}
-use Rattle.order.specs.declared.Order.TheVariants.{Below}
 use Rattle.order.proofs.Laws.{by-below, order_trans, order_irreflexive, below_rest}
 use Rattle.entry.specs.Entry.{Entry}
 use Rattle.doubles.specs.Doubles.{named_before, shut, top_is, last_name, noted, opened, held}
 use Rattle.doubles.proofs.Common.{common-self, common_through, common_turn, common_whole, common_between}
+use Rattle.std.specs.declared.cmp.Ordering.TheVariants.{Less}
 
 -- ---- an ascending listing, the nearest entry first
 
 -- an entry stands after the one before
 abbrev pub After : List Entry → Entry → Type 0
 After [] e = Unit {0}
-After (d ∷ before) e = name_order d.name (is_tree d.mode) e.name (is_tree e.mode) ≡ Below
+After (d ∷ before) e = name_order d.name (is_tree d.mode) e.name (is_tree e.mode) ≡ Less
 
 abbrev pub Ascends : List Entry → Type 0
 Ascends [] = Unit {0}
@@ -167,7 +167,7 @@ left-file seen n k i = left-of seen (opened-file seen) n k i
 -- ---- and each such file is there
 
 abbrev Lower : Entry → Entry → Type 0
-Lower d e = name_order d.name (is_tree d.mode) e.name (is_tree e.mode) ≡ Below
+Lower d e = name_order d.name (is_tree d.mode) e.name (is_tree e.mode) ≡ Less
 
 -- every earlier entry is below, not the last alone
 pub earlier : (seen : List Entry) (e : Entry) → Ascends (e ∷ seen) → (d : Entry) → Among d seen → Lower d e
@@ -182,7 +182,7 @@ starts_last [] e h d m f s = absurd m
 starts_last (l ∷ seen) e h d (inl q) f s = omega (arith, ap (λ (x : Entry). common_start d.name x.name) q, common-self d.name)
 starts_last (l ∷ seen) e h d (inr m) f s =
     common_between d.name l.name (is_tree l.mode) e.name (is_tree e.mode)
-    (subst (λ (b : Bool). name_order d.name b l.name (is_tree l.mode) ≡ Below) f (earlier seen l h.1 d m)) h.0 s
+    (subst (λ (b : Bool). name_order d.name b l.name (is_tree l.mode) ≡ Less) f (earlier seen l h.1 d m)) h.0 s
 
 abbrev Kept : List Entry → Type 0
 Kept seen = (d : Entry) → Among d seen → is_tree d.mode ≡ false → length d.name ≤ common_start d.name (last_name seen) → In (length d.name) (opened seen)
@@ -232,12 +232,12 @@ there-named (e ∷ seen) n d (inl p) q =
 there-named (e ∷ seen) n d (inr m) q = rw (there-named seen n d m q) (or_right (same_bytes e.name n))
 
 -- of two entries of one name the lower is a file and the other a folder
-not_down : (n : List ℕ) → name_order n true n false ≡ Below → ⊥
+not_down : (n : List ℕ) → name_order n true n false ≡ Less → ⊥
 unfolding name_order next
 not_down [] h = omega (arith, by-below h)
 not_down (x ∷ n) h = not_down n (below_rest x n true x n false refl h)
 
-own : (n : List ℕ) (s t : Bool) → name_order n s n t ≡ Below → (s ≡ false) × (t ≡ true)
+own : (n : List ℕ) (s t : Bool) → name_order n s n t ≡ Less → (s ≡ false) × (t ≡ true)
 own n true true h = absurd (order_irreflexive n true h)
 own n true false h = absurd (not_down n h)
 own n false true h = (refl, refl)

@@ -5,13 +5,13 @@ ghost use Rattle.std.specs.Prelude.{◌≡◌, ◌≤◌, min, length};
 ghost use Rattle.doubles.specs.Stack.{kept_of, open_at, marks_at, is_double, open_of, place_of, marks_of};
 
 use ground::shorter;
-use order::{Order, by_next};
+use order::by_next;
 use scan::common_start;
+use std::cmp::Ordering;
 
-// Where an entry stands: after the one before and of a new name, with so many names open; or not.
+// Why an entry is refused where it stands: it is not after the one before, or its name was there already.
 #[derive(Clone, Copy)]
-pub enum Placed {
-    Fine(usize),
+pub enum Misplaced {
     NotAfter,
     Double,
 }
@@ -21,16 +21,12 @@ fn kept(marks: &[u32], n: usize, p: usize) -> usize
     requires { n ≤ length marks.now }
     ensures { result ≡ kept_of marks.now p n }
 {
-    let mut k = n;
-    while 0 < k {
-        let top = k - 1;
-        let mark = marks[top] as usize;
-        if mark <= p {
-            return k;
+    for k in (0..n).rev() {
+        if marks[k] as usize <= p {
+            return k + 1;
         }
-        k = top;
     }
-    k
+    0
 }
 
 // The marks at the next name, which shares p bytes with a name of len bytes, a folder's or not.
@@ -39,10 +35,7 @@ fn open_next(marks: &mut [u32], n: usize, p: usize, len: usize, was: bool) -> us
     ensures count { result ≡ open_at marks.old n p len was }
     ensures marks { marks.new ≡ marks_at marks.old n p len was }
 {
-    if was {
-        return kept(marks, n, p);
-    }
-    if p < len {
+    if was || p < len {
         return kept(marks, n, p);
     }
     if marks.len() <= n {
@@ -57,15 +50,10 @@ fn is_double(marks: &[u32], k: usize, len: usize, folder: bool) -> bool
     requires { k ≤ length marks.now }
     ensures { result ≡ is_double marks.now k len folder }
 {
-    if folder {
-        if k == 0 {
-            return false;
-        }
-        let top = k - 1;
-        let mark = marks[top] as usize;
-        return mark == len;
+    if !folder || k == 0 {
+        return false;
     }
-    false
+    marks[k - 1] as usize == len
 }
 
 // An entry of size bytes that stands after one of len bytes, of which it shares p. The marks keep the names that are open.
@@ -77,16 +65,16 @@ pub fn open_entry(
     was: bool,
     size: usize,
     folder: bool,
-) -> Placed
+) -> Result<usize, Misplaced>
     ensures placed { result ≡ open_of marks.old n p len was size folder }
     ensures marks { marks.new ≡ marks_at marks.old (min n (length marks.old)) p len was }
 {
     let m = shorter(n, marks.len());
     let k = open_next(marks, m, p, len, was);
     if is_double(marks, k, size, folder) {
-        return Placed::Double;
+        return Err(Misplaced::Double);
     }
-    Placed::Fine(k)
+    Ok(k)
 }
 
 // An entry after one whose name is at hand, by one walk along the two names.
@@ -97,14 +85,14 @@ pub fn place_entry(
     was: bool,
     name: &[u8],
     folder: bool,
-) -> Placed
+) -> Result<usize, Misplaced>
     ensures placed { result ≡ place_of marks.old n last.now was name.now folder }
     ensures marks { marks.new ≡ marks_of marks.old n last.now was name.now folder }
 {
     let p = common_start(last, name);
     match by_next(last, was, name, folder, p) {
-        Order::Below => open_entry(marks, n, p, last.len(), was, name.len(), folder),
-        Order::Same => Placed::NotAfter,
-        Order::Above => Placed::NotAfter,
+        Ordering::Less => open_entry(marks, n, p, last.len(), was, name.len(), folder),
+        Ordering::Equal => Err(Misplaced::NotAfter),
+        Ordering::Greater => Err(Misplaced::NotAfter),
     }
 }

@@ -12,7 +12,6 @@ use Rattle.ground.specs.Scan.{same_bytes}
 use Rattle.ground.specs.Verdict.{verdict, counted, refused, stored, most_bytes, most_records}
 use Rattle.ground.specs.declared.Verdict.{Verdict}
 use Rattle.ground.specs.declared.Answer.{Answer}
-use Rattle.ground.specs.declared.Gate.TheVariants.{Open, Shut}
 use Rattle.ground.proofs.Laws.{is_false, gate_open, id_small}
 use Rattle.output.specs.Output.{fitted}
 use Rattle.output.proofs.Laws.{fitted_short, fitted-fine, refused-both, done-both, gated-shut, gated_open}
@@ -21,13 +20,12 @@ use Rattle.rules.specs.Rules.{git_rules, stands_before}
 use Rattle.rules.specs.Gate.{rule_gate}
 use Rattle.rules.proofs.Laws.{rule_known, rule_open}
 use Rattle.reading.specs.Listing.{tally}
-use Rattle.reading.specs.declared.Counted.{Counted}
-use Rattle.reading.specs.declared.Counted.TheVariants.{Total, Stopped}
 use Rattle.reading.proofs.Laws.{tally_stops, Refusal}
 use Rattle.strict.specs.Strict.{strictly, strict_count}
 use Rattle.strict.proofs.Laws.{cut-refuses, count-within}
 use Rattle.edit.specs.Table.{remove_from, insert, put_in, held, is_held, table_of}
 use Rattle.edit.specs.Edit.{entries_in, new_no, size_of, putting, removing, on_counted, put_answer, remove_answer}
+use Rattle.std.specs.Prelude.{Err, Ok, Result}
 
 pub insert-length : (new : Entry) (es : List Entry) → length (insert new es) ≡ suc (length es)
 unfolding insert
@@ -150,17 +148,17 @@ module _ (name : List ℕ) (es : List Entry) (l out : List ℕ) (kept n : ℕ) (
 
 -- ---- behind the gate
 
-pub stopped_refuses : (k h : ℕ) (s : List ℕ) (v : Verdict) → tally 0 (strictly (git_rules k) h s) ≡ Stopped v → v.number ≡ 0 → ⊥
+pub stopped_refuses : (k h : ℕ) (s : List ℕ) (v : Verdict) → tally 0 (strictly (git_rules k) h s) ≡ Err v → v.number ≡ 0 → ⊥
 stopped_refuses k h s v t = tally_stops Refusal 0 (strictly (git_rules k) h s) v (cut-refuses (git_rules k) h s) t
 
 -- an open gate: 6 < h, and the longest buffer is within the bound
-pub open_big : (k h m : ℕ) → rule_gate k h m 0 ≡ Open → (6 < h) × (m ≤ most_bytes)
+pub open_big : (k h m : ℕ) → rule_gate k h m 0 ≡ Ok tt → (6 < h) × (m ≤ most_bytes)
 open_big k h m g =
     let o = gate_open h m 0 (sym (rule_known k h m 0 (rule_open k h m 0 g)) ∙ g) in
     (omega (arith, (id_small h o.0).0), o.1)
 
 -- the count within the bound
-pub counted_is : (k h : ℕ) (s : List ℕ) {c : Counted} → length s ≤ most_bytes → c ≡ strict_count k h s → tally 0 (strictly (git_rules k) h s) ≡ c
+pub counted_is : (k h : ℕ) (s : List ℕ) {c : Result ℕ Verdict} → length s ≤ most_bytes → c ≡ strict_count k h s → tally 0 (strictly (git_rules k) h s) ≡ c
 counted_is k h s l e = sym (e ∙ count-within k h s l)
 
 -- the longest of the buffers
@@ -174,40 +172,40 @@ pub finish : {a b : Answer} (r : Answer) (l out after : List ℕ) → a ≡ b �
 finish r l out after p q z = (q ∙ sym p, z ∙ ap (λ (x : Answer). stored x.verdict l out) (q ∙ sym p))
 
 module _ (k h : ℕ) (s : List ℕ) (new : Entry) (room m : ℕ) (e : m ≡ max (max (length s) (length new.name)) (max (length new.id) room)) where
-  pub put-shut : (v : Verdict) → rule_gate k h m 0 ≡ Shut v → put_answer k h s new room ≡ refused v
+  pub put-shut : (v : Verdict) → rule_gate k h m 0 ≡ Err v → put_answer k h s new room ≡ refused v
   unfolding put_answer
   put-shut v g = rw (← e) (gated-shut _ v _ g)
 
-  module _ (g : rule_gate k h m 0 ≡ Open) where
+  module _ (g : rule_gate k h m 0 ≡ Ok tt) where
     pub put-bounds : (6 < h) × (length s ≤ most_bytes) × (length new.name ≤ most_bytes) × (length new.id ≤ most_bytes)
     put-bounds =
         let o = open_big k h m g in
         (o.0, omega (arith, o.1, e), omega (arith, o.1, e), omega (arith, o.1, e))
 
-    pub put_stopped : (v : Verdict) → tally 0 (strictly (git_rules k) h s) ≡ Stopped v → put_answer k h s new room ≡ refused v
+    pub put_stopped : (v : Verdict) → tally 0 (strictly (git_rules k) h s) ≡ Err v → put_answer k h s new room ≡ refused v
     unfolding put_answer on_counted
     put_stopped v t = rw (← e) (gated_open _ _ g ∙ rw t)
 
-    pub put_total : (n : ℕ) → tally 0 (strictly (git_rules k) h s) ≡ Total n
+    pub put_total : (n : ℕ) → tally 0 (strictly (git_rules k) h s) ≡ Ok n
         → put_answer k h s new room ≡ putting room (new_no (git_rules k) h new) new (entries_in h s)
     unfolding put_answer on_counted
     put_total n t = rw (← e) (gated_open _ _ g ∙ rw t)
 
 module _ (k h : ℕ) (s name : List ℕ) (room m : ℕ) (e : m ≡ max (length s) (max (length name) room)) where
-  pub remove-shut : (v : Verdict) → rule_gate k h m 0 ≡ Shut v → remove_answer k h s name room ≡ refused v
+  pub remove-shut : (v : Verdict) → rule_gate k h m 0 ≡ Err v → remove_answer k h s name room ≡ refused v
   unfolding remove_answer
   remove-shut v g = rw (← e) (gated-shut _ v _ g)
 
-  module _ (g : rule_gate k h m 0 ≡ Open) where
+  module _ (g : rule_gate k h m 0 ≡ Ok tt) where
     pub remove-bounds : (6 < h) × (length s ≤ most_bytes) × (length name ≤ most_bytes)
     remove-bounds =
         let o = open_big k h m g in
         (o.0, omega (arith, o.1, e), omega (arith, o.1, e))
 
-    pub remove_stopped : (v : Verdict) → tally 0 (strictly (git_rules k) h s) ≡ Stopped v → remove_answer k h s name room ≡ refused v
+    pub remove_stopped : (v : Verdict) → tally 0 (strictly (git_rules k) h s) ≡ Err v → remove_answer k h s name room ≡ refused v
     unfolding remove_answer on_counted
     remove_stopped v t = rw (← e) (gated_open _ _ g ∙ rw t)
 
-    pub remove_total : (n : ℕ) → tally 0 (strictly (git_rules k) h s) ≡ Total n → remove_answer k h s name room ≡ removing room name (entries_in h s)
+    pub remove_total : (n : ℕ) → tally 0 (strictly (git_rules k) h s) ≡ Ok n → remove_answer k h s name room ≡ removing room name (entries_in h s)
     unfolding remove_answer on_counted
     remove_total n t = rw (← e) (gated_open _ _ g ∙ rw t)

@@ -15,7 +15,6 @@ use Rattle.mode.specs.Read.{read_mode}
 use Rattle.mode.specs.Table.{rows, shown}
 use Rattle.mode.specs.Write.{write_mode, again}
 use Rattle.mode.specs.declared.EntryMode.{EntryMode}
-use Rattle.mode.specs.declared.ModeRead.TheVariants.{Mode}
 use Rattle.mode_table.specs.declared.Written.{Written}
 use Rattle.mode_round.proofs.Again.{again-same, again_less, written_reads}
 use Rattle.entry.specs.Entry.{Entry}
@@ -25,6 +24,8 @@ use Rattle.one_listing.specs.Sound.{is_mode}
 use Rattle.one_listing.specs.Lawful.{RowOk, RowsOk}
 use Rattle.one_listing.proofs.Present.{git_ok}
 use Rattle.edit.specs.Edit.{new_no}
+use Rattle.std.specs.Prelude.{Some}
+use Rattle.ground.proofs.Pairs.{some_parts}
 
 -- ---- a mode by its text
 
@@ -48,10 +49,9 @@ modes-apart k = go (eqb k 1)
 -- two modes that are written alike read alike
 reads-alike : (m r : ℕ) → (m ≡ 0 → ⊥) → m < 65536 → (r ≡ 0 → ⊥) → r < 65536 → write_mode m ≡ write_mode r → again m ≡ again r
 reads-alike m r a b c d q =
-    let e : Mode (record { internal = again m }) (length (write_mode m) + 1) ≡ Mode (record { internal = again r }) (length (write_mode r) + 1)
+    let e : Some (record { internal = again m }, length (write_mode m) + 1) ≡ Some (record { internal = again r }, length (write_mode r) + 1)
     = sym (written_reads m [] a b) ∙ ap (λ (t : List ℕ). read_mode (t ++ 32 ∷ [])) q ∙ written_reads r [] c d in
-    let j : ◌≡◌ {A = EntryMode} (record { internal = again m }) (record { internal = again r }) = cc in
-    ap (λ (x : EntryMode). x.internal) j
+    ap (λ (x : EntryMode). x.internal) (some_parts e).0
 
 again_back : (m r : ℕ) → again m ≡ r → (r ≤ 16384) ⊎ (20480 ≤ r) → m ≡ r
 again_back m r e p = go p (λ a b. again_less m a b) (λ f. again-same m f)

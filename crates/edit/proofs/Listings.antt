@@ -14,11 +14,8 @@ use Rattle.entry.specs.Record.{name_of, folder_of}
 use Rattle.entry.specs.Entry.{Entry, entry_bytes, as_written, entry_of, entries_of}
 use Rattle.entry.specs.Decode.{decode}
 use Rattle.entry.specs.declared.EntryRecord.{EntryRecord}
-use Rattle.entry.specs.declared.Decoded.{Decoded}
-use Rattle.entry.specs.declared.Decoded.TheVariants.{Whole, Broken}
 use Rattle.rules.specs.Rules.{git_rules, stands_before}
 use Rattle.reading.specs.Listing.{entry, follow, plain, listing, records_in, tally}
-use Rattle.reading.specs.declared.Counted.TheVariants.{Total}
 use Rattle.reading.proofs.Laws.{plain-none, tally-length}
 use Rattle.strict.specs.Strict.{strictly}
 use Rattle.strict.proofs.Laws.{strict-plain}
@@ -32,6 +29,9 @@ use Rattle.edit_walk.specs.declared.Walked.{Walked}
 use Rattle.edit_walk.proofs.Laws as walk
 use Rattle.edit.specs.Table.{remove_from, insert, put_in}
 use Rattle.edit.specs.Edit.{entries_in}
+use Rattle.entry.specs.declared.Cursor.{Cursor}
+use Rattle.ground.specs.declared.Verdict.{Verdict}
+use Rattle.std.specs.Prelude.{Err, Ok, Result}
 
 -- ---- the walk over a listing is the two edits
 
@@ -137,21 +137,21 @@ again-each : (h : ℕ) (new : Entry) (es : List Entry) → map again_entry es �
 again-each h new [] q = tt
 again-each h new (e ∷ es) q = (cc, again-each h new es (cc))
 
-tally_least : (h k m n to : ℕ) (b : List ℕ) → tally (m + 1) (plain h k to b) ≡ Total n → m + 1 ≤ n
+tally_least : (h k m n to : ℕ) (b : List ℕ) → tally (m + 1) (plain h k to b) ≡ Ok n → m + 1 ≤ n
 tally_least h k m n to b t = omega (arith, tally-length (m + 1) (plain h k to b) n t)
 
-tally-exact : (h k at : ℕ) (b : List ℕ) (m n : ℕ) → tally m (plain h k at b) ≡ Total n → (plain h (n - m) at b ≡ plain h k at b) × (n ≤ m + k)
+tally-exact : (h k at : ℕ) (b : List ℕ) (m n : ℕ) → tally m (plain h k at b) ≡ Ok n → (plain h (n - m) at b ≡ plain h k at b) × (n ≤ m + k)
 unfolding plain follow tally
 tally-exact h zero at [] m n t = let e : m ≡ n = cc in (plain-none h (n - m) at, omega arith)
 tally-exact h (suc k) at [] m n t = let e : m ≡ n = cc in (plain-none h (n - m) at, omega arith)
 tally-exact h zero at (x ∷ xs) m n t = let z : ◌≡◌ {A = ℕ} 0 1 = cc in absurd (omega arith)
 tally-exact h (suc k) at (x ∷ xs) m n t = cases (λ to b u. tally-exact h k to b (m + 1) n u) (decode h at (x ∷ xs)) refl t
   where
-    cases : ((to : ℕ) (b : List ℕ) → tally (m + 1) (plain h k to b) ≡ Total n → (plain h (n - (m + 1)) to b ≡ plain h k to b) × (n ≤ m + 1 + k))
-        → (d : Decoded) → decode h at (x ∷ xs) ≡ d → tally m (follow (plain h k) at (x ∷ xs) d) ≡ Total n
+    cases : ((to : ℕ) (b : List ℕ) → tally (m + 1) (plain h k to b) ≡ Ok n → (plain h (n - (m + 1)) to b ≡ plain h k to b) × (n ≤ m + 1 + k))
+        → (d : Result (EntryRecord × Cursor) Verdict) → decode h at (x ∷ xs) ≡ d → tally m (follow (plain h k) at (x ∷ xs) d) ≡ Ok n
         → (plain h (n - m) at (x ∷ xs) ≡ follow (plain h k) at (x ∷ xs) d) × (n ≤ m + suc k)
-    cases rec (Broken v) q t = let z : ◌≡◌ {A = ℕ} 0 1 = cc in absurd (omega arith)
-    cases rec (Whole e next) q t = more (tally_least h k m n next.at (drop (next.at - at) (x ∷ xs)) t) (rec next.at (drop (next.at - at) (x ∷ xs)) t)
+    cases rec (Err v) q t = let z : ◌≡◌ {A = ℕ} 0 1 = cc in absurd (omega arith)
+    cases rec (Ok (e, next)) q t = more (tally_least h k m n next.at (drop (next.at - at) (x ∷ xs)) t) (rec next.at (drop (next.at - at) (x ∷ xs)) t)
       where
         more : m + 1 ≤ n → (plain h (n - (m + 1)) next.at (drop (next.at - at) (x ∷ xs)) ≡ plain h k next.at (drop (next.at - at) (x ∷ xs))) × (n ≤ m + 1 + k)
             → (plain h (n - m) at (x ∷ xs) ≡ entry at e (plain h k next.at (drop (next.at - at) (x ∷ xs)))) × (n ≤ m + suc k)
@@ -159,7 +159,7 @@ tally-exact h (suc k) at (x ∷ xs) m n t = cases (λ to b u. tally-exact h k to
             let u : n - m ≡ suc (n - (m + 1)) = omega arith in
             (rw (u, q, f.0), omega (arith, f.1))
 
-module _ (k h : ℕ) (s : List ℕ) (n : ℕ) (big : 6 < h) (t : tally 0 (strictly (git_rules k) h s) ≡ Total n) where
+module _ (k h : ℕ) (s : List ℕ) (n : ℕ) (big : 6 < h) (t : tally 0 (strictly (git_rules k) h s) ≡ Ok n) where
   plain-is : strictly (git_rules k) h s ≡ listing h s
   plain-is = strict-plain (git_rules k) h s n t
 

@@ -1,5 +1,5 @@
 -- What an edit of an object answers, and the output afterwards (docs/FORMAT.md, "Edits"). Assumes nothing.
-use Rattle.std.specs.Prelude.{ℕ, max, List, eqb, leb, length}
+use Rattle.std.specs.Prelude.{ℕ, max, List, eqb, leb, length, Err, Ok, Result}
 use Rattle.ground.specs.Basics.{pick}
 use Rattle.ground.specs.Verdict.{verdict, counted, refused, most_records, stored}
 use Rattle.ground.specs.declared.Answer.{Answer}
@@ -8,11 +8,10 @@ use Rattle.entry.specs.Entry.{Entry, entries_of, as_written}
 use Rattle.rules.specs.Rules.{Rules, or_else, git_rules}
 use Rattle.rules.specs.Gate.{rule_gate}
 use Rattle.reading.specs.Listing.{listing, records_in, tally}
-use Rattle.reading.specs.declared.Counted.{Counted}
-use Rattle.reading.specs.declared.Counted.TheVariants.{Total, Stopped}
 use Rattle.strict.specs.Strict.{strictly}
 use Rattle.one_listing.specs.Sound.{is_mode}
 use Rattle.edit.specs.Table.{remove_from, put_in, is_held, table_of}
+use Rattle.ground.specs.declared.Verdict.{Verdict}
 
 -- the entries of an object
 abbrev pub entries_in : ℕ → List ℕ → List Entry
@@ -35,9 +34,9 @@ unfoldable pub removing : ℕ → List ℕ → List Entry → Answer
 removing room name es = pick (is_held (table_of es name)) (fitted room (counted (length (as_written (remove_from name es))))) (refused (verdict 15 0))
 
 -- an object that was counted strictly, and what is done with its entries
-unfoldable pub on_counted : Counted → Answer → Answer
-on_counted (Stopped v) a = refused v
-on_counted (Total n) a = a
+unfoldable pub on_counted : Result ℕ Verdict → Answer → Answer
+on_counted (Err v) a = refused v
+on_counted (Ok n) a = a
 
 -- 1, 19, and 2 of the object, the name, the id and the output; the strict reader's; then the edit's own
 unfoldable pub put_answer : ℕ → ℕ → List ℕ → Entry → ℕ → Answer

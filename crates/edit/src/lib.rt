@@ -2,7 +2,7 @@
 // The walk of `edit_walk` measures first and then writes.
 #![tactic(auto)]
 
-ghost use Rattle.std.specs.Prelude.{◌≡◌, ◌≤◌, ◌<◌, length};
+ghost use Rattle.std.specs.Prelude.{◌≡◌, Ok, ◌≤◌, ◌<◌, length};
 ghost use Rattle.ground.specs.Verdict.{verdict, refused, most_bytes, stored};
 ghost use Rattle.entry.specs.Entry.{as_written};
 ghost use Rattle.rules.specs.Rules.{modes_of, git_rules};
@@ -15,11 +15,10 @@ ghost use Rattle.edit.specs.Edit.{entries_in, new_no, putting, put_answer, put_o
 
 use edit_walk::walk;
 use ground::{
-    Answer, BAD_RECORD, BOUND, DONE, FINE, Gate, MODE_TEXT, MOST_RECORDS, NAME, SHORT_OUTPUT,
-    Verdict, longer,
+    Answer, BAD_RECORD, BOUND, DONE, FINE, MODE_TEXT, MOST_RECORDS, NAME, SHORT_OUTPUT, Verdict,
+    longer,
 };
 use mode::EntryMode;
-use reading::Counted;
 use rules::{mode_permitted, name_number, rule_bounds};
 use scan::count_to;
 use strict::strict_count;
@@ -81,7 +80,7 @@ fn put_counted(
     id: &[u8],
     out: &mut [u8],
 ) -> Answer
-    requires bytes_value { tally 0 (strictly (git_rules rules) h bytes.now) ≡ Counted.Total n }
+    requires bytes_value { tally 0 (strictly (git_rules rules) h bytes.now) ≡ Ok n }
     requires lt_h { (6 < h) × (length bytes.now ≤ most_bytes) × (length name.now ≤ most_bytes) × (length id.now ≤ most_bytes) }
     ensures answer { result ≡ putting (length out.old) (new_no (git_rules rules) h (new_entry mode name.now id.now)) (new_entry mode name.now id.now) (entries_in h bytes.now) }
     ensures out { out.new ≡ stored result.verdict (as_written (put_in (new_entry mode name.now id.now) (entries_in h bytes.now))) out.old }
@@ -122,16 +121,16 @@ pub fn put_in_tree(
 {
     let most = longer(longer(bytes.len(), name.len()), longer(id.len(), out.len()));
     match rule_bounds(rules, h, most, 0) {
-        Gate::Shut(v) => Answer {
+        Err(v) => Answer {
             verdict: v,
             count: 0,
         },
-        Gate::Open => match strict_count(bytes, h, rules) {
-            Counted::Stopped(w) => Answer {
+        Ok(()) => match strict_count(bytes, h, rules) {
+            Err(w) => Answer {
                 verdict: w,
                 count: 0,
             },
-            Counted::Total(n) => put_counted(bytes, h, rules, n, mode, name, id, out),
+            Ok(n) => put_counted(bytes, h, rules, n, mode, name, id, out),
         },
     }
 }

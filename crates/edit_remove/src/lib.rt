@@ -1,7 +1,7 @@
 // A name removed from a strict tree object (docs/FORMAT.md, "Edits"). The walk of `edit_walk` measures first and then writes.
 #![tactic(auto)]
 
-ghost use Rattle.std.specs.Prelude.{◌≡◌, ◌≤◌, ◌<◌, length};
+ghost use Rattle.std.specs.Prelude.{◌≡◌, Ok, ◌≤◌, ◌<◌, length};
 ghost use Rattle.ground.specs.Verdict.{most_bytes, stored};
 ghost use Rattle.entry.specs.Entry.{as_written};
 ghost use Rattle.rules.specs.Rules.{git_rules};
@@ -11,8 +11,7 @@ ghost use Rattle.edit.specs.Table.{remove_from};
 ghost use Rattle.edit.specs.Edit.{entries_in, removing, remove_answer, remove_output};
 
 use edit_walk::walk;
-use ground::{Answer, FINE, Gate, NOT_THERE, SHORT_OUTPUT, Verdict, longer};
-use reading::Counted;
+use ground::{Answer, FINE, NOT_THERE, SHORT_OUTPUT, Verdict, longer};
 use rules::rule_bounds;
 use strict::strict_count;
 
@@ -25,7 +24,7 @@ fn remove_counted(
     name: &[u8],
     out: &mut [u8],
 ) -> Answer
-    requires bytes_value { tally 0 (strictly (git_rules rules) h bytes.now) ≡ Counted.Total n }
+    requires bytes_value { tally 0 (strictly (git_rules rules) h bytes.now) ≡ Ok n }
     requires lt_h { (6 < h) × (length bytes.now ≤ most_bytes) × (length name.now ≤ most_bytes) }
     ensures answer { result ≡ removing (length out.old) name.now (entries_in h bytes.now) }
     ensures out { out.new ≡ stored result.verdict (as_written (remove_from name.now (entries_in h bytes.now))) out.old }
@@ -66,16 +65,16 @@ pub fn remove_from_tree(bytes: &[u8], h: usize, rules: u16, name: &[u8], out: &m
 {
     let most = longer(bytes.len(), longer(name.len(), out.len()));
     match rule_bounds(rules, h, most, 0) {
-        Gate::Shut(v) => Answer {
+        Err(v) => Answer {
             verdict: v,
             count: 0,
         },
-        Gate::Open => match strict_count(bytes, h, rules) {
-            Counted::Stopped(w) => Answer {
+        Ok(()) => match strict_count(bytes, h, rules) {
+            Err(w) => Answer {
                 verdict: w,
                 count: 0,
             },
-            Counted::Total(n) => remove_counted(bytes, h, rules, n, name, out),
+            Ok(n) => remove_counted(bytes, h, rules, n, name, out),
         },
     }
 }

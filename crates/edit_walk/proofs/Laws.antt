@@ -8,13 +8,13 @@ use lib.ListN.{length, length-append}
 use lib.Seq.{sets, append_snoc}
 use Rattle.ground.specs.Verdict.{most_bytes, most_records, size_gate}
 use Rattle.ground.specs.declared.Verdict.{Verdict}
-use Rattle.ground.specs.declared.Gate.TheVariants.{Open, Shut}
 use Rattle.ground.proofs.Laws.{sets_append, size_open, size-fine}
 use Rattle.mode.specs.Write.{write_mode}
 use Rattle.entry.specs.Entry.{Entry, entry_bytes}
 use Rattle.reading.specs.Listing.{plain}
 use Rattle.edit_walk.specs.Walk.{carried, kept_in, walk_gate, walk_bytes, walk_of}
 use Rattle.edit_walk.specs.declared.Walked.{Walked}
+use Rattle.std.specs.Prelude.{Err, Ok}
 
 pub new-length : (new : Entry) → length (entry_bytes new) ≡ length (write_mode new.mode) + 1 + length new.name + 1 + length new.id
 unfolding entry_bytes
@@ -46,19 +46,19 @@ Walks h s count new placed w out after = (w ≡ walk_of h s count new placed) ×
 
 module _ (h : ℕ) (s : List ℕ) (count : ℕ) (new : Entry) (placed : Bool) (out : List ℕ) (m : ℕ)
     (e : m ≡ max (length s) (max (length new.name) (length new.id))) where
-  pub walk_shut : (v : Verdict) → size_gate m count ≡ Shut v → Walks h s count new placed (record { used = 0; kept = 0 }) out out
+  pub walk_shut : (v : Verdict) → size_gate m count ≡ Err v → Walks h s count new placed (record { used = 0; kept = 0 }) out out
   unfolding walk_of walk_bytes walk_gate
-  walk_shut v g = let z : size_gate (max (length s) (max (length new.name) (length new.id))) count ≡ Shut v = rw (← e) g in (sym (rw z), sym (rw z))
+  walk_shut v g = let z : size_gate (max (length s) (max (length new.name) (length new.id))) count ≡ Err v = rw (← e) g in (sym (rw z), sym (rw z))
 
-  pub walk_open : size_gate m count ≡ Open → (w : Walked) (after : List ℕ) → w.used ≡ length (carried h s new placed (plain h count 0 s))
+  pub walk_open : size_gate m count ≡ Ok tt → (w : Walked) (after : List ℕ) → w.used ≡ length (carried h s new placed (plain h count 0 s))
       → w.kept ≡ kept_in s new.name (plain h count 0 s) → after ≡ sets out 0 (carried h s new placed (plain h count 0 s))
       → Walks h s count new placed w out after
   unfolding walk_of walk_bytes walk_gate
   walk_open g w after u k a =
-      let z : size_gate (max (length s) (max (length new.name) (length new.id))) count ≡ Open = rw (← e) g in
+      let z : size_gate (max (length s) (max (length new.name) (length new.id))) count ≡ Ok tt = rw (← e) g in
       (sym (rw (z, ← u, ← k)), a ∙ sym (rw z))
 
-  pub walk_small : size_gate m count ≡ Open
+  pub walk_small : size_gate m count ≡ Ok tt
       → (length new.name ≤ most_bytes) × (length new.id ≤ most_bytes) × (length s ≤ most_bytes) × (count ≤ most_records)
   walk_small g =
       let o = size_open m count g in
@@ -67,7 +67,7 @@ module _ (h : ℕ) (s : List ℕ) (count : ℕ) (new : Entry) (placed : Bool) (o
 -- within the bounds
 module _ (h : ℕ) (s : List ℕ) (count : ℕ) (new : Entry) (placed : Bool) (a : length s ≤ most_bytes) (b : length new.name ≤ most_bytes)
     (c : length new.id ≤ most_bytes) (d : count ≤ most_records) where
-  gate_is : walk_gate s count new ≡ Open
+  gate_is : walk_gate s count new ≡ Ok tt
   unfolding walk_gate
   gate_is = size-fine (max (length s) (max (length new.name) (length new.id))) count (omega arith) d
 

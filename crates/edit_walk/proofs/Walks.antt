@@ -17,17 +17,15 @@ use Rattle.entry.specs.Entry.{Entry, entry_bytes}
 use Rattle.entry.specs.Decode.{decode}
 use Rattle.entry.specs.declared.EntryRecord.{EntryRecord}
 use Rattle.entry.specs.declared.Cursor.{Cursor}
-use Rattle.entry.specs.declared.Decoded.{Decoded}
-use Rattle.entry.specs.declared.Decoded.TheVariants.{Whole, Broken}
 use Rattle.entry.proofs.Laws.{decode-inside}
 use Rattle.reading.specs.Listing.{Listing, done, entry, follow, plain}
 use Rattle.reading.proofs.Laws.{plain-some}
 use Rattle.edit_turn.specs.Turns.{fate_of, turned, turn_of, turn_at}
 use Rattle.edit_turn.specs.declared.Fate.TheVariants.{Out, Over, Behind}
-use Rattle.edit_turn.specs.declared.Turn.{Turn}
-use Rattle.edit_turn.specs.declared.Turn.TheVariants.{End, Drop, Keep, First}
 use Rattle.edit_turn.proofs.Laws.{Leads, turn_leads}
 use Rattle.edit_walk.specs.Walk.{ahead, tail, carried, kept_in}
+use Rattle.edit_turn.specs.declared.Fate.{Fate}
+use Rattle.std.specs.Prelude.{Err, None, Ok, Option, Result, Some}
 
 -- ---- what is left
 
@@ -35,17 +33,17 @@ abbrev pub rest_of : ℕ → List ℕ → ℕ → ℕ → Listing
 rest_of h s left at = plain h left at (drop at s)
 
 -- the bytes that a turn and all after it give, and the entries that they carry over
-unfoldable pub bytes_after : ℕ → List ℕ → Entry → Bool → ℕ → ℕ → Turn → List ℕ
-bytes_after h s new placed k at End = tail new placed
-bytes_after h s new placed k at (Drop next) = carried h s new placed (rest_of h s k next)
-bytes_after h s new placed k at (Keep next) = part at next s ++ carried h s new placed (rest_of h s k next)
-bytes_after h s new placed k at (First next) = entry_bytes new ++ (part at next s ++ carried h s new true (rest_of h s k next))
+unfoldable pub bytes_after : ℕ → List ℕ → Entry → Bool → ℕ → ℕ → Option (Fate × ℕ) → List ℕ
+bytes_after h s new placed k at None = tail new placed
+bytes_after h s new placed k at (Some (Out, next)) = carried h s new placed (rest_of h s k next)
+bytes_after h s new placed k at (Some (Over, next)) = part at next s ++ carried h s new placed (rest_of h s k next)
+bytes_after h s new placed k at (Some (Behind, next)) = entry_bytes new ++ (part at next s ++ carried h s new true (rest_of h s k next))
 
-unfoldable pub kept_after : ℕ → List ℕ → Entry → ℕ → Turn → ℕ
-kept_after h s new k End = 0
-kept_after h s new k (Drop next) = kept_in s new.name (rest_of h s k next)
-kept_after h s new k (Keep next) = 1 + kept_in s new.name (rest_of h s k next)
-kept_after h s new k (First next) = 1 + kept_in s new.name (rest_of h s k next)
+unfoldable pub kept_after : ℕ → List ℕ → Entry → ℕ → Option (Fate × ℕ) → ℕ
+kept_after h s new k None = 0
+kept_after h s new k (Some (Out, next)) = kept_in s new.name (rest_of h s k next)
+kept_after h s new k (Some (Over, next)) = 1 + kept_in s new.name (rest_of h s k next)
+kept_after h s new k (Some (Behind, next)) = 1 + kept_in s new.name (rest_of h s k next)
 
 module _ (h : ℕ) (s : List ℕ) (new : Entry) (placed : Bool) where
   pub none_left : (at : ℕ) (b : List ℕ) → (carried h s new placed (plain h 0 at b) ≡ tail new placed) × (kept_in s new.name (plain h 0 at b) ≡ 0)
@@ -53,13 +51,13 @@ module _ (h : ℕ) (s : List ℕ) (new : Entry) (placed : Bool) where
   none_left at [] = (refl, refl)
   none_left at (x ∷ xs) = (refl, refl)
 
-  broken : (k at : ℕ) (b : List ℕ) (v : Verdict) → decode h at b ≡ Broken v
+  broken : (k at : ℕ) (b : List ℕ) (v : Verdict) → decode h at b ≡ Err v
       → (carried h s new placed (plain h (suc k) at b) ≡ tail new placed) × (kept_in s new.name (plain h (suc k) at b) ≡ 0)
   unfolding plain follow carried kept_in
   broken k at [] v q = (refl, refl)
   broken k at (x ∷ xs) v q = rw q (refl, refl)
 
-  whole : (k at : ℕ) (e : EntryRecord) (next : Cursor) → decode h at (drop at s) ≡ Whole e next → rest_of h s (suc k) at ≡ entry at e (rest_of h s k next.at)
+  whole : (k at : ℕ) (e : EntryRecord) (next : Cursor) → decode h at (drop at s) ≡ Ok (e, next) → rest_of h s (suc k) at ≡ entry at e (rest_of h s k next.at)
   unfolding follow
   whole k at e next q =
       let f = decode-inside h s at e next q in
@@ -97,17 +95,17 @@ module _ (h : ℕ) (s : List ℕ) (new : Entry) (placed : Bool) where
       go false false true = refl
       go false false false = refl
 
-  turned_by : (k at : ℕ) (d : Decoded) → decode h at (drop at s) ≡ d
+  turned_by : (k at : ℕ) (d : Result (EntryRecord × Cursor) Verdict) → decode h at (drop at s) ≡ d
       → (carried h s new placed (rest_of h s (suc k) at) ≡ bytes_after h s new placed k at (turn_of s new.name (is_tree new.mode) placed d))
       × (kept_in s new.name (rest_of h s (suc k) at) ≡ kept_after h s new k (turn_of s new.name (is_tree new.mode) placed d))
   unfolding turn_of bytes_after kept_after
-  turned_by k at (Broken v) q = broken k at (drop at s) v q
-  turned_by k at (Whole e next) q =
+  turned_by k at (Err v) q = broken k at (drop at s) v q
+  turned_by k at (Ok (e, next)) q =
       let f = decode-inside h s at e next q in
       (ap (carried h s new placed) (whole k at e next q) ∙ bytes_fate k at next.at e f.3, ap (kept_in s new.name) (whole k at e next q) ∙ kept_fate k at next.at e)
 
   -- a turn, where entries are left
-  pub turning : (left at : ℕ) (t : Turn) → 0 < left → t ≡ turn_at h s at new.name (is_tree new.mode) placed
+  pub turning : (left at : ℕ) (t : Option (Fate × ℕ)) → 0 < left → t ≡ turn_at h s at new.name (is_tree new.mode) placed
       → (carried h s new placed (rest_of h s left at) ≡ bytes_after h s new placed (left - 1) at t) × (kept_in s new.name (rest_of h s left at) ≡ kept_after h s new (left - 1) t)
   unfolding turn_at
   turning zero at t g q = absurd (omega arith)
@@ -177,7 +175,7 @@ module _ (h count : ℕ) (s : List ℕ) (new : Entry) (done : Bool) (out₀ out 
       ),
     )
 
-  module _ (g : 0 < left) (tree : Bool) (i : tree ≡ is_tree new.mode) (t : Turn) (turns : t ≡ turn_at h s at new.name tree placed) where
+  module _ (g : 0 < left) (tree : Bool) (i : tree ≡ is_tree new.mode) (t : Option (Fate × ℕ)) (turns : t ≡ turn_at h s at new.name tree placed) where
     q : t ≡ turn_at h s at new.name (is_tree new.mode) placed
     q = turns ∙ ap (λ (b : Bool). turn_at h s at new.name b placed) i
 
@@ -193,7 +191,7 @@ module _ (h count : ℕ) (s : List ℕ) (new : Entry) (done : Bool) (out₀ out 
     stores_now : sets out used (bytes_after h s new placed (left - 1) at t) ≡ sets out₀ 0 (carried h s new done (plain h count 0 s))
     stores_now = ap (sets out used) (sym now-is.0) ∙ w.stores
 
-    pub walking_end : t ≡ End → Walking h count s new done out₀ out 0 at used kept placed
+    pub walking_end : t ≡ None → Walking h count s new done out₀ out 0 at used kept placed
     unfolding bytes_after kept_after
     walking_end e =
         let n = none_left h s new placed at (drop at s) in
@@ -207,7 +205,7 @@ module _ (h count : ℕ) (s : List ℕ) (new : Entry) (done : Bool) (out₀ out 
           stores = rw n.0 (rw e at stores_now);
         }
 
-    pub walking_drop : (next : ℕ) → t ≡ Drop next → Walking h count s new done out₀ out (left - 1) next used kept placed
+    pub walking_drop : (next : ℕ) → t ≡ Some (Out, next) → Walking h count s new done out₀ out (left - 1) next used kept placed
     unfolding bytes_after kept_after
     walking_drop next e =
         record {
@@ -223,10 +221,10 @@ module _ (h count : ℕ) (s : List ℕ) (new : Entry) (done : Bool) (out₀ out 
     leads-on : Leads (length s) at t
     leads-on = subst (Leads (length s) at) (sym turns) (turn_leads h s at new.name tree placed)
 
-    pub keep_leads : (next : ℕ) → t ≡ Keep next → (at ≤ next) × (next ≤ length s)
+    pub keep_leads : (next : ℕ) → t ≡ Some (Over, next) → (at ≤ next) × (next ≤ length s)
     keep_leads next e = subst (Leads (length s) at) e leads-on
 
-    pub first_leads : (next : ℕ) → t ≡ First next → (at ≤ next) × (next ≤ length s)
+    pub first_leads : (next : ℕ) → t ≡ Some (Behind, next) → (at ≤ next) × (next ≤ length s)
     first_leads next e = subst (Leads (length s) at) e leads-on
 
     module _ (next : ℕ) (small : length s ≤ 1073741824) (lead : (at ≤ next) × (next ≤ length s)) where
@@ -236,7 +234,7 @@ module _ (h count : ℕ) (s : List ℕ) (new : Entry) (done : Bool) (out₀ out 
       piece-length : length piece ≡ next - at
       piece-length = part_length at next s lead.0 lead.1
 
-      pub walking_keep : t ≡ Keep next → (after : List ℕ) → length after ≡ length out → after ≡ sets out used piece
+      pub walking_keep : t ≡ Some (Over, next) → (after : List ℕ) → length after ≡ length out → after ≡ sets out used piece
           → Walking h count s new done out₀ after (left - 1) next (used + (next - at)) (kept + 1) placed
       unfolding bytes_after kept_after
       walking_keep e after m a =
@@ -254,7 +252,7 @@ module _ (h count : ℕ) (s : List ℕ) (new : Entry) (done : Bool) (out₀ out 
             stores = subst (λ (x : ℕ). sets after x rest ≡ sets out₀ 0 (carried h s new done (plain h count 0 s))) (ap (λ (n : ℕ). used + n) piece-length) (rw a (sym (sets_append out used piece rest) ∙ st));
           }
 
-      pub walking_first : t ≡ First next → (from : ℕ) (mid after : List ℕ) → from ≡ used + length (entry_bytes new) → from ≤ used + 2147483656
+      pub walking_first : t ≡ Some (Behind, next) → (from : ℕ) (mid after : List ℕ) → from ≡ used + length (entry_bytes new) → from ≤ used + 2147483656
           → mid ≡ sets out used (entry_bytes new) → length mid ≡ length out → length after ≡ length mid → after ≡ sets mid from piece
           → Walking h count s new done out₀ after (left - 1) next (from + (next - at)) (kept + 1) true
       unfolding bytes_after kept_after

@@ -1,10 +1,8 @@
 -- What one walk over an object gives that leaves out the entries of a name and puts a new entry (docs/FORMAT.md, "Edits"). Assumes nothing.
-use Rattle.std.specs.Prelude.{ℕ, ◌+◌, max, Bool, true, false, List, [], ◌++◌, length}
+use Rattle.std.specs.Prelude.{ℕ, ◌+◌, max, Bool, true, false, List, [], ◌++◌, length, Err, Ok, Result, ⊤}
 use Rattle.ground.specs.Basics.{pick, part}
 use Rattle.ground.specs.Scan.{same_bytes}
 use Rattle.ground.specs.Verdict.{size_gate}
-use Rattle.ground.specs.declared.Gate.{Gate}
-use Rattle.ground.specs.declared.Gate.TheVariants.{Open, Shut}
 use Rattle.mode.specs.Mode.{is_tree}
 use Rattle.order.specs.Order.{is_below, name_order}
 use Rattle.entry.specs.Record.{name_of, folder_of}
@@ -12,6 +10,7 @@ use Rattle.entry.specs.Entry.{Entry, entry_bytes}
 use Rattle.entry.specs.declared.EntryRecord.{EntryRecord}
 use Rattle.reading.specs.Listing.{Listing, done, stop, entry, plain}
 use Rattle.edit_walk.specs.declared.Walked.{Walked}
+use Rattle.ground.specs.declared.Verdict.{Verdict}
 
 -- the entry that a mode, a name and an id make
 abbrev pub new_entry : ℕ → List ℕ → List ℕ → Entry
@@ -43,12 +42,12 @@ kept_in s name (stop v) = 0
 kept_in s name (entry at e l) = pick (same_bytes (name_of s e) name) (kept_in s name l) (1 + kept_in s name l)
 
 -- what is done behind an open gate, and what stands for it behind a shut one
-abbrev pub begun : {A : Type 0} → Gate → A → A → A
-begun Open a b = a
-begun (Shut v) a b = b
+abbrev pub begun : {A : Type 0} → Result ⊤ Verdict → A → A → A
+begun (Ok tt) a b = a
+begun (Err v) a b = b
 
 -- the bounds of the object, the name, the id and the count
-unfoldable pub walk_gate : List ℕ → ℕ → Entry → Gate
+unfoldable pub walk_gate : List ℕ → ℕ → Entry → Result ⊤ Verdict
 walk_gate s count new = size_gate (max (length s) (max (length new.name) (length new.id))) count
 
 -- the bytes of a walk over the first entries of an object, so many

@@ -9,8 +9,8 @@ ghost use Rattle.entry.specs.Entry.{entry_bytes};
 ghost use Rattle.reading.specs.Listing.{plain};
 ghost use Rattle.edit_walk.specs.Walk.{new_entry, carried, kept_in, walk_bytes, walk_of};
 
-use edit_turn::{Turn, turn_at};
-use ground::{Gate, longer, sizes};
+use edit_turn::{Fate, turn_at};
+use ground::{longer, sizes};
 use mode::EntryMode;
 use output::{put, put_ended};
 
@@ -64,33 +64,35 @@ fn carry(
     let mut placed = done;
     while 0 < left {
         match turn_at(s, h, at, name, tree, placed) {
-            Turn::End => {
+            None => {
                 left = 0;
                 continue;
             }
-            Turn::Drop(next) => {
-                at = next;
-                left -= 1;
-                continue;
-            }
-            Turn::Keep(next) => {
-                put(out, used, &s[at..next]);
-                used += next - at;
-                kept += 1;
-                at = next;
-                left -= 1;
-                continue;
-            }
-            Turn::First(next) => {
-                let from = put_new(out, used, mode, name, id);
-                put(out, from, &s[at..next]);
-                used = from + (next - at);
-                kept += 1;
-                placed = true;
-                at = next;
-                left -= 1;
-                continue;
-            }
+            Some((fate, next)) => match fate {
+                Fate::Out => {
+                    at = next;
+                    left -= 1;
+                    continue;
+                }
+                Fate::Over => {
+                    put(out, used, &s[at..next]);
+                    used += next - at;
+                    kept += 1;
+                    at = next;
+                    left -= 1;
+                    continue;
+                }
+                Fate::Behind => {
+                    let from = put_new(out, used, mode, name, id);
+                    put(out, from, &s[at..next]);
+                    used = from + (next - at);
+                    kept += 1;
+                    placed = true;
+                    at = next;
+                    left -= 1;
+                    continue;
+                }
+            },
         }
     }
     if placed {
@@ -115,7 +117,7 @@ pub fn walk(
     ensures out { out.new ≡ sets out.old 0 (walk_bytes h s.now count (new_entry mode name.now id.now) done) }
 {
     match sizes(longer(s.len(), longer(name.len(), id.len())), count) {
-        Gate::Shut(_) => Walked { used: 0, kept: 0 },
-        Gate::Open => carry(s, h, count, mode, name, id, done, out),
+        Err(_) => Walked { used: 0, kept: 0 },
+        Ok(()) => carry(s, h, count, mode, name, id, done, out),
     }
 }

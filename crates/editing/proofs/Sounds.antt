@@ -10,8 +10,6 @@ use Rattle.ground.specs.Scan.{same_bytes, free_of}
 use Rattle.ground.proofs.Laws.{same_refl}
 use Rattle.mode.specs.Mode.{is_tree}
 use Rattle.order.specs.Order.{is_below, name_order, opposite}
-use Rattle.order.specs.declared.Order.{Order}
-use Rattle.order.specs.declared.Order.TheVariants.{Below, Same, Above}
 use Rattle.order.proofs.Laws.{below-is, order_flip, order_trans, order_same}
 use Rattle.entry.specs.Entry.{Entry}
 use Rattle.doubles.specs.Doubles.{named_before}
@@ -22,6 +20,8 @@ use Rattle.edit.specs.Table.{remove_from, insert, put_in}
 use Rattle.edit.specs.Edit.{new_no}
 use Rattle.edit.proofs.Leaves.{new-good}
 use Rattle.editing.proofs.Tables.{Without, removed_without}
+use Rattle.std.specs.declared.cmp.Ordering.{Ordering}
+use Rattle.std.specs.declared.cmp.Ordering.TheVariants.{Equal, Greater, Less}
 
 -- ---- each entry
 
@@ -80,12 +80,12 @@ turns : (e new : Entry) → free_of 47 e.name ≡ true → free_of 47 new.name �
 unfolding stands_before
 turns e new f g d q = go (name_order e.name (is_tree e.mode) new.name (is_tree new.mode)) refl q
   where
-    go : (o : Order) → name_order e.name (is_tree e.mode) new.name (is_tree new.mode) ≡ o → is_below o ≡ false → Before new e
-    go Below k z = absurd (false≢true (sym z))
-    go Same k z =
+    go : (o : Ordering) → name_order e.name (is_tree e.mode) new.name (is_tree new.mode) ≡ o → is_below o ≡ false → Before new e
+    go Less k z = absurd (false≢true (sym z))
+    go Equal k z =
         let s = order_same e.name (is_tree e.mode) new.name (is_tree new.mode) f g k in
         absurd (false≢true (sym d ∙ ap (same_bytes e.name) (sym s.0) ∙ same_refl e.name))
-    go Above k z = order_flip e.name (is_tree e.mode) new.name (is_tree new.mode) ∙ ap opposite k
+    go Greater k z = order_flip e.name (is_tree e.mode) new.name (is_tree new.mode) ∙ ap opposite k
 
 module _ (k h : ℕ) (new : Entry) (n : SoundEntry k h new) where
   insert-past : (a : Entry) (es : List Entry) → Before a new → Ascending (a ∷ es) → EachSound k h es → Without new.name es → Ascending (a ∷ insert new es)

@@ -15,8 +15,6 @@ use Rattle.ground.specs.Scan.{same_bytes}
 use Rattle.ground.specs.Verdict.{verdict, counted, refused, stored, most_bytes, most_records}
 use Rattle.ground.specs.declared.Verdict.{Verdict}
 use Rattle.ground.specs.declared.Answer.{Answer}
-use Rattle.ground.specs.declared.Gate.{Gate}
-use Rattle.ground.specs.declared.Gate.TheVariants.{Open, Shut}
 use Rattle.ground.proofs.Laws.{same_refl, same_true, stored-done, gate_fine}
 use Rattle.output.specs.Output.{gated, fitted}
 use Rattle.output.proofs.Laws.{fitted-done}
@@ -25,8 +23,6 @@ use Rattle.rules.specs.Rules.{git_rules}
 use Rattle.rules.specs.Gate.{rule_gate}
 use Rattle.rules.proofs.Laws.{rule_bytes, rule_known}
 use Rattle.reading.specs.Listing.{listing, records_in, tally}
-use Rattle.reading.specs.declared.Counted.{Counted}
-use Rattle.reading.specs.declared.Counted.TheVariants.{Total, Stopped}
 use Rattle.strict.specs.Strict.{cut, strictly}
 use Rattle.strict.proofs.Laws.{strict-refuses}
 use Rattle.one_listing.specs.Sound.{Distinct, SoundListing}
@@ -40,6 +36,7 @@ use Rattle.edit.proofs.Answers.{stopped_refuses, removed_le}
 use Rattle.editing.specs.Demand.{Written, OneWriting, FromAccepted, AcceptedAgain, Missing}
 use Rattle.editing.proofs.Tables.{put-table, remove-table}
 use Rattle.editing.proofs.Sounds.{put-sound, remove-sound}
+use Rattle.std.specs.Prelude.{Err, Ok, Result, ⊤}
 
 -- ---- a sound listing by its table
 
@@ -120,11 +117,11 @@ done-counted : (k h m : ℕ) (s : List ℕ) (a : Answer) → (gated (rule_gate k
 unfolding gated on_counted
 done-counted k h m s a z = go (rule_gate k h m 0) refl (tally 0 (strictly (git_rules k) h s)) refl z
   where
-    go : (g : Gate) → rule_gate k h m 0 ≡ g → (c : Counted) → tally 0 (strictly (git_rules k) h s) ≡ c → (gated g (on_counted c a)).verdict.number ≡ 0
+    go : (g : Result ⊤ Verdict) → rule_gate k h m 0 ≡ g → (c : Result ℕ Verdict) → tally 0 (strictly (git_rules k) h s) ≡ c → (gated g (on_counted c a)).verdict.number ≡ 0
         → (m ≤ most_bytes) × (gated g (on_counted c a) ≡ a)
-    go (Shut v) e c d z = absurd (strict-refuses k h m 0 v e z)
-    go Open e (Stopped v) d z = absurd (stopped_refuses k h s v d z)
-    go Open e (Total n) d z = (rule_bytes k h m 0 e, refl)
+    go (Err v) e c d z = absurd (strict-refuses k h m 0 v e z)
+    go (Ok tt) e (Err v) d z = absurd (stopped_refuses k h s v d z)
+    go (Ok tt) e (Ok n) d z = (rule_bytes k h m 0 e, refl)
 
 -- what is given, where the answer is a count
 taken : (a : Answer) (l out : List ℕ) → a ≡ counted (length l) → take a.count (stored a.verdict l out) ≡ l
@@ -252,27 +249,27 @@ not_fifteen room n e = go (ltb room n) e
     go true e = let z : ◌≡◌ {A = ℕ} 8 15 = ap (λ (x : Answer). x.verdict.number) e in absurd (omega arith)
     go false e = let z : ◌≡◌ {A = ℕ} 0 15 = ap (λ (x : Answer). x.verdict.number) e in absurd (omega arith)
 
-tally-listed : (n at : ℕ) (es : List Entry) → tally n (listed at es) ≡ Total (n + length es)
+tally-listed : (n at : ℕ) (es : List Entry) → tally n (listed at es) ≡ Ok (n + length es)
 unfolding tally listed
-tally-listed n at [] = ap Total (omega arith)
-tally-listed n at (e ∷ es) = tally-listed (n + 1) (at + length (entry_bytes e)) es ∙ ap Total (omega arith)
+tally-listed n at [] = ap Ok (omega arith)
+tally-listed n at (e ∷ es) = tally-listed (n + 1) (at + length (entry_bytes e)) es ∙ ap Ok (omega arith)
 
 -- the strict reader counts the entries of a table as written
-counts-written : (k h : ℕ) (es : List Entry) → SoundListing k h es → length es ≤ most_records → tally 0 (strictly (git_rules k) h (as_written es)) ≡ Total (length es)
+counts-written : (k h : ℕ) (es : List Entry) → SoundListing k h es → length es ≤ most_records → tally 0 (strictly (git_rules k) h (as_written es)) ≡ Ok (length es)
 counts-written k h es p few =
     let s = (plainly k h es).0 p in
     let w = sound_writable (git_rules k) (git_ok k) h [] es s in
     let z : 0 + length es ≡ length es = omega arith in
     ap (λ l. tally 0 (cut (git_rules k) h (as_written es) [] l)) (read_written h most_records 0 es w few)
-    ∙ ap (tally 0) (sound_uncut (git_rules k) (git_ok k) h [] [] es s) ∙ tally-listed 0 0 es ∙ ap Total z
+    ∙ ap (tally 0) (sound_uncut (git_rules k) (git_ok k) h [] [] es s) ∙ tally-listed 0 0 es ∙ ap Ok z
 
 pub missing : Missing
 unfolding remove_answer gated on_counted removing
 missing k h t s name room w a b =
     let es = w.listing in
     let m = max (length s) (max (length name) room) in
-    let g : rule_gate k h m 0 ≡ Open = rule_known k h m 0 w.rules ∙ gate_fine h m 0 w.id (omega (arith, w.short, a, b)) (omega arith) in
-    let c : tally 0 (strictly (git_rules k) h s) ≡ Total (length es)
+    let g : rule_gate k h m 0 ≡ Ok tt = rule_known k h m 0 w.rules ∙ gate_fine h m 0 w.id (omega (arith, w.short, a, b)) (omega arith) in
+    let c : tally 0 (strictly (git_rules k) h s) ≡ Ok (length es)
     = ap (λ x. tally 0 (strictly (git_rules k) h x)) w.bytes ∙ counts-written k h es w.sound w.few in
     let i : entries_in h s ≡ es = ap (entries_in h) w.bytes ∙ entries-written k h es w.sound w.few in
     let q : remove_answer k h s name room ≡ pick (is_held (table_of es name)) (fitted room (counted (length (as_written (remove_from name es))))) (refused (verdict 15 0))

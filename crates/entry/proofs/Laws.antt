@@ -13,18 +13,16 @@ use Rattle.ground.specs.Scan.{count_to, place_from}
 use Rattle.ground.specs.Verdict.{fine, broken, is_part, gate_of}
 use Rattle.ground.proofs.Laws.{and_left, and_right, place-within, same_test}
 use Rattle.ground.specs.declared.Verdict.{Verdict}
-use Rattle.ground.specs.declared.Gate.TheVariants.{Open, Shut}
 use Rattle.mode.specs.Mode.{top_bits, value_of, sort_of, is_tree}
 use Rattle.mode.specs.Read.{read_mode, read_mode_at, moved}
 use Rattle.mode.proofs.Laws.{read_next}
 use Rattle.mode.specs.declared.EntryMode.{EntryMode}
-use Rattle.mode.specs.declared.ModeRead.{ModeRead}
-use Rattle.mode.specs.declared.ModeRead.TheVariants.{Mode, Bad}
 use Rattle.entry.specs.Record.{width, many, no_record, records_of, put_record, well_formed}
 use Rattle.entry.specs.Decode.{broken_at, short_part, record_at, decode, decode_mode, decode_name, no_entry, step_over, step_from, step_of}
 use Rattle.entry.specs.declared.EntryRecord.{EntryRecord}
 use Rattle.entry.specs.declared.Cursor.{Cursor}
-use Rattle.entry.specs.declared.Decoded.TheVariants.{Whole, Broken}
+use Rattle.std.specs.Prelude.{Err, None, Ok, Option, Some}
+use Rattle.ground.proofs.Pairs.{some_parts, ok_parts}
 
 -- ---- records in flat numbers
 
@@ -116,24 +114,24 @@ folder-low m = go (eqb (top_bits m) 0o140000) refl
 -- ---- one entry
 
 -- what a mode read at a place says of the bytes from there on
-mode-moved : (s : List ℕ) (at : ℕ) (m : EntryMode) (rest : ℕ) → read_mode_at s at ≡ Mode m rest → (n : ℕ) × (read_mode (drop at s) ≡ Mode m n) × (rest ≡ at + n)
+mode-moved : (s : List ℕ) (at : ℕ) (m : EntryMode) (rest : ℕ) → read_mode_at s at ≡ Some (m, rest) → (n : ℕ) × (read_mode (drop at s) ≡ Some (m, n)) × (rest ≡ at + n)
 unfolding read_mode_at
 mode-moved s at m rest e = go (read_mode (drop at s)) refl e
   where
-    go : (r : ModeRead) → read_mode (drop at s) ≡ r → moved at r ≡ Mode m rest → (n : ℕ) × (read_mode (drop at s) ≡ Mode m n) × (rest ≡ at + n)
-    go (Mode k n) q e = let a : k ≡ m = cc in let z : at + n ≡ rest = cc in (n, rw a at q, omega arith)
-    go Bad q e = let z : ◌≡◌ {A = ℕ} 0 1 = cc in absurd (omega arith)
+    go : (r : Option (EntryMode × ℕ)) → read_mode (drop at s) ≡ r → moved at r ≡ Some (m, rest) → (n : ℕ) × (read_mode (drop at s) ≡ Some (m, n)) × (rest ≡ at + n)
+    go (Some (k, n)) q e = let w = some_parts e in (n, rw w.0 at q, sym w.1)
+    go None q e = let z : ◌≡◌ {A = ℕ} 0 1 = cc in absurd (omega arith)
 
 module _ (s : List ℕ) (h at : ℕ) where
-  pub decode-bad : read_mode_at s at ≡ Bad → decode h at (drop at s) ≡ broken_at at 1
+  pub decode-bad : read_mode_at s at ≡ None → decode h at (drop at s) ≡ broken_at at 1
   unfolding decode decode_mode read_mode_at
   decode-bad e = go (read_mode (drop at s)) e
     where
-      go : (r : ModeRead) → moved at r ≡ Bad → decode_mode h at (drop at s) r ≡ broken_at at 1
-      go (Mode k n) e = let z : ◌≡◌ {A = ℕ} 0 1 = cc in absurd (omega arith)
-      go Bad e = refl
+      go : (r : Option (EntryMode × ℕ)) → moved at r ≡ None → decode_mode h at (drop at s) r ≡ broken_at at 1
+      go (Some (k, n)) e = let z : ◌≡◌ {A = ℕ} 0 1 = cc in absurd (omega arith)
+      go None e = refl
 
-  module _ (m : EntryMode) (rest end : ℕ) (q : read_mode_at s at ≡ Mode m rest) (p : end ≡ place_from 0 s rest) where
+  module _ (m : EntryMode) (rest end : ℕ) (q : read_mode_at s at ≡ Some (m, rest)) (p : end ≡ place_from 0 s rest) where
     -- the mode is read: what is left is the name and the id
     named : (n : ℕ) × (decode h at (drop at s) ≡ decode_name h at m.internal n (drop rest s)) × (rest ≡ at + n)
     unfolding decode decode_mode
@@ -162,7 +160,7 @@ module _ (s : List ℕ) (h at : ℕ) where
         w.1 ∙ cut_short w.0 (omega (arith, length-drop rest s)) ∙ rw z
 
     pub decode-whole : h < length s - end
-        → decode h at (drop at s) ≡ Whole (record { mode = m.internal; name_start = rest; name_end = end; id_start = end + 1; text_start = at }) (record { at = end + 1 + h })
+        → decode h at (drop at s) ≡ Ok (record { mode = m.internal; name_start = rest; name_end = end; id_start = end + 1; text_start = at }, record { at = end + 1 + h })
     unfolding place_from decode_name
     decode-whole l =
         let w = named in
@@ -176,33 +174,34 @@ module _ (s : List ℕ) (h at : ℕ) where
 -- what a whole entry says of the bytes that it was read from
 pub record Parts (h at : ℕ) (b : List ℕ) (e : EntryRecord) (next : Cursor) : Type 0 where
   pub size : ℕ
-  pub reads : read_mode b ≡ Mode (record { internal = e.mode }) size
+  pub reads : read_mode b ≡ Some (record { internal = e.mode }, size)
   pub laid : e ≡ record_at at e.mode size (count_to 0 (drop size b))
   pub past : next.at ≡ at + size + (count_to 0 (drop size b) + 1 + h)
   pub inside : count_to 0 (drop size b) + 1 + h ≤ length (drop size b)
 
-pub decode-parts : (h at : ℕ) (b : List ℕ) (e : EntryRecord) (next : Cursor) → decode h at b ≡ Whole e next → Parts h at b e next
+pub decode-parts : (h at : ℕ) (b : List ℕ) (e : EntryRecord) (next : Cursor) → decode h at b ≡ Ok (e, next) → Parts h at b e next
 unfolding decode decode_mode decode_name
 decode-parts h at b e next d = go (read_mode b) refl d
   where
-    last : (m : EntryMode) (n : ℕ) → read_mode b ≡ Mode m n → (v : Bool) → leb (count_to 0 (drop n b) + 1 + h) (length (drop n b)) ≡ v
-        → pick v (Whole (record_at at m.internal n (count_to 0 (drop n b))) (record { at = at + n + (count_to 0 (drop n b) + 1 + h) })) (broken_at at (short_part (length (drop n b) - count_to 0 (drop n b)))) ≡ Whole e next → Parts h at b e next
+    last : (m : EntryMode) (n : ℕ) → read_mode b ≡ Some (m, n) → (v : Bool) → leb (count_to 0 (drop n b) + 1 + h) (length (drop n b)) ≡ v
+        → pick v (Ok (record_at at m.internal n (count_to 0 (drop n b)), record { at = at + n + (count_to 0 (drop n b) + 1 + h) })) (broken_at at (short_part (length (drop n b) - count_to 0 (drop n b)))) ≡ Ok (e, next) → Parts h at b e next
     last m n q true p d =
-        let r : record_at at m.internal n (count_to 0 (drop n b)) ≡ e = cc in
-        let k : ◌≡◌ {A = Cursor} (record { at = at + n + (count_to 0 (drop n b) + 1 + h) }) next = cc in
+        let both = ok_parts d in
+        let r : record_at at m.internal n (count_to 0 (drop n b)) ≡ e = both.0 in
+        let k : ◌≡◌ {A = Cursor} (record { at = at + n + (count_to 0 (drop n b) + 1 + h) }) next = both.1 in
         let w : m.internal ≡ e.mode = ap (λ (x : EntryRecord). x.mode) r in
         record {
           size = n;
-          reads = q ∙ ap (λ (x : ℕ). Mode (record { internal = x }) n) w;
+          reads = q ∙ ap (λ (x : ℕ). Some (record { internal = x }, n)) w;
           laid = sym r ∙ ap (λ (x : ℕ). record_at at x n (count_to 0 (drop n b))) w;
           past = sym (ap (λ (x : Cursor). x.at) k);
           inside = leb-true (count_to 0 (drop n b) + 1 + h) (length (drop n b)) p;
         }
     last m n q false p d = let z : ◌≡◌ {A = ℕ} 0 1 = cc in absurd (omega arith)
 
-    go : (r : ModeRead) → read_mode b ≡ r → decode_mode h at b r ≡ Whole e next → Parts h at b e next
-    go (Mode m n) q d = last m n q (leb (count_to 0 (drop n b) + 1 + h) (length (drop n b))) refl d
-    go Bad q d = let z : ◌≡◌ {A = ℕ} 0 1 = cc in absurd (omega arith)
+    go : (r : Option (EntryMode × ℕ)) → read_mode b ≡ r → decode_mode h at b r ≡ Ok (e, next) → Parts h at b e next
+    go (Some (m, n)) q d = last m n q (leb (count_to 0 (drop n b) + 1 + h) (length (drop n b))) refl d
+    go None q d = let z : ◌≡◌ {A = ℕ} 0 1 = cc in absurd (omega arith)
 
 pub short_none : {left : ℕ} → left ≡ 0 → short_part left ≡ 2
 unfolding short_part
@@ -221,21 +220,21 @@ short-is-part left = go (eqb left 0)
     go false = refl
 
 -- an entry that cannot be read is refused 3 at its first byte, with one of the three parts
-pub decode_three : (h at : ℕ) (b : List ℕ) (v : Verdict) → decode h at b ≡ Broken v → (k : ℕ) × (v ≡ broken at k) × (is_part k ≡ true)
+pub decode_three : (h at : ℕ) (b : List ℕ) (v : Verdict) → decode h at b ≡ Err v → (k : ℕ) × (v ≡ broken at k) × (is_part k ≡ true)
 unfolding decode decode_mode decode_name
 decode_three h at b v d = go (read_mode b) d
   where
-    last : (m n t left : ℕ) (w : Bool) (c : Cursor) → pick w (Whole (record_at at m n t) c) (broken_at at (short_part left)) ≡ Broken v
+    last : (m n t left : ℕ) (w : Bool) (c : Cursor) → pick w (Ok (record_at at m n t, c)) (broken_at at (short_part left)) ≡ Err v
         → (k : ℕ) × (v ≡ broken at k) × (is_part k ≡ true)
     last m n t left true c d = let z : ◌≡◌ {A = ℕ} 0 1 = cc in absurd (omega arith)
     last m n t left false c d = (short_part left, cc, short-is-part left)
 
-    go : (r : ModeRead) → decode_mode h at b r ≡ Broken v → (k : ℕ) × (v ≡ broken at k) × (is_part k ≡ true)
-    go (Mode m n) d = last m.internal n (count_to 0 (drop n b)) (length (drop n b) - count_to 0 (drop n b)) (leb (count_to 0 (drop n b) + 1 + h) (length (drop n b))) _ d
-    go Bad d = (1, cc, refl)
+    go : (r : Option (EntryMode × ℕ)) → decode_mode h at b r ≡ Err v → (k : ℕ) × (v ≡ broken at k) × (is_part k ≡ true)
+    go (Some (m, n)) d = last m.internal n (count_to 0 (drop n b)) (length (drop n b) - count_to 0 (drop n b)) (leb (count_to 0 (drop n b) + 1 + h) (length (drop n b))) _ d
+    go None d = (1, cc, refl)
 
 -- a whole entry lies inside the object that it was read from, in order, its mode text first, and the cursor stands past it
-pub decode-inside : (h : ℕ) (s : List ℕ) (at : ℕ) (e : EntryRecord) (next : Cursor) → decode h at (drop at s) ≡ Whole e next
+pub decode-inside : (h : ℕ) (s : List ℕ) (at : ℕ) (e : EntryRecord) (next : Cursor) → decode h at (drop at s) ≡ Ok (e, next)
     → (at ≤ e.name_start) × (e.name_start ≤ e.name_end) × (e.id_start ≡ e.name_end + 1) × (next.at ≡ e.id_start + h) × (next.at ≤ length s)
     × (e.text_start ≡ at)
 decode-inside h s at e next d =
@@ -250,11 +249,11 @@ decode-inside h s at e next d =
 -- ---- the step
 
 module _ (h : ℕ) (s : List ℕ) (c : Cursor) where
-  pub step-shut : (v : Verdict) → gate_of h (length s) 0 ≡ Shut v → step_of h s c ≡ no_entry v c
+  pub step-shut : (v : Verdict) → gate_of h (length s) 0 ≡ Err v → step_of h s c ≡ no_entry v c
   unfolding step_of step_from
   step-shut v g = rw g
 
-  module _ (g : gate_of h (length s) 0 ≡ Open) where
+  module _ (g : gate_of h (length s) 0 ≡ Ok tt) where
     pub step_end : length s ≤ c.at → step_of h s c ≡ no_entry fine c
     unfolding step_of step_from
     step_end p = rw g (simp (le-leb (length s) c.at p))
@@ -263,13 +262,13 @@ module _ (h : ℕ) (s : List ℕ) (c : Cursor) where
     unfolding step_of step_from
     step-inside p = rw g (simp (lt-leb (length s) c.at p))
 
-pub step-whole : (h : ℕ) (s : List ℕ) (c : Cursor) (e : EntryRecord) (next : Cursor) → gate_of h (length s) 0 ≡ Open → c.at < length s
-    → decode h c.at (drop c.at s) ≡ Whole e next → step_of h s c ≡ record { verdict = fine; found = true; entry = e; next = next }
+pub step-whole : (h : ℕ) (s : List ℕ) (c : Cursor) (e : EntryRecord) (next : Cursor) → gate_of h (length s) 0 ≡ Ok tt → c.at < length s
+    → decode h c.at (drop c.at s) ≡ Ok (e, next) → step_of h s c ≡ record { verdict = fine; found = true; entry = e; next = next }
 unfolding step_over
 step-whole h s c e next g p d = step-inside h s c g p ∙ rw d
 
-pub step-broken : (h : ℕ) (s : List ℕ) (c : Cursor) (v : Verdict) → gate_of h (length s) 0 ≡ Open → c.at < length s
-    → decode h c.at (drop c.at s) ≡ Broken v → step_of h s c ≡ no_entry v (record { at = length s })
+pub step-broken : (h : ℕ) (s : List ℕ) (c : Cursor) (v : Verdict) → gate_of h (length s) 0 ≡ Ok tt → c.at < length s
+    → decode h c.at (drop c.at s) ≡ Err v → step_of h s c ≡ no_entry v (record { at = length s })
 unfolding step_over
 step-broken h s c v g p d = step-inside h s c g p ∙ rw d
 

@@ -15,22 +15,17 @@ use Rattle.ground.specs.Scan.{count_to, free_of}
 use Rattle.ground.specs.Verdict.{verdict, broken, is_part, gate_of}
 use Rattle.ground.proofs.Laws.{and_left, and_right, gate_shut, count-le, count-is, count_free, free-count, whole_free, free_whole}
 use Rattle.ground.specs.declared.Verdict.{Verdict}
-use Rattle.ground.specs.declared.Gate.{Gate}
-use Rattle.ground.specs.declared.Gate.TheVariants.{Open, Shut}
 use Rattle.mode.specs.Read.{mode_of, read_mode}
 use Rattle.mode_text.specs.Read.{is_octal, octal_from, has_six, text_len, settle}
 use Rattle.mode.proofs.Laws.{read-text}
 use Rattle.mode_text.proofs.Laws.{text-count, rest_end}
 use Rattle.mode.specs.declared.EntryMode.{EntryMode}
-use Rattle.mode.specs.declared.ModeRead.{ModeRead}
-use Rattle.mode.specs.declared.ModeRead.TheVariants.{Mode, Bad}
 use Rattle.entry.specs.Decode.{broken_at, record_at, decode, decode_mode, decode_name, step_over, step_of}
 use Rattle.entry.specs.Parts.{NoNul, CutId, all_octal, OnePart, PartLaws}
 use Rattle.entry.specs.declared.EntryRecord.{EntryRecord}
 use Rattle.entry.specs.declared.Cursor.{Cursor}
-use Rattle.entry.specs.declared.Decoded.{Decoded}
-use Rattle.entry.specs.declared.Decoded.TheVariants.{Whole, Broken}
 use Rattle.entry.proofs.Laws.{short_none, short-some, decode_three, step-shut, step_end, step-inside}
+use Rattle.std.specs.Prelude.{Err, None, Ok, Option, Result, Some, ⊤}
 
 -- ---- past the mode text
 
@@ -54,7 +49,7 @@ module _ (h at m n : ℕ) (c : List ℕ) where
         simp (lt-leb (count_to 0 c + 1 + h) (length c) (omega (arith, nul_at, long)))
         (ap (broken_at at) (short-some (λ z. omega (arith, nul_at, long))))
 
-    name-whole : h ≤ length left → decode_name h at m n c ≡ Whole (record_at at m n (count_to 0 c)) (record { at = at + n + (count_to 0 c + 1 + h) })
+    name-whole : h ≤ length left → decode_name h at m n c ≡ Ok (record_at at m n (count_to 0 c), record { at = at + n + (count_to 0 c + 1 + h) })
     unfolding decode_name
     name-whole p = simp (le-leb (count_to 0 c + 1 + h) (length c) (omega (arith, nul_at, long)))
 
@@ -80,17 +75,17 @@ past h c = by (below (count_to 0 c) (length c))
     by (inr p) = nulless (free_whole 0 c (omega (arith, count-le 0 c)))
 
 data Way (h at : ℕ) (b : List ℕ) : Type 0 where
-  no_mode : read_mode b ≡ Bad → decode h at b ≡ broken_at at 1 → Way h at b
+  no_mode : read_mode b ≡ None → decode h at b ≡ broken_at at 1 → Way h at b
   no_nul : NoNul b → decode h at b ≡ broken_at at 2 → Way h at b
   cut-id : CutId h b → decode h at b ≡ broken_at at 3 → Way h at b
-  whole : (e : EntryRecord) (next : Cursor) → decode h at b ≡ Whole e next → Way h at b
+  whole : (e : EntryRecord) (next : Cursor) → decode h at b ≡ Ok (e, next) → Way h at b
 
 module _ (h at : ℕ) (b : List ℕ) where
-  decode-bad : read_mode b ≡ Bad → decode h at b ≡ broken_at at 1
+  decode-bad : read_mode b ≡ None → decode h at b ≡ broken_at at 1
   unfolding decode decode_mode
   decode-bad q = rw q
 
-  decode-mode : (m : EntryMode) (n : ℕ) → read_mode b ≡ Mode m n → decode h at b ≡ decode_name h at m.internal n (drop n b)
+  decode-mode : (m : EntryMode) (n : ℕ) → read_mode b ≡ Some (m, n) → decode h at b ≡ decode_name h at m.internal n (drop n b)
   unfolding decode decode_mode
   decode-mode m n q = rw q
 
@@ -109,9 +104,9 @@ module _ (h at : ℕ) (b : List ℕ) where
   way : Way h at b
   way = go (read_mode b) refl
     where
-      go : (r : ModeRead) → read_mode b ≡ r → Way h at b
-      go Bad q = no_mode q (decode-bad q)
-      go (Mode m n) q = by (past h (drop n b))
+      go : (r : Option (EntryMode × ℕ)) → read_mode b ≡ r → Way h at b
+      go None q = no_mode q (decode-bad q)
+      go (Some (m, n)) q = by (past h (drop n b))
         where
           by : Past h (drop n b) → Way h at b
           by (nulless f) =
@@ -127,14 +122,14 @@ module _ (h at : ℕ) (b : List ℕ) where
 part_same : (at j k : ℕ) → broken_at at j ≡ broken_at at k → j ≡ k
 part_same at j k e = let z : broken at j ≡ broken at k = cc in ap (λ (v : Verdict). v.part) z
 
-never : {A : Type 0} (h at k : ℕ) (b : List ℕ) (e : EntryRecord) (next : Cursor) → decode h at b ≡ Whole e next → decode h at b ≡ broken_at at k → A
+never : {A : Type 0} (h at k : ℕ) (b : List ℕ) (e : EntryRecord) (next : Cursor) → decode h at b ≡ Ok (e, next) → decode h at b ≡ broken_at at k → A
 never h at k b e next d q = let z : ◌≡◌ {A = ℕ} 0 1 = cc in absurd (omega arith)
 
 module _ (h at : ℕ) (b : List ℕ) where
-  to_mode : decode h at b ≡ broken_at at 1 → read_mode b ≡ Bad
+  to_mode : decode h at b ≡ broken_at at 1 → read_mode b ≡ None
   to_mode q = by (way h at b)
     where
-      by : Way h at b → read_mode b ≡ Bad
+      by : Way h at b → read_mode b ≡ None
       by (no_mode r d) = r
       by (no_nul w d) = absurd (omega (arith, part_same at 1 2 (sym q ∙ d)))
       by (cut-id w d) = absurd (omega (arith, part_same at 1 3 (sym q ∙ d)))
@@ -187,17 +182,17 @@ module _ (h : ℕ) (s : List ℕ) (c : Cursor) where
   unfolding step_over
   step-told = by (gate_of h (length s) 0) refl
     where
-      over : (d : Decoded) → decode h c.at (drop c.at s) ≡ d → Told (step_over (length s) d).verdict
-      over (Whole e next) q = told_other 0 0 (λ z. omega arith)
-      over (Broken v) q = let w = decode_three h c.at (drop c.at s) v q in rw w.1 (told_three c.at w.0 (part-is w.0 w.2))
+      over : (d : Result (EntryRecord × Cursor) Verdict) → decode h c.at (drop c.at s) ≡ d → Told (step_over (length s) d).verdict
+      over (Ok (e, next)) q = told_other 0 0 (λ z. omega arith)
+      over (Err v) q = let w = decode_three h c.at (drop c.at s) v q in rw w.1 (told_three c.at w.0 (part-is w.0 w.2))
 
-      by : (g : Gate) → gate_of h (length s) 0 ≡ g → Told (step_of h s c).verdict
-      by (Shut v) q = rw (step-shut h s c v q) (go (gate_shut h (length s) 0 v q))
+      by : (g : Result ⊤ Verdict) → gate_of h (length s) 0 ≡ g → Told (step_of h s c).verdict
+      by (Err v) q = rw (step-shut h s c v q) (go (gate_shut h (length s) 0 v q))
         where
           go : (v ≡ verdict 1 0) ⊎ (v ≡ verdict 2 0) → Told v
           go (inl e) = rw e (told_other 1 0 (λ z. omega arith))
           go (inr e) = rw e (told_other 2 0 (λ z. omega arith))
-      by Open q = go (below c.at (length s))
+      by (Ok tt) q = go (below c.at (length s))
         where
           go : (c.at < length s) ⊎ (length s ≤ c.at) → Told (step_of h s c).verdict
           go (inl p) = rw (step-inside h s c q p) (over (decode h c.at (drop c.at s)) refl)
@@ -214,7 +209,7 @@ digits_free : (x : ℕ) (b : List ℕ) → x < 48 → all_octal b ≡ true → f
 digits_free x [] p e = refl
 digits_free x (b ∷ bs) p e = let d = digit_low b bs e in rw (ne_eqb b x (λ z. omega (arith, d.0))) (digits_free x bs p d.2)
 
-digits_sum : (sum : ℕ) (b : List ℕ) → all_octal b ≡ true → (first rest : ℕ) → (m : EntryMode) × (mode_of first rest (octal_from sum b) ≡ Mode m rest)
+digits_sum : (sum : ℕ) (b : List ℕ) → all_octal b ≡ true → (first rest : ℕ) → (m : EntryMode) × (mode_of first rest (octal_from sum b) ≡ Some (m, rest))
 unfolding octal_from
 digits_sum sum [] e first rest = (record { internal = settle sum first }, refl)
 digits_sum sum (b ∷ bs) e first rest =
@@ -237,7 +232,7 @@ digits-read h at (d ∷ ds) p q e =
     let b : List ℕ = d ∷ ds in
     let n : length b ≡ text_len b = sym (text-count b (no_six b e) ∙ whole_free 32 b (digits_free 32 b (omega arith) e)) in
     let v = digits_sum 0 b e d 1 in
-    let r : read_mode b ≡ Mode v.0 1 =
+    let r : read_mode b ≡ Some (v.0, 1) =
     read-text b (λ z. omega arith) (length b) n q ∙ rw (take_all (length b) b (omega arith), rest_end (length b) (length b) (omega arith)) v.1 in
     decode-nulless h at b
     (record { rest = ds; ahead = record { mode = v.0; size = 1; reads = r; past = refl }; nulless = digits_free 0 ds (omega arith) (digit_low d ds e).2 })

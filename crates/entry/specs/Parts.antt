@@ -1,21 +1,19 @@
 -- Which part of an entry cannot be read, in plain words (docs/FORMAT.md, "Entries"). `proofs/Parts.antt` proves it. Assumes nothing.
-use Rattle.std.specs.Prelude.{ℕ, ◌≤◌, ◌<◌, ◌≡◌, Bool, true, ◌&&◌, List, [], ◌∷◌, ◌++◌, ◌⊎◌, ◌↔◌, length, drop}
+use Rattle.std.specs.Prelude.{ℕ, ◌≤◌, ◌<◌, ◌≡◌, Bool, true, ◌&&◌, List, [], ◌∷◌, ◌++◌, ◌⊎◌, ◌↔◌, length, drop, Err, None, Some}
 use Rattle.ground.specs.Scan.{free_of}
 use Rattle.ground.specs.Verdict.{broken}
 use Rattle.ground.specs.declared.Verdict.{Verdict}
 use Rattle.mode.specs.Read.{read_mode}
 use Rattle.mode_text.specs.Read.{is_octal}
 use Rattle.mode.specs.declared.EntryMode.{EntryMode}
-use Rattle.mode.specs.declared.ModeRead.TheVariants.{Mode, Bad}
 use Rattle.entry.specs.Decode.{broken_at, decode, step_of}
 use Rattle.entry.specs.declared.Cursor.{Cursor}
-use Rattle.entry.specs.declared.Decoded.TheVariants.{Broken}
 
 -- a mode can be read at the front of the bytes b, and c is what follows its text
 pub record ModeThen (b c : List ℕ) : Type 0 where
   pub mode : EntryMode
   pub size : ℕ
-  pub reads : read_mode b ≡ Mode mode size
+  pub reads : read_mode b ≡ Some (mode, size)
   pub past : c ≡ drop size b
 
 -- a mode can be read, and no NUL follows it
@@ -43,11 +41,11 @@ OnePart k = (k ≡ 1) ⊎ ((k ≡ 2) ⊎ (k ≡ 3))
 
 pub record PartLaws : Type 0 where
   -- an entry that cannot be read is refused 3 at its first byte, with one of the three parts
-  pub one_part : (h at : ℕ) (b : List ℕ) (v : Verdict) → decode h at b ≡ Broken v → (k : ℕ) × (v ≡ broken at k) × OnePart k
+  pub one_part : (h at : ℕ) (b : List ℕ) (v : Verdict) → decode h at b ≡ Err v → (k : ℕ) × (v ≡ broken at k) × OnePart k
   -- a step has one of the three parts exactly with number 3
   pub only_three : (h : ℕ) (s : List ℕ) (c : Cursor) → OnePart (step_of h s c).verdict.part ↔ ((step_of h s c).verdict.number ≡ 3)
   -- part 1 exactly where no mode can be read
-  pub mode_part : (h at : ℕ) (b : List ℕ) → (decode h at b ≡ broken_at at 1) ↔ (read_mode b ≡ Bad)
+  pub mode_part : (h at : ℕ) (b : List ℕ) → (decode h at b ≡ broken_at at 1) ↔ (read_mode b ≡ None)
   -- part 2 exactly where one can, and no NUL follows it
   pub nul_part : (h at : ℕ) (b : List ℕ) → (decode h at b ≡ broken_at at 2) ↔ NoNul b
   -- part 3 exactly where both are there, and fewer than h bytes are left

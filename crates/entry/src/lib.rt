@@ -4,8 +4,8 @@
 ghost use Rattle.std.specs.Prelude.{◌≡◌, drop};
 ghost use Rattle.entry.specs.Decode.{broken_at, short_part, decode, no_entry, step_over, step_of};
 
-use ground::{BROKEN_ENTRY, CUT_ID, FINE, Gate, NO_MODE, NO_NUL, Verdict, bounds};
-use mode::{EntryMode, ModeRead};
+use ground::{BROKEN_ENTRY, CUT_ID, FINE, NO_MODE, NO_NUL, Verdict, bounds};
+use mode::EntryMode;
 use scan::find_nul;
 
 // An entry by its mode and by positions in the lent bytes; the last is where its mode text starts.
@@ -33,13 +33,6 @@ pub struct Cursor {
     pub at: usize,
 }
 
-// An entry with the cursor past it, or why none can be read.
-#[derive(Clone, Copy)]
-pub enum Decoded {
-    Whole(EntryRecord, Cursor),
-    Broken(Verdict),
-}
-
 // What a step of the cursor answers: where none was found the entry is all zeros.
 #[derive(Clone, Copy)]
 pub struct Step {
@@ -50,10 +43,10 @@ pub struct Step {
 }
 
 // Refusal 3: a part of the entry that starts at a place cannot be read.
-fn broken(at: usize, part: usize) -> Decoded
+fn broken(at: usize, part: usize) -> Result<(EntryRecord, Cursor), Verdict>
     ensures { result ≡ broken_at at part }
 {
-    Decoded::Broken(Verdict {
+    Err(Verdict {
         number: BROKEN_ENTRY,
         place: at,
         part,
@@ -80,34 +73,34 @@ fn no_entry(verdict: Verdict, next: Cursor) -> Step
 }
 
 // The step over what was read, in an object that ends at a place.
-fn stepped(end: usize, d: Decoded) -> Step
+fn stepped(end: usize, d: Result<(EntryRecord, Cursor), Verdict>) -> Step
     ensures { result ≡ step_over end d }
 {
     match d {
-        Decoded::Whole(e, next) => Step {
+        Ok((e, next)) => Step {
             verdict: FINE,
             found: true,
             entry: e,
             next,
         },
-        Decoded::Broken(w) => no_entry(w, Cursor { at: end }),
+        Err(w) => no_entry(w, Cursor { at: end }),
     }
 }
 
 impl Cursor {
     // One entry, with no test of the bounds: mode, name up to the first NUL, h bytes of id.
-    pub fn decode(self, s: &[u8], h: usize) -> Decoded
+    pub fn decode(self, s: &[u8], h: usize) -> Result<(EntryRecord, Cursor), Verdict>
         ensures { result ≡ decode h self.at (drop self.at s.now) }
     {
         let at = self.at;
         match EntryMode::extract_at(s, at) {
-            ModeRead::Mode(m, rest) => {
+            Some((m, rest)) => {
                 let end = find_nul(s, rest);
                 let left = s.len() - end;
                 if left <= h {
                     return broken(at, short_part(left));
                 }
-                Decoded::Whole(
+                Ok((
                     EntryRecord {
                         mode: m.internal as usize,
                         name_start: rest,
@@ -116,9 +109,9 @@ impl Cursor {
                         text_start: at,
                     },
                     Cursor { at: end + 1 + h },
-                )
+                ))
             }
-            ModeRead::Bad => broken(at, NO_MODE),
+            None => broken(at, NO_MODE),
         }
     }
 
@@ -127,8 +120,8 @@ impl Cursor {
         ensures { result ≡ step_of h bytes.now self }
     {
         match bounds(h, bytes.len(), 0) {
-            Gate::Shut(v) => no_entry(v, self),
-            Gate::Open => {
+            Err(v) => no_entry(v, self),
+            Ok(()) => {
                 let end = bytes.len();
                 if end <= self.at {
                     return no_entry(FINE, self);

@@ -46,10 +46,7 @@ pub fn put_entry(records: &mut [usize], i: usize, e: EntryRecord)
 fn holds_id(h: usize, len: usize, id: usize) -> bool
     ensures { result ≡ leb (id + h) len }
 {
-    if len < h {
-        return false;
-    }
-    id <= len - h
+    h <= len && id <= len - h
 }
 
 // Whether a record names a mode, a name and an id of h bytes inside so many bytes, and no mode text that starts after the name does. The name's end

@@ -13,31 +13,28 @@ use Rattle.ground.specs.Basics.{pick, part}
 use Rattle.ground.specs.Scan.{count_to, free_of}
 use Rattle.ground.specs.Verdict.{gate_of, most_records}
 use Rattle.ground.specs.declared.Answer.{Answer}
-use Rattle.ground.specs.declared.Gate.TheVariants.{Open}
 use Rattle.ground.proofs.Laws.{gate_open, id_small, count-is, count_free, free-count}
 use Rattle.mode.specs.Read.{read_mode}
 use Rattle.mode.specs.Write.{six_digits, trimmed, write_mode}
-use Rattle.mode.specs.declared.ModeRead.TheVariants.{Mode}
 use Rattle.mode_round.proofs.Space.{mode-space, read_count}
 use Rattle.entry.specs.Record.{many, records_of, name_of, id_of}
 use Rattle.entry.specs.Entry.{Entry, entry_bytes, as_written, entry_of, entries_of}
 use Rattle.entry.specs.Decode.{decode}
 use Rattle.entry.specs.declared.EntryRecord.{EntryRecord}
 use Rattle.entry.specs.declared.Cursor.{Cursor}
-use Rattle.entry.specs.declared.Decoded.{Decoded}
-use Rattle.entry.specs.declared.Decoded.TheVariants.{Whole, Broken}
 use Rattle.entry.proofs.Laws.{Parts, decode-parts, decode-inside}
 use Rattle.reading.specs.Listing.{Listing, listing, follow, plain, records_in, tally}
 use Rattle.strict.specs.Strict.{text_of, strictly}
 use Rattle.rules.specs.Rules.{git_rules}
 use Rattle.reading.specs.Whole.{read_answer, read_records}
-use Rattle.reading.specs.declared.Counted.TheVariants.{Total}
 use Rattle.reading.proofs.Laws.{tally-length, plain-refuses, answer-done}
 use Rattle.strict.proofs.Laws.{cut-refuses, strict-plain}
 use Rattle.one_listing.specs.Demand.{Accepts}
 use Rattle.one_listing.proofs.Theorem.{stored-records, accepts_sound}
 use Rattle.one_listing.proofs.Present.{git_ok}
 use Rattle.examples.specs.Texts.{remembered, Remembers, OwnText, Each, as_stood, Returned, Judged, TextLaws}
+use Rattle.ground.specs.declared.Verdict.{Verdict}
+use Rattle.std.specs.Prelude.{Err, Ok, Result, Some}
 
 -- ---- one entry
 
@@ -112,7 +109,7 @@ module _ (h : ℕ) (big : 6 < h) (s : List ℕ) (at : ℕ) (b : List ℕ) (here-
       let y : n - 1 ≡ count_to 32 b = omega (arith, read_count b e.mode n P.reads long) in
       let x : at + (n - 1) ≡ e.name_start - 1 = omega (arith, start_is, spaced.0) in
       record {
-        reads = ap (λ (i : ℕ). read_mode (drop i s)) text_at ∙ ap read_mode here-is ∙ P.reads ∙ ap (Mode (record { internal = e.mode })) (sym z);
+        reads = ap (λ (i : ℕ). read_mode (drop i s)) text_at ∙ ap read_mode here-is ∙ P.reads ∙ ap ((λ y. Some ((record { internal = e.mode }), y))) (sym z);
         space = ap (λ (i : ℕ). get_or s i 0) (sym x) ∙ sym (get_or-drop at s (n - 1) 0) ∙ rw here-is spaced.2;
         spaceless = ap (free_of 32) (text-is ∙ ap (λ (i : ℕ). take i b) y) ∙ free-count 32 b;
       }
@@ -136,7 +133,7 @@ record Stood (h : ℕ) (s b : List ℕ) (rs : List EntryRecord) : Type 0 where
   bytes : as_stood h s rs ≡ b
   each : Each (Remembers s) rs
 
-plain-stood : (h : ℕ) → 6 < h → (s : List ℕ) (k at m n : ℕ) (b : List ℕ) → drop at s ≡ b → tally m (plain h k at b) ≡ Total n
+plain-stood : (h : ℕ) → 6 < h → (s : List ℕ) (k at m n : ℕ) (b : List ℕ) → drop at s ≡ b → tally m (plain h k at b) ≡ Ok n
     → Stood h s b (records_in (plain h k at b))
 unfolding plain follow records_in tally
 plain-stood h o s zero at m n [] q t = record { bytes = refl; each = tt }
@@ -144,11 +141,11 @@ plain-stood h o s zero at m n (x ∷ xs) q t = let z : ◌≡◌ {A = ℕ} 0 1 =
 plain-stood h o s (suc k) at m n [] q t = record { bytes = refl; each = tt }
 plain-stood h o s (suc k) at m n (x ∷ xs) q t = go (λ i c. plain-stood h o s k i (m + 1) n c) (x ∷ xs) q (decode h at (x ∷ xs)) refl t
   where
-    go : ((i : ℕ) (c : List ℕ) → drop i s ≡ c → tally (m + 1) (plain h k i c) ≡ Total n → Stood h s c (records_in (plain h k i c)))
-        → (b : List ℕ) → drop at s ≡ b → (d : Decoded) → decode h at b ≡ d → tally m (follow (plain h k) at b d) ≡ Total n
+    go : ((i : ℕ) (c : List ℕ) → drop i s ≡ c → tally (m + 1) (plain h k i c) ≡ Ok n → Stood h s c (records_in (plain h k i c)))
+        → (b : List ℕ) → drop at s ≡ b → (d : Result (EntryRecord × Cursor) Verdict) → decode h at b ≡ d → tally m (follow (plain h k) at b d) ≡ Ok n
         → Stood h s b (records_in (follow (plain h k) at b d))
-    go ih b q (Broken v) d t = let z : ◌≡◌ {A = ℕ} 0 1 = cc in absurd (omega arith)
-    go ih b q (Whole e next) d t =
+    go ih b q (Err v) d t = let z : ◌≡◌ {A = ℕ} 0 1 = cc in absurd (omega arith)
+    go ih b q (Ok (e, next)) d t =
         let P = decode-parts h at b e next d in
         let i = ih next.at (drop (next.at - at) b) (rest-there h o s at b q e next P) t in
         record {
@@ -167,10 +164,10 @@ plain-judged h s zero at (x ∷ xs) q = tt
 plain-judged h s (suc k) at [] q = tt
 plain-judged h s (suc k) at (x ∷ xs) q = go (plain-judged h s k) (x ∷ xs) q (decode h at (x ∷ xs)) refl
   where
-    go : ((i : ℕ) (c : List ℕ) → drop i s ≡ c → Judged s (plain h k i c)) → (b : List ℕ) → drop at s ≡ b → (d : Decoded) → decode h at b ≡ d
+    go : ((i : ℕ) (c : List ℕ) → drop i s ≡ c → Judged s (plain h k i c)) → (b : List ℕ) → drop at s ≡ b → (d : Result (EntryRecord × Cursor) Verdict) → decode h at b ≡ d
         → Judged s (follow (plain h k) at b d)
-    go ih b q (Broken v) d = tt
-    go ih b q (Whole e next) d =
+    go ih b q (Err v) d = tt
+    go ih b q (Ok (e, next)) d =
         let w = decode-inside h s at e next (ap (decode h at) q ∙ d) in
         let z : at + (next.at - at) ≡ next.at = omega (arith, w) in
         let r : drop next.at s ≡ drop (next.at - at) b
@@ -223,14 +220,14 @@ written-own h s (r ∷ rs) f e =
 -- ---- the laws
 
 -- a whole object that was counted to its end
-whole-stood : (h : ℕ) (s : List ℕ) (records n : ℕ) → gate_of h (length s) records ≡ Open → tally 0 (listing h s) ≡ Total n
+whole-stood : (h : ℕ) (s : List ℕ) (records n : ℕ) → gate_of h (length s) records ≡ Ok tt → tally 0 (listing h s) ≡ Ok n
     → Stood h s s (records_in (listing h s))
 whole-stood h s records n g t =
     let o = id_small h (gate_open h (length s) records g).0 in
     plain-stood h (omega (arith, o.0)) s most_records 0 0 n s refl t
 
 module _ (h : ℕ) (s lent : List ℕ) (rs : List EntryRecord) (w : Returned h s lent rs) where
-  counted_to : (gate_of h (length s) (many (length lent)) ≡ Open) × (tally 0 (listing h s) ≡ Total (length rs)) × (length rs ≤ many (length lent))
+  counted_to : (gate_of h (length s) (many (length lent)) ≡ Ok tt) × (tally 0 (listing h s) ≡ Ok (length rs)) × (length rs ≤ many (length lent))
   counted_to = answer-done (listing h s) h (length s) (many (length lent)) (many (length lent)) (length rs) (plain-refuses h s) w.answer
 
   records_are : records_in (listing h s) ≡ rs

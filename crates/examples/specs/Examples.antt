@@ -1,5 +1,5 @@
 -- The worked examples P1 to P14: one table, and one claim over it, which the definitions compute (docs/FORMAT.md, "Examples"). Assumes nothing.
-use Rattle.std.specs.Prelude.{ℕ, ◌≡◌, refl, Bool, true, false, List, [], ◌∷◌, ◌++◌, map, ℤ, pos, negsuc, length, take, replicate}
+use Rattle.std.specs.Prelude.{ℕ, ◌≡◌, refl, Bool, true, false, List, [], ◌∷◌, ◌++◌, map, ℤ, pos, negsuc, length, take, replicate, None, Option, Some}
 use Prim.Native.String.{String}
 use Rattle.ground.specs.Basics.{ascii}
 use Rattle.ground.specs.Verdict.{broken, counted, refused, id_length, size_gate, gate_of, stored, is_set}
@@ -12,8 +12,6 @@ use Rattle.mode.specs.Write.{trimmed, write_mode}
 use Rattle.mode.specs.Table.{rows}
 use Rattle.mode_table.specs.declared.EntryKind.{EntryKind}
 use Rattle.mode_table.specs.declared.EntryKind.TheVariants.{Tree, Blob, Commit}
-use Rattle.mode.specs.declared.ModeRead.{ModeRead}
-use Rattle.mode.specs.declared.ModeRead.TheVariants.{Mode, Bad}
 use Rattle.order.specs.Order.{by_number, next, name_order, order_number}
 use Rattle.entry.specs.Record.{records_of, well_formed, name_of, id_of}
 use Rattle.entry.specs.Entry.{Entry, entry_bytes, as_written, entry_of, entries_of}
@@ -27,6 +25,7 @@ use Rattle.strict.specs.Strict.{text_of, cut, strict_answer, strict_records}
 use Rattle.commit_value.specs.Fold.{fold_rest, fold_value}
 use Rattle.commit_write.specs.Written.{header_written}
 use Rattle.tree_write.specs.Write.{written, refusal, judged, measured, tree_answer}
+use Rattle.mode.specs.declared.EntryMode.{EntryMode}
 
 -- an answer, by what was asked
 pub data Told : Type 0 where
@@ -51,9 +50,9 @@ pub data Told : Type 0 where
 abbrev pub text : List ℕ → Told
 text i = told (read_mode i)
   where
-    told : ModeRead → Told
-    told (Mode m n) = reads m.internal n (value_of m.internal) (kind_of m.internal) (write_mode m.internal)
-    told Bad = refuses
+    told : Option (EntryMode × ℕ) → Told
+    told (Some (m, n)) = reads m.internal n (value_of m.internal) (kind_of m.internal) (write_mode m.internal)
+    told None = refuses
 
 -- a blob's name or a tree's
 pub record Name : Type 0 where

@@ -1,14 +1,12 @@
 -- Each number in its case: a table of every number that a call gives, with its place, its part and its field, which the definitions compute; and the bounds.
 -- Assumes nothing.
-use Rattle.std.specs.Prelude.{ℕ, ◌*◌, ◌≡◌, refl, false, take, replicate}
+use Rattle.std.specs.Prelude.{ℕ, ◌*◌, ◌≡◌, refl, false, take, replicate, Err, Ok, Result, ⊤}
 use Prim.Native.String.{String}
 use mathlib.Core.List.{List, [], ◌∷◌, ◌++◌, map}
 use Rattle.ground.specs.Basics.{ascii}
 use Rattle.ground.specs.Scan.{place_from}
 use Rattle.ground.specs.Verdict.{verdict, id_length, size_gate, gate_of, is_set}
 use Rattle.ground.specs.declared.Verdict.{Verdict}
-use Rattle.ground.specs.declared.Gate.{Gate}
-use Rattle.ground.specs.declared.Gate.TheVariants.{Open, Shut}
 use Rattle.output.specs.Output.{fitted, gated}
 use Rattle.mode.specs.Mode.{value_of, sort_of, is_tree, from_number}
 use Rattle.mode_text.specs.Read.{read_text}
@@ -326,38 +324,38 @@ commits_hold = refl
 
 -- whether a call may begin, and that it may or with what it is refused
 pub record Bound : Type 0 where
-  pub asked : Gate
-  pub answer : Gate
+  pub asked : Result ⊤ Verdict
+  pub answer : Result ⊤ Verdict
 
 infix 90 ◌opens◌
-abbrev pub ◌opens◌ : Gate → Gate → Bound
+abbrev pub ◌opens◌ : Result ⊤ Verdict → Result ⊤ Verdict → Bound
 q opens a = record { asked = q; answer = a }
 
-abbrev two : Gate
-two = Shut (verdict 2 0)
+abbrev two : Result ⊤ Verdict
+two = Err (verdict 2 0)
 
 unfoldable pub bounds : List Bound
 bounds =
     -- 1,073,741,824 bytes and 1,048,576 records, and one over each, for each id length
-    gate_of 20 1073741824 1048576 opens Open
+    gate_of 20 1073741824 1048576 opens (Ok tt)
     ∷ gate_of 20 1073741825 0 opens two
     ∷ gate_of 20 0 1048577 opens two
-    ∷ gate_of 32 1073741824 1048576 opens Open
+    ∷ gate_of 32 1073741824 1048576 opens (Ok tt)
     ∷ gate_of 32 1073741825 0 opens two
     ∷ gate_of 32 0 1048577 opens two
     -- 1 is ahead of 2
-    ∷ gate_of 21 1073741825 1048577 opens Shut (verdict 1 0)
+    ∷ gate_of 21 1073741825 1048577 opens Err (verdict 1 0)
     -- without an id length
-    ∷ size_gate 1073741824 1048576 opens Open
+    ∷ size_gate 1073741824 1048576 opens (Ok tt)
     ∷ size_gate 1073741825 0 opens two
     ∷ size_gate 0 1048577 opens two
     -- strict reading: 1, then 19, then 2
-    ∷ rule_gate 1 32 1073741824 1048576 opens Open
-    ∷ rule_gate 2 20 1073741824 1048576 opens Open
+    ∷ rule_gate 1 32 1073741824 1048576 opens (Ok tt)
+    ∷ rule_gate 2 20 1073741824 1048576 opens (Ok tt)
     ∷ rule_gate 2 20 1073741825 0 opens two
     ∷ rule_gate 2 20 0 1048577 opens two
-    ∷ rule_gate 3 20 1073741825 1048577 opens Shut (verdict 19 0)
-    ∷ rule_gate 3 21 1073741825 1048577 opens Shut (verdict 1 0)
+    ∷ rule_gate 3 20 1073741825 1048577 opens Err (verdict 19 0)
+    ∷ rule_gate 3 21 1073741825 1048577 opens Err (verdict 1 0)
     ∷ []
 
 pub bounds_hold : map (λ (b : Bound). b.asked) bounds ≡ map (λ (b : Bound). b.answer) bounds

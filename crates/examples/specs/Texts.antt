@@ -1,6 +1,6 @@
 -- Entries remember their mode text: what the fifth number of a record says (docs/FORMAT.md, "Records"). `proofs/Texts.antt` proves the laws.
 -- Assumes nothing.
-use Rattle.std.specs.Prelude.{ℕ, ◌-◌, ◌≡◌, refl, true, List, [], ◌∷◌, ◌++◌, map, ◌↔◌, length, get_or, take, drop, replicate}
+use Rattle.std.specs.Prelude.{ℕ, ◌-◌, ◌≡◌, refl, true, List, [], ◌∷◌, ◌++◌, map, ◌↔◌, length, get_or, take, drop, replicate, Some}
 use Prim.Native.String.{String}
 use Rattle.ground.specs.Basics.{ascii, part}
 use Rattle.ground.specs.Scan.{free_of}
@@ -8,7 +8,6 @@ use Rattle.ground.specs.Verdict.{counted, id_length, size_gate, gate_of, stored}
 use Rattle.mode_text.specs.Read.{read_text}
 use Rattle.mode.specs.Read.{octal_from, has_six, text_len, settle, rest_at, read_mode}
 use Rattle.mode.specs.Write.{trimmed, write_mode}
-use Rattle.mode.specs.declared.ModeRead.TheVariants.{Mode}
 use Rattle.entry.specs.Record.{records_of, name_of, id_of}
 use Rattle.entry.specs.Entry.{Entry}
 use Rattle.entry.specs.Decode.{short_part, decode_name, decode_mode, decode}
@@ -28,7 +27,7 @@ remembered s r = part r.text_start (r.name_start - 1) s
 -- that text stands there as a mode's: the mode read from its first byte on is the record's and its rest is the name, a space stands between, and the text has
 -- none
 pub record Remembers (s : List ℕ) (r : EntryRecord) : Type 0 where
-  pub reads : read_mode (drop r.text_start s) ≡ Mode (record { internal = r.mode }) (r.name_start - r.text_start)
+  pub reads : read_mode (drop r.text_start s) ≡ Some (record { internal = r.mode }, r.name_start - r.text_start)
   pub space : get_or s (r.name_start - 1) 0 ≡ 32
   pub spaceless : free_of 32 (remembered s r) ≡ true
 

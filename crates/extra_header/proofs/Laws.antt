@@ -1,6 +1,6 @@
 -- Laws of extra headers and folded values, one for each way through a definition. Assumes nothing.
 use Prim.Native.Nat.{ℕ, suc, ◌+◌, ◌<◌, ◌≤◌}
-use mathlib.Core.Path.{◌≡◌, refl, ◌∙◌}
+use mathlib.Core.Path.{◌≡◌, refl, sym, ◌∙◌}
 use mathlib.Core.Bool.{Bool, true, false}
 use mathlib.Core.List.{List, [], ◌∷◌}
 use mathlib.Core.Logic.{◌⊎◌, inl, inr}
@@ -16,7 +16,8 @@ use Rattle.ground.specs.Scan.{count_to, place_from}
 use Rattle.extra_header.specs.Extra.{fold_from, fold_end, folded_or, extra_at, folded_form}
 use Rattle.header.specs.Record.{header_of}
 use Rattle.header.specs.declared.HeaderRecord.{HeaderRecord}
-use Rattle.extra_header.specs.declared.Extra.TheVariants.{Got, No}
+use Rattle.std.specs.Prelude.{None, Some}
+use Rattle.ground.proofs.Pairs.{some_parts}
 
 -- ---- lines that start with a space
 
@@ -100,17 +101,17 @@ fold_within s start h = let k = fold_range false start start (drop start s) (ome
 -- ---- an extra header: no name, no space before LF, no LF, folded, one line
 
 module _ (s : List ℕ) (at space lf : ℕ) (p : space ≡ place_from 32 s at) (q : lf ≡ place_from 10 s at) where
-  pub extra_unnamed : space ≤ at → extra_at s at ≡ No
+  pub extra_unnamed : space ≤ at → extra_at s at ≡ None
   unfolding extra_at
   extra_unnamed e = rw (← p, ← q) (simp (le-ltb at space e))
 
   module _ (a : at < space) where
-    pub extra_bare : lf ≤ space → extra_at s at ≡ No
+    pub extra_bare : lf ≤ space → extra_at s at ≡ None
     unfolding extra_at
     extra_bare e = rw (← p, ← q) (simp (lt-ltb at space a, le-ltb space lf e))
 
     module _ (b : space < lf) where
-      pub extra_open : length s ≤ lf → extra_at s at ≡ No
+      pub extra_open : length s ≤ lf → extra_at s at ≡ None
       unfolding extra_at
       extra_open e = rw (← p, ← q) (simp (lt-ltb at space a, lt-ltb space lf b, le-ltb lf (length s) e))
 
@@ -119,22 +120,22 @@ module _ (s : List ℕ) (at space lf : ℕ) (p : space ≡ place_from 32 s at) (
         unfolding extra_at
         extra_is = rw (← p, ← q, ← r) (simp (lt-ltb at space a, lt-ltb space lf b, lt-ltb lf (length s) c))
 
-        pub extra_folded : lf + 1 < end → extra_at s at ≡ Got (header_of at space (space + 1) end 1) end
+        pub extra_folded : lf + 1 < end → extra_at s at ≡ Some (header_of at space (space + 1) end 1, end)
         unfolding folded_or
         extra_folded e = extra_is ∙ simp (lt-ltb (lf + 1) end e)
 
-        pub extra_line : end ≤ lf + 1 → extra_at s at ≡ Got (header_of at space (space + 1) lf 0) (lf + 1)
+        pub extra_line : end ≤ lf + 1 → extra_at s at ≡ Some (header_of at space (space + 1) lf 0, lf + 1)
         unfolding folded_or
         extra_line e = extra_is ∙ simp (le-ltb (lf + 1) end e)
 
 -- a blank line is none, wherever a space stands
-pub extra_blank : (s : List ℕ) (at lf : ℕ) → lf ≡ place_from 10 s at → lf ≤ at → extra_at s at ≡ No
+pub extra_blank : (s : List ℕ) (at lf : ℕ) → lf ≡ place_from 10 s at → lf ≤ at → extra_at s at ≡ None
 extra_blank s at lf q h = by (place_from 32 s at) refl
   where
-    by : (space : ℕ) → space ≡ place_from 32 s at → extra_at s at ≡ No
+    by : (space : ℕ) → space ≡ place_from 32 s at → extra_at s at ≡ None
     by space p = go (ltb at space) refl
       where
-        go : (t : Bool) → ltb at space ≡ t → extra_at s at ≡ No
+        go : (t : Bool) → ltb at space ≡ t → extra_at s at ≡ None
         go false e = extra_unnamed s at space lf p q (ltb-false at space e)
         go true e = extra_bare s at space lf p q (ltb-true at space e) (omega (arith, ltb-true at space e))
 
@@ -152,11 +153,11 @@ pub record ExtraParts (s : List ℕ) (at : ℕ) (x : HeaderRecord) (next : ℕ) 
   pub read : ((end ≤ lf + 1) × (x ≡ header_of at space (space + 1) lf 0) × (next ≡ lf + 1))
       ⊎ ((lf + 1 < end) × (x ≡ header_of at space (space + 1) end 1) × (next ≡ end))
 
-pub extra_parts : (s : List ℕ) (at : ℕ) (x : HeaderRecord) (next : ℕ) → extra_at s at ≡ Got x next → ExtraParts s at x next
+pub extra_parts : (s : List ℕ) (at : ℕ) (x : HeaderRecord) (next : ℕ) → extra_at s at ≡ Some (x, next) → ExtraParts s at x next
 extra_parts s at x next e =
     by (place_from 32 s at) (place_from 10 s at) (fold_end s (place_from 10 s at + 1)) refl refl refl
   where
-    never : extra_at s at ≡ No → ExtraParts s at x next
+    never : extra_at s at ≡ None → ExtraParts s at x next
     never n = let z : ◌≡◌ {A = ℕ} 0 1 = cc in absurd (omega arith)
 
     by : (space lf end : ℕ) → space ≡ place_from 32 s at → lf ≡ place_from 10 s at → end ≡ fold_end s (lf + 1) → ExtraParts s at x next
@@ -173,8 +174,9 @@ extra_parts s at x next e =
             let c = ltb-true lf (length s) r in
             let n = ltb-false (lf + 1) end t in
             let w = extra_line s at space lf i j a b c end k n in
-            let y : x ≡ header_of at space (space + 1) lf 0 = cc in
-            let z : next ≡ lf + 1 = cc in
+            let parts = some_parts (sym e ∙ w) in
+            let y = parts.0 in
+            let z = parts.1 in
             record { space = space; lf = lf; end = end; space_is = i; lf_is = j; end_is = k; named = a; spaced = b; ended = c; read = inl (n, y, z) }
         go true p true q true r true t =
             let a = ltb-true at space p in
@@ -182,12 +184,13 @@ extra_parts s at x next e =
             let c = ltb-true lf (length s) r in
             let n = ltb-true (lf + 1) end t in
             let w = extra_folded s at space lf i j a b c end k n in
-            let y : x ≡ header_of at space (space + 1) end 1 = cc in
-            let z : next ≡ end = cc in
+            let parts = some_parts (sym e ∙ w) in
+            let y = parts.0 in
+            let z = parts.1 in
             record { space = space; lf = lf; end = end; space_is = i; lf_is = j; end_is = k; named = a; spaced = b; ended = c; read = inr (n, y, z) }
 
 -- the next header starts further on, within the bytes
-pub extra_next : (s : List ℕ) (at : ℕ) {x : HeaderRecord} {next : ℕ} → extra_at s at ≡ Got x next → (at < next) × (next ≤ length s)
+pub extra_next : (s : List ℕ) (at : ℕ) {x : HeaderRecord} {next : ℕ} → extra_at s at ≡ Some (x, next) → (at < next) × (next ≤ length s)
 extra_next s at {x} {next} e = by (extra_parts s at x next e)
   where
     by : ExtraParts s at x next → (at < next) × (next ≤ length s)

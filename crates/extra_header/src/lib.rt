@@ -7,22 +7,12 @@ ghost use Rattle.extra_header.specs.Extra.{fold_end, extra_at, folded_form};
 use header::HeaderRecord;
 use scan::{count_to, find_byte};
 
-// An extra header with the place after it; or that there is none.
-#[derive(Clone, Copy)]
-pub enum Extra {
-    Got(HeaderRecord, usize),
-    No,
-}
-
 // The place after the lines from a place on that start with a space; the place itself where the last of them has no LF.
 fn fold_end(s: &[u8], start: usize) -> usize
     ensures { result ≡ fold_end s.now start }
 {
     let mut at = start;
-    while at < s.len() {
-        if s[at] != b' ' {
-            return at;
-        }
+    while at < s.len() && s[at] == b' ' {
         let lf = find_byte(s, at + 1, b'\n');
         if s.len() <= lf {
             return start;
@@ -33,28 +23,22 @@ fn fold_end(s: &[u8], start: usize) -> usize
 }
 
 // The extra header at a place, tried first as folded, then as one line. A blank line is known by its LF, before a space is sought behind it.
-pub fn extra_at(s: &[u8], at: usize) -> Extra
+pub fn extra_at(s: &[u8], at: usize) -> Option<(HeaderRecord, usize)>
     ensures { result ≡ extra_at s.now at }
 {
     let lf = find_byte(s, at, b'\n');
     if lf <= at {
-        return Extra::No;
+        return None;
     }
     let space = find_byte(s, at, b' ');
-    if space <= at {
-        return Extra::No;
-    }
-    if lf <= space {
-        return Extra::No;
-    }
-    if s.len() <= lf {
-        return Extra::No;
+    if space <= at || lf <= space || s.len() <= lf {
+        return None;
     }
     let value = space + 1;
     let rest = lf + 1;
     let end = fold_end(s, rest);
     if rest < end {
-        return Extra::Got(
+        return Some((
             HeaderRecord {
                 name_start: at,
                 name_end: space,
@@ -63,9 +47,9 @@ pub fn extra_at(s: &[u8], at: usize) -> Extra
                 mark: 1,
             },
             end,
-        );
+        ));
     }
-    Extra::Got(
+    Some((
         HeaderRecord {
             name_start: at,
             name_end: space,
@@ -74,7 +58,7 @@ pub fn extra_at(s: &[u8], at: usize) -> Extra
             mark: 0,
         },
         rest,
-    )
+    ))
 }
 
 // Whether a value is folded: a first line and one or more that start with a space, each with its LF, and nothing after.
@@ -87,8 +71,5 @@ pub fn is_folded(v: &[u8]) -> bool
     }
     let rest = n + 1;
     let end = fold_end(v, rest);
-    if end <= rest {
-        return false;
-    }
-    end == v.len()
+    rest < end && end == v.len()
 }

@@ -17,12 +17,8 @@ use Rattle.ground.proofs.Laws.{and_left, and_right, id-is, id-made}
 use Rattle.frame.specs.Frame.{little, fields_at, by_rules, by_version, head_of, size_of, is_frame, frame_of, frame_at, Frames, done, fault, frame, onward, frames, frames_by, whole}
 use Rattle.frame.specs.Place.{id_in, first_of, place_by, place_of}
 use Rattle.frame.specs.declared.Header.{Header}
-use Rattle.frame.specs.declared.Head.{Head}
-use Rattle.frame.specs.declared.Head.TheVariants.{Good, Bad}
 use Rattle.frame.specs.declared.Frame.{Frame}
-use Rattle.frame.specs.declared.Framed.{Framed}
-use Rattle.frame.specs.declared.Framed.TheVariants.{Whole, Broken}
-use Rattle.frame.specs.declared.Placed.TheVariants.{At, Absent}
+use Rattle.std.specs.Prelude.{None, Option, Some}
 
 -- ---- numbers, the lowest byte first
 
@@ -46,7 +42,7 @@ little-four s i p low high x y =
 -- ---- the header
 
 module _ (rules at : ℕ) (s : List ℕ) where
-  pub fields-short : length s < at + 5 → fields_at rules at s ≡ Bad
+  pub fields-short : length s < at + 5 → fields_at rules at s ≡ None
   unfolding fields_at
   fields-short p = simp (lt-leb (at + 5) (length s) p)
 
@@ -55,20 +51,20 @@ module _ (rules at : ℕ) (s : List ℕ) where
     many-only true = refl
     many-only false = refl
 
-    pub fields-many : most_records < count → fields_at rules at s ≡ Bad
+    pub fields-many : most_records < count → fields_at rules at s ≡ None
     unfolding fields_at
     fields-many q = simp (le-leb (at + 5) (length s) p, ← x, ← y, lt-leb count most_records q, many-only (id_length h))
 
-    pub fields-id : id_length h ≡ false → fields_at rules at s ≡ Bad
+    pub fields-id : id_length h ≡ false → fields_at rules at s ≡ None
     unfolding fields_at
     fields-id a = simp (le-leb (at + 5) (length s) p, ← x, a)
 
-    pub fields-good : (h ≡ 20) ⊎ (h ≡ 32) → count ≤ most_records → fields_at rules at s ≡ Good (record { h = h; rules = rules; count = count; from = at + 5 })
+    pub fields-good : (h ≡ 20) ⊎ (h ≡ 32) → count ≤ most_records → fields_at rules at s ≡ Some (record { h = h; rules = rules; count = count; from = at + 5 })
     unfolding fields_at
     fields-good a q = simp (le-leb (at + 5) (length s) p, ← x, ← y, le-leb count most_records q, id-made h a)
 
 module _ (s : List ℕ) where
-  pub head-mark : same_bytes (take 3 s) (ascii "GOB") ≡ false → head_of s ≡ Bad
+  pub head-mark : same_bytes (take 3 s) (ascii "GOB") ≡ false → head_of s ≡ None
   unfolding head_of
   head-mark g = rw g
 
@@ -77,7 +73,7 @@ module _ (s : List ℕ) where
     unfolding head_of by_version
     head-one e = rw (g, ← w, e)
 
-    pub head_other : (v ≡ 1 → ⊥) → (v ≡ 2 → ⊥) → head_of s ≡ Bad
+    pub head_other : (v ≡ 1 → ⊥) → (v ≡ 2 → ⊥) → head_of s ≡ None
     unfolding head_of by_version
     head_other a b = rw (g, ← w, ne_eqb v 1 a, ne_eqb v 2 b)
 
@@ -85,11 +81,11 @@ module _ (s : List ℕ) where
     unfolding head_of by_version
     head-two e = rw (g, ← w, e)
 
-  pub rules-short : length s < 12 → by_rules (little (take 2 (drop 5 s))) s ≡ Bad
+  pub rules-short : length s < 12 → by_rules (little (take 2 (drop 5 s))) s ≡ None
   unfolding by_rules
   rules-short p = go (is_set (little (take 2 (drop 5 s))))
     where
-      go : (b : Bool) → pick b (fields_at (little (take 2 (drop 5 s))) 7 s) Bad ≡ Bad
+      go : (b : Bool) → pick b (fields_at (little (take 2 (drop 5 s))) 7 s) None ≡ None
       go true = fields-short (little (take 2 (drop 5 s))) 7 s (omega arith)
       go false = refl
 
@@ -102,26 +98,26 @@ module _ (s : List ℕ) where
     unfolding by_rules is_set
     rules-second t = rw (← q, t)
 
-    pub rules_other : (r ≡ 1 → ⊥) → (r ≡ 2 → ⊥) → by_rules (little (take 2 (drop 5 s))) s ≡ Bad
+    pub rules_other : (r ≡ 1 → ⊥) → (r ≡ 2 → ⊥) → by_rules (little (take 2 (drop 5 s))) s ≡ None
     unfolding by_rules is_set
     rules_other a b = rw (← q, ne_eqb r 1 a, ne_eqb r 2 b)
 
 -- every way to read a header ends in its fields, at 5 or at 7
-each-head : (s : List ℕ) (Q : Head → Type 0) → Q Bad → Q (fields_at 2 5 s) → ((r : ℕ) → is_set r ≡ true → Q (fields_at r 7 s)) → Q (head_of s)
+each-head : (s : List ℕ) (Q : Option Header → Type 0) → Q None → Q (fields_at 2 5 s) → ((r : ℕ) → is_set r ≡ true → Q (fields_at r 7 s)) → Q (head_of s)
 unfolding head_of by_version by_rules
 each-head s Q bad one two = go (same_bytes (take 3 s) (ascii "GOB")) (eqb (little (take 2 (drop 3 s))) 1) (eqb (little (take 2 (drop 3 s))) 2) (is_set (little (take 2 (drop 5 s)))) refl
   where
     go : (a b c d : Bool) → is_set (little (take 2 (drop 5 s))) ≡ d
-        → Q (pick a (pick b (fields_at 2 5 s) (pick c (pick d (fields_at (little (take 2 (drop 5 s))) 7 s) Bad) Bad)) Bad)
+        → Q (pick a (pick b (fields_at 2 5 s) (pick c (pick d (fields_at (little (take 2 (drop 5 s))) 7 s) None) None)) None)
     go true true c d p = one
     go true false true true p = two (little (take 2 (drop 5 s))) p
     go true false true false p = bad
     go true false false d p = bad
     go false b c d p = bad
 
-pub head-short : (s : List ℕ) → length s < 10 → head_of s ≡ Bad
+pub head-short : (s : List ℕ) → length s < 10 → head_of s ≡ None
 head-short s p =
-    each-head s (λ (d : Head). d ≡ Bad) refl (fields-short 2 5 s (omega arith)) (λ r t. fields-short r 7 s (omega arith))
+    each-head s (λ (d : Option Header). d ≡ None) refl (fields-short 2 5 s (omega arith)) (λ r t. fields-short r 7 s (omega arith))
 
 -- what a header that was read says
 pub record HeadSays (s : List ℕ) (k : Header) : Type 0 where
@@ -129,12 +125,12 @@ pub record HeadSays (s : List ℕ) (k : Header) : Type 0 where
   pub few : k.count ≤ most_records
   pub set : is_set k.rules ≡ true
 
-fields_say : (rules at : ℕ) (s : List ℕ) (k : Header) → is_set rules ≡ true → fields_at rules at s ≡ Good k → HeadSays s k
+fields_say : (rules at : ℕ) (s : List ℕ) (k : Header) → is_set rules ≡ true → fields_at rules at s ≡ Some k → HeadSays s k
 unfolding fields_at
 fields_say rules at s k t e = go (leb (at + 5) (length s) && (id_length (get_or s at 0) && leb (little (take 4 (drop (at + 1) s))) most_records)) refl e
   where
     go : (v : Bool) → (leb (at + 5) (length s) && (id_length (get_or s at 0) && leb (little (take 4 (drop (at + 1) s))) most_records)) ≡ v
-        → pick v (Good (record { h = get_or s at 0; rules = rules; count = little (take 4 (drop (at + 1) s)); from = at + 5 })) Bad ≡ Good k → HeadSays s k
+        → pick v (Some (record { h = get_or s at 0; rules = rules; count = little (take 4 (drop (at + 1) s)); from = at + 5 })) None ≡ Some k → HeadSays s k
     go true p e =
         let r : ◌≡◌ {A = Header} (record { h = get_or s at 0; rules = rules; count = little (take 4 (drop (at + 1) s)); from = at + 5 }) k = cc in
         let a = and_right (leb (at + 5) (length s)) _ p in
@@ -152,17 +148,17 @@ set-two : is_set 2 ≡ true
 unfolding is_set
 set-two = refl
 
-pub head-says : (s : List ℕ) (k : Header) → head_of s ≡ Good k → HeadSays s k
+pub head-says : (s : List ℕ) (k : Header) → head_of s ≡ Some k → HeadSays s k
 head-says s k =
-    each-head s (λ (d : Head). d ≡ Good k → HeadSays s k) (λ e. none e) (λ e. fields_say 2 5 s k (set-two) e) (λ r t e. fields_say r 7 s k t e)
+    each-head s (λ (d : Option Header). d ≡ Some k → HeadSays s k) (λ e. none e) (λ e. fields_say 2 5 s k (set-two) e) (λ r t e. fields_say r 7 s k t e)
   where
-    none : Bad ≡ Good k → HeadSays s k
+    none : None ≡ Some k → HeadSays s k
     none e = let z : ◌≡◌ {A = ℕ} 0 1 = cc in absurd (omega arith)
 
 -- ---- one object
 
 module _ (s : List ℕ) (h at : ℕ) where
-  pub frame-short : length s < at + h + 5 → frame_at h at (drop at s) ≡ Broken
+  pub frame-short : length s < at + h + 5 → frame_at h at (drop at s) ≡ None
   unfolding frame_at is_frame
   frame-short p = simp (lt-leb (h + 5) (length (drop at s)) (omega (arith, length-drop at s)))
 
@@ -173,12 +169,12 @@ module _ (s : List ℕ) (h at : ℕ) where
     kind-is : get_or (drop at s) h 0 ≡ kind
     kind-is = get_or-drop at s h 0 ∙ sym e
 
-    pub frame-low : kind < 1 → frame_at h at (drop at s) ≡ Broken
+    pub frame-low : kind < 1 → frame_at h at (drop at s) ≡ None
     unfolding frame_at is_frame
     frame-low q = simp (long, kind-is, lt-leb 1 kind q)
 
     module _ (low : 1 ≤ kind) where
-      pub frame-high : 4 < kind → frame_at h at (drop at s) ≡ Broken
+      pub frame-high : 4 < kind → frame_at h at (drop at s) ≡ None
       unfolding frame_at is_frame
       frame-high q = simp (long, kind-is, le-leb 1 kind low, lt-leb kind 4 q)
 
@@ -188,11 +184,11 @@ module _ (s : List ℕ) (h at : ℕ) where
             let k : at + (h + 1) ≡ at + h + 1 = omega arith in
             ap (λ (l : List ℕ). little (take 4 l)) (drop-drop (h + 1) at s ∙ ap (λ (j : ℕ). drop j s) k) ∙ sym z
 
-        pub frame-long : length s < at + h + 5 + size → frame_at h at (drop at s) ≡ Broken
+        pub frame-long : length s < at + h + 5 + size → frame_at h at (drop at s) ≡ None
         unfolding frame_at is_frame
         frame-long q = simp (long, kind-is, le-leb 1 kind low, le-leb kind 4 high, lt-leb (h + 5 + size_of h (drop at s)) (length (drop at s)) (omega (arith, length-drop at s, size_is)))
 
-        pub frame-whole : at + h + 5 + size ≤ length s → frame_at h at (drop at s) ≡ Whole (record { kind = kind; id = at; start = at + h + 5; end = at + h + 5 + size })
+        pub frame-whole : at + h + 5 + size ≤ length s → frame_at h at (drop at s) ≡ Some (record { kind = kind; id = at; start = at + h + 5; end = at + h + 5 + size })
         unfolding frame_at is_frame
         frame-whole q =
             let y : at + (h + 5 + size_of h (drop at s)) ≡ at + h + 5 + size = omega (arith, size_is) in
@@ -207,11 +203,11 @@ pub record Inside (h at : ℕ) (s : List ℕ) (f : Frame) : Type 0 where
   pub forward : f.start ≤ f.end
   pub ends : f.end ≤ length s
 
-pub frame-inside : (h at : ℕ) (s : List ℕ) (f : Frame) → frame_at h at (drop at s) ≡ Whole f → Inside h at s f
+pub frame-inside : (h at : ℕ) (s : List ℕ) (f : Frame) → frame_at h at (drop at s) ≡ Some f → Inside h at s f
 unfolding frame_at is_frame
 frame-inside h at s f e = go (is_frame h (drop at s)) refl e
   where
-    go : (v : Bool) → is_frame h (drop at s) ≡ v → pick v (Whole (frame_of h at (drop at s))) Broken ≡ Whole f → Inside h at s f
+    go : (v : Bool) → is_frame h (drop at s) ≡ v → pick v (Some (frame_of h at (drop at s))) None ≡ Some f → Inside h at s f
     go true p e =
         let r : frame_of h at (drop at s) ≡ f = cc in
         let a = and_right (leb (h + 5) (length (drop at s))) _ p in
@@ -236,11 +232,11 @@ module _ (h : ℕ) (s : List ℕ) (left at : ℕ) where
     unfolding frames
     frames-some = let z : left ≡ suc (left - 1) = omega arith in ap (λ (n : ℕ). frames h s n at) z
 
-    pub frames-broken : frame_at h at (drop at s) ≡ Broken → frames h s left at ≡ fault
+    pub frames-broken : frame_at h at (drop at s) ≡ None → frames h s left at ≡ fault
     unfolding onward
     frames-broken e = frames-some ∙ rw e
 
-    pub frames-whole : {f : Frame} → frame_at h at (drop at s) ≡ Whole f → frames h s left at ≡ frame f (frames h s (left - 1) f.end)
+    pub frames-whole : {f : Frame} → frame_at h at (drop at s) ≡ Some f → frames h s left at ≡ frame f (frames h s (left - 1) f.end)
     unfolding onward
     frames-whole e = frames-some ∙ rw e
 
@@ -257,17 +253,17 @@ unfolding id_in
 id_part h s f = let z : f.id + h - f.id ≡ h = omega arith in ap (λ (n : ℕ). take n (drop f.id s)) z
 
 module _ (h : ℕ) (s id : List ℕ) (l : Frames) where
-  pub first-end : (b : Bool) → l ≡ pick b done fault → first_of h s id l ≡ Absent
+  pub first-end : (b : Bool) → l ≡ pick b done fault → first_of h s id l ≡ None
   unfolding first_of
   first-end true e = rw e
   first-end false e = rw e
 
-  pub first-fault : l ≡ fault → first_of h s id l ≡ Absent
+  pub first-fault : l ≡ fault → first_of h s id l ≡ None
   unfolding first_of
   first-fault e = rw e
 
   module _ (f : Frame) (m : Frames) (e : l ≡ frame f m) where
-    pub first-here : same_bytes (take (f.id + h - f.id) (drop f.id s)) id ≡ true → first_of h s id l ≡ At f
+    pub first-here : same_bytes (take (f.id + h - f.id) (drop f.id s)) id ≡ true → first_of h s id l ≡ Some f
     unfolding first_of
     first-here t = let u : same_bytes (id_in h s f) id ≡ true = rw (id_part h s f) at t in rw e (rw u)
 
@@ -277,26 +273,26 @@ module _ (h : ℕ) (s id : List ℕ) (l : Frames) where
 
 -- ---- where an object stands
 
-pub place-good : (s id : List ℕ) (d : Head) (k : Header) → d ≡ Good k → place_by s id d ≡ first_of k.h s id (frames_by s k)
+pub place-good : (s id : List ℕ) (d : Option Header) (k : Header) → d ≡ Some k → place_by s id d ≡ first_of k.h s id (frames_by s k)
 unfolding place_by
 place-good s id d k e = rw e
 
-pub place-bad : (s id : List ℕ) (d : Head) → d ≡ Bad → place_by s id d ≡ Absent
+pub place-bad : (s id : List ℕ) (d : Option Header) → d ≡ None → place_by s id d ≡ None
 unfolding place_by
 place-bad s id d e = rw e
 
 -- an object that was found lies inside the bundle
-pub first-inside : (h : ℕ) (s id : List ℕ) (n at : ℕ) (f : Frame) → first_of h s id (frames h s n at) ≡ At f → (f.start ≤ f.end) × (f.end ≤ length s)
+pub first-inside : (h : ℕ) (s id : List ℕ) (n at : ℕ) (f : Frame) → first_of h s id (frames h s n at) ≡ Some f → (f.start ≤ f.end) × (f.end ≤ length s)
 unfolding first_of frames onward
 first-inside h s id zero at f e = go (eqb at (length s)) e
   where
-    go : (v : Bool) → first_of h s id (pick v done fault) ≡ At f → (f.start ≤ f.end) × (f.end ≤ length s)
+    go : (v : Bool) → first_of h s id (pick v done fault) ≡ Some f → (f.start ≤ f.end) × (f.end ≤ length s)
     go true e = let z : ◌≡◌ {A = ℕ} 0 1 = cc in absurd (omega arith)
     go false e = let z : ◌≡◌ {A = ℕ} 0 1 = cc in absurd (omega arith)
 first-inside h s id (suc n) at f e = go (λ (b : ℕ) q. first-inside h s id n b f q) (frame_at h at (drop at s)) refl e
   where
-    here : (g : Frame) → frame_at h at (drop at s) ≡ Whole g → (first_of h s id (frames h s n g.end) ≡ At f → (f.start ≤ f.end) × (f.end ≤ length s))
-        → (v : Bool) → pick v (At g) (first_of h s id (frames h s n g.end)) ≡ At f → (f.start ≤ f.end) × (f.end ≤ length s)
+    here : (g : Frame) → frame_at h at (drop at s) ≡ Some g → (first_of h s id (frames h s n g.end) ≡ Some f → (f.start ≤ f.end) × (f.end ≤ length s))
+        → (v : Bool) → pick v (Some g) (first_of h s id (frames h s n g.end)) ≡ Some f → (f.start ≤ f.end) × (f.end ≤ length s)
     here g p ih true e =
         let i = frame-inside h at s g p in
         let r : g ≡ f = cc in
@@ -304,15 +300,15 @@ first-inside h s id (suc n) at f e = go (λ (b : ℕ) q. first-inside h s id n b
         rw r at w
     here g p ih false e = ih e
 
-    go : ((b : ℕ) → first_of h s id (frames h s n b) ≡ At f → (f.start ≤ f.end) × (f.end ≤ length s)) → (r : Framed) → frame_at h at (drop at s) ≡ r
-        → first_of h s id (onward (frames h s n) r) ≡ At f → (f.start ≤ f.end) × (f.end ≤ length s)
-    go ih (Whole g) p e = here g p (ih g.end) (same_bytes (id_in h s g) id) e
-    go ih Broken p e = let z : ◌≡◌ {A = ℕ} 0 1 = cc in absurd (omega arith)
+    go : ((b : ℕ) → first_of h s id (frames h s n b) ≡ Some f → (f.start ≤ f.end) × (f.end ≤ length s)) → (r : Option Frame) → frame_at h at (drop at s) ≡ r
+        → first_of h s id (onward (frames h s n) r) ≡ Some f → (f.start ≤ f.end) × (f.end ≤ length s)
+    go ih (Some g) p e = here g p (ih g.end) (same_bytes (id_in h s g) id) e
+    go ih None p e = let z : ◌≡◌ {A = ℕ} 0 1 = cc in absurd (omega arith)
 
-pub place_inside : (s id : List ℕ) (f : Frame) → place_of s id ≡ At f → (f.start ≤ f.end) × (f.end ≤ length s)
+pub place_inside : (s id : List ℕ) (f : Frame) → place_of s id ≡ Some f → (f.start ≤ f.end) × (f.end ≤ length s)
 unfolding place_by
 place_inside s id f e = placed (head_of s) e
   where
-    placed : (d : Head) → place_by s id d ≡ At f → (f.start ≤ f.end) × (f.end ≤ length s)
-    placed (Good k) q = first-inside k.h s id k.count k.from f q
-    placed Bad q = let z : ◌≡◌ {A = ℕ} 0 1 = cc in absurd (omega arith)
+    placed : (d : Option Header) → place_by s id d ≡ Some f → (f.start ≤ f.end) × (f.end ≤ length s)
+    placed (Some k) q = first-inside k.h s id k.count k.from f q
+    placed None q = let z : ◌≡◌ {A = ℕ} 0 1 = cc in absurd (omega arith)

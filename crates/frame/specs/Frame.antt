@@ -1,14 +1,10 @@
 -- The framing of a bundle: what it begins with, one object in it, all of them in turn (docs/FORMAT.md, "Bundles"). Assumes nothing.
-use Rattle.std.specs.Prelude.{ℕ, zero, suc, ◌+◌, ◌*◌, Bool, true, false, ◌&&◌, List, [], ◌∷◌, length, get_or, take, drop, eqb, leb}
+use Rattle.std.specs.Prelude.{ℕ, zero, suc, ◌+◌, ◌*◌, Bool, true, false, ◌&&◌, List, [], ◌∷◌, length, get_or, take, drop, eqb, leb, None, Option, Some}
 use Rattle.ground.specs.Basics.{pick, ascii}
 use Rattle.ground.specs.Scan.{same_bytes}
 use Rattle.ground.specs.Verdict.{id_length, most_records, is_set}
 use Rattle.frame.specs.declared.Header.{Header}
-use Rattle.frame.specs.declared.Head.{Head}
-use Rattle.frame.specs.declared.Head.TheVariants.{Good, Bad}
 use Rattle.frame.specs.declared.Frame.{Frame}
-use Rattle.frame.specs.declared.Framed.{Framed}
-use Rattle.frame.specs.declared.Framed.TheVariants.{Whole, Broken}
 
 -- the number that some bytes say, the lowest first
 abbrev pub little : List ℕ → ℕ
@@ -16,22 +12,22 @@ little [] = 0
 little (b ∷ bs) = b + 256 * little bs
 
 -- from a place on: one byte H, and four that say how many objects follow
-unfoldable pub fields_at : ℕ → ℕ → List ℕ → Head
+unfoldable pub fields_at : ℕ → ℕ → List ℕ → Option Header
 fields_at rules at s =
     pick (leb (at + 5) (length s) && (id_length (get_or s at 0) && leb (little (take 4 (drop (at + 1) s))) most_records))
-    (Good (record { h = get_or s at 0; rules = rules; count = little (take 4 (drop (at + 1) s)); from = at + 5 })) Bad
+    (Some (record { h = get_or s at 0; rules = rules; count = little (take 4 (drop (at + 1) s)); from = at + 5 })) None
 
 -- version 2 carries one of the two rule sets in two bytes
-unfoldable pub by_rules : ℕ → List ℕ → Head
-by_rules rules s = pick (is_set rules) (fields_at rules 7 s) Bad
+unfoldable pub by_rules : ℕ → List ℕ → Option Header
+by_rules rules s = pick (is_set rules) (fields_at rules 7 s) None
 
 -- version 1 means rule set 2
-unfoldable pub by_version : ℕ → List ℕ → Head
-by_version version s = pick (eqb version 1) (fields_at 2 5 s) (pick (eqb version 2) (by_rules (little (take 2 (drop 5 s))) s) Bad)
+unfoldable pub by_version : ℕ → List ℕ → Option Header
+by_version version s = pick (eqb version 1) (fields_at 2 5 s) (pick (eqb version 2) (by_rules (little (take 2 (drop 5 s))) s) None)
 
 -- a bundle begins with `GOB` and a version of two bytes
-unfoldable pub head_of : List ℕ → Head
-head_of s = pick (same_bytes (take 3 s) (ascii "GOB")) (by_version (little (take 2 (drop 3 s))) s) Bad
+unfoldable pub head_of : List ℕ → Option Header
+head_of s = pick (same_bytes (take 3 s) (ascii "GOB")) (by_version (little (take 2 (drop 3 s))) s) None
 
 -- the length of the object at the front of some bytes: four bytes past its id and its kind
 abbrev pub size_of : ℕ → List ℕ → ℕ
@@ -46,8 +42,8 @@ abbrev pub frame_of : ℕ → ℕ → List ℕ → Frame
 frame_of h at b = record { kind = get_or b h 0; id = at; start = at + (h + 5); end = at + (h + 5 + size_of h b) }
 
 -- the object at the front of the bytes b, which stand at a place of the bundle
-unfoldable pub frame_at : ℕ → ℕ → List ℕ → Framed
-frame_at h at b = pick (is_frame h b) (Whole (frame_of h at b)) Broken
+unfoldable pub frame_at : ℕ → ℕ → List ℕ → Option Frame
+frame_at h at b = pick (is_frame h b) (Some (frame_of h at b)) None
 
 -- objects in turn, and then the end of the bundle; or a fault of the framing
 pub data Frames : Type 0 where
@@ -56,9 +52,9 @@ pub data Frames : Type 0 where
   frame : Frame → Frames → Frames
 
 -- an object, and what follows it
-unfoldable pub onward : (ℕ → Frames) → Framed → Frames
-onward go (Whole f) = frame f (go f.end)
-onward go Broken = fault
+unfoldable pub onward : (ℕ → Frames) → Option Frame → Frames
+onward go (Some f) = frame f (go f.end)
+onward go None = fault
 
 -- so many objects from a place on, and nothing left over
 unfoldable pub frames : ℕ → List ℕ → ℕ → ℕ → Frames

@@ -19,13 +19,6 @@ pub struct Header {
     pub from: usize,
 }
 
-// A header, if there is one.
-#[derive(Clone, Copy)]
-pub enum Head {
-    Good(Header),
-    Bad,
-}
-
 // An object by its kind and by positions in the bundle: of its id, of its first byte, and past its last.
 #[derive(Clone, Copy)]
 pub struct Frame {
@@ -33,20 +26,6 @@ pub struct Frame {
     pub id: usize,
     pub start: usize,
     pub end: usize,
-}
-
-// The object at a place, if one stands there.
-#[derive(Clone, Copy)]
-pub enum Framed {
-    Whole(Frame),
-    Broken,
-}
-
-// Where an object stands, if it is there.
-#[derive(Clone, Copy)]
-pub enum Placed {
-    At(Frame),
-    Absent,
 }
 
 // The number that two bytes say, the lower first.
@@ -72,7 +51,7 @@ fn four_at(s: &[u8], i: usize) -> usize
 }
 
 // The header's last fields, from a place on: H and the number of objects.
-fn fields_at(s: &[u8], rules: u16, at: usize) -> Head
+fn fields_at(s: &[u8], rules: u16, at: usize) -> Option<Header>
     requires { at + 5 ≤ length s.now }
     ensures { result ≡ fields_at rules at s.now }
 {
@@ -80,25 +59,25 @@ fn fields_at(s: &[u8], rules: u16, at: usize) -> Head
     let count = four_at(s, at + 1);
     let from = at + 5;
     if MOST_RECORDS < count {
-        return Head::Bad;
+        return None;
     }
     if (h == 20) | (h == 32) {
-        return Head::Good(Header {
+        return Some(Header {
             h,
             rules,
             count,
             from,
         });
     }
-    Head::Bad
+    None
 }
 
 // The header of version 2, past the version: its rule set, and the last fields.
-fn ruled(s: &[u8]) -> Head
+fn ruled(s: &[u8]) -> Option<Header>
     ensures { result ≡ by_rules (little (take 2 (drop 5 s.now))) s.now }
 {
     if s.len() < 12 {
-        return Head::Bad;
+        return None;
     }
     let rules = two_at(s, 5);
     if rules == 1 {
@@ -107,15 +86,15 @@ fn ruled(s: &[u8]) -> Head
     if rules == 2 {
         return fields_at(s, 2, 7);
     }
-    Head::Bad
+    None
 }
 
 // What a bundle begins with: version 1, which means rule set 2, or version 2, which carries its rule set.
-pub fn read_header(s: &[u8]) -> Head
+pub fn read_header(s: &[u8]) -> Option<Header>
     ensures { result ≡ head_of s.now }
 {
     if s.len() < 10 {
-        return Head::Bad;
+        return None;
     }
     if same_bytes(&s[..3], b"GOB") {
         let version = two_at(s, 3);
@@ -126,29 +105,29 @@ pub fn read_header(s: &[u8]) -> Head
             return ruled(s);
         }
     }
-    Head::Bad
+    None
 }
 
 // The object at a place with room for its id, its kind and its length.
-fn frame_in(s: &[u8], h: usize, at: usize) -> Framed
+fn frame_in(s: &[u8], h: usize, at: usize) -> Option<Frame>
     requires { at + h + 5 ≤ length s.now }
     ensures { result ≡ frame_at h at (drop at s.now) }
 {
     let mark = at + h;
     let kind = s[mark] as usize;
     if kind < 1 {
-        return Framed::Broken;
+        return None;
     }
     if 4 < kind {
-        return Framed::Broken;
+        return None;
     }
     let size = four_at(s, mark + 1);
     let start = mark + 5;
     if s.len() - start < size {
-        return Framed::Broken;
+        return None;
     }
     let end = start + size;
-    Framed::Whole(Frame {
+    Some(Frame {
         kind,
         id: at,
         start,
@@ -157,17 +136,17 @@ fn frame_in(s: &[u8], h: usize, at: usize) -> Framed
 }
 
 // The object at a place: id, kind, length, bytes.
-pub fn frame_at(s: &[u8], h: usize, at: usize) -> Framed
+pub fn frame_at(s: &[u8], h: usize, at: usize) -> Option<Frame>
     ensures { result ≡ frame_at h at (drop at s.now) }
 {
     if s.len() < at {
-        return Framed::Broken;
+        return None;
     }
     if s.len() - at < h {
-        return Framed::Broken;
+        return None;
     }
     if s.len() - at - h < 5 {
-        return Framed::Broken;
+        return None;
     }
     frame_in(s, h, at)
 }

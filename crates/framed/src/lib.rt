@@ -6,8 +6,9 @@ ghost use Rattle.frame.specs.Frame.{frames, whole};
 ghost use Rattle.twice.specs.Ids.{ids_in};
 ghost use Rattle.framed.specs.Ids.{below, rises};
 
-use frame::{Framed, frame_at};
-use order::{Order, name_order};
+use frame::frame_at;
+use order::name_order;
+use std::cmp::Ordering;
 
 // Whether so many objects stand from a place on, and nothing is left over.
 pub fn well_framed(s: &[u8], h: usize, count: usize, from: usize) -> bool
@@ -17,8 +18,8 @@ pub fn well_framed(s: &[u8], h: usize, count: usize, from: usize) -> bool
     let mut left = count;
     while 0 < left {
         match frame_at(s, h, at) {
-            Framed::Broken => return false,
-            Framed::Whole(f) => {
+            None => return false,
+            Some(f) => {
                 at = f.end;
                 left -= 1;
             }
@@ -32,9 +33,9 @@ fn is_below(x: &[u8], y: &[u8]) -> bool
     ensures { result ≡ below x.now y.now }
 {
     match name_order(x, false, y, false) {
-        Order::Below => true,
-        Order::Same => false,
-        Order::Above => false,
+        Ordering::Less => true,
+        Ordering::Equal => false,
+        Ordering::Greater => false,
     }
 }
 
@@ -48,8 +49,8 @@ pub fn ascending(s: &[u8], h: usize, count: usize, from: usize) -> bool
     let mut left = count;
     while 0 < left {
         match frame_at(s, h, at) {
-            Framed::Broken => return true,
-            Framed::Whole(f) => {
+            None => return true,
+            Some(f) => {
                 let start = f.id;
                 let end = start + h;
                 if is_below(&s[a..b], &s[start..end]) {

@@ -16,7 +16,7 @@ use Rattle.ground.specs.Basics.{pick}
 use Rattle.ground.specs.Verdict.{verdict, id_length, size_gate, gate_of, most_bytes, most_records, stored}
 use Rattle.ground.specs.Scan.{count_to, place_from, common_start, same_bytes, free_of}
 use Rattle.ground.specs.declared.Verdict.{Verdict}
-use Rattle.ground.specs.declared.Gate.TheVariants.{Open, Shut}
+use Rattle.std.specs.Prelude.{Err, Ok}
 
 -- ---- tests
 
@@ -63,23 +63,23 @@ id-made h (inl e) = rw e
 id-made h (inr e) = rw e
 
 module _ (bytes records : ℕ) where
-  pub size-bytes : most_bytes < bytes → size_gate bytes records ≡ Shut (verdict 2 0)
+  pub size-bytes : most_bytes < bytes → size_gate bytes records ≡ Err (verdict 2 0)
   unfolding size_gate
   size-bytes p = simp (lt-leb bytes most_bytes p)
 
-  pub size-records : bytes ≤ most_bytes → most_records < records → size_gate bytes records ≡ Shut (verdict 2 0)
+  pub size-records : bytes ≤ most_bytes → most_records < records → size_gate bytes records ≡ Err (verdict 2 0)
   unfolding size_gate
   size-records p q = simp (le-leb bytes most_bytes p, lt-leb records most_records q)
 
-  pub size-fine : bytes ≤ most_bytes → records ≤ most_records → size_gate bytes records ≡ Open
+  pub size-fine : bytes ≤ most_bytes → records ≤ most_records → size_gate bytes records ≡ Ok tt
   unfolding size_gate
   size-fine p q = simp (le-leb bytes most_bytes p, le-leb records most_records q)
 
-  pub size_open : size_gate bytes records ≡ Open → (bytes ≤ most_bytes) × (records ≤ most_records)
+  pub size_open : size_gate bytes records ≡ Ok tt → (bytes ≤ most_bytes) × (records ≤ most_records)
   unfolding size_gate
   size_open e = go (leb bytes most_bytes) refl (leb records most_records) refl e
     where
-      go : (a : Bool) → leb bytes most_bytes ≡ a → (b : Bool) → leb records most_records ≡ b → pick (a && b) Open (Shut (verdict 2 0)) ≡ Open
+      go : (a : Bool) → leb bytes most_bytes ≡ a → (b : Bool) → leb records most_records ≡ b → pick (a && b) (Ok (tt {0})) (Err (verdict 2 0)) ≡ Ok tt
           → (bytes ≤ most_bytes) × (records ≤ most_records)
       go true p true q e = (leb-true bytes most_bytes p, leb-true records most_records q)
       go true p false q e = let z : ◌≡◌ {A = ℕ} 0 1 = cc in absurd (omega arith)
@@ -90,30 +90,30 @@ module _ (h bytes records : ℕ) where
   unfolding gate_of
   gate_id e = simp (id-made h e)
 
-  pub gate_other : (h ≡ 20 → ⊥) → (h ≡ 32 → ⊥) → gate_of h bytes records ≡ Shut (verdict 1 0)
+  pub gate_other : (h ≡ 20 → ⊥) → (h ≡ 32 → ⊥) → gate_of h bytes records ≡ Err (verdict 1 0)
   unfolding gate_of id_length
   gate_other a b = simp (ne_eqb h 20 a, ne_eqb h 32 b)
 
   -- within the bounds a call begins
-  pub gate_fine : (h ≡ 20) ⊎ (h ≡ 32) → bytes ≤ most_bytes → records ≤ most_records → gate_of h bytes records ≡ Open
+  pub gate_fine : (h ≡ 20) ⊎ (h ≡ 32) → bytes ≤ most_bytes → records ≤ most_records → gate_of h bytes records ≡ Ok tt
   gate_fine e p q = gate_id e ∙ size-fine bytes records p q
 
   -- a call that began is within the bounds
-  pub gate_open : gate_of h bytes records ≡ Open → ((h ≡ 20) ⊎ (h ≡ 32)) × (bytes ≤ most_bytes) × (records ≤ most_records)
+  pub gate_open : gate_of h bytes records ≡ Ok tt → ((h ≡ 20) ⊎ (h ≡ 32)) × (bytes ≤ most_bytes) × (records ≤ most_records)
   unfolding gate_of
   gate_open e = go (id_length h) refl e
     where
-      go : (a : Bool) → id_length h ≡ a → pick a (size_gate bytes records) (Shut (verdict 1 0)) ≡ Open
+      go : (a : Bool) → id_length h ≡ a → pick a (size_gate bytes records) (Err (verdict 1 0)) ≡ Ok tt
           → ((h ≡ 20) ⊎ (h ≡ 32)) × (bytes ≤ most_bytes) × (records ≤ most_records)
       go true p e = let s = size_open bytes records e in (id-is h p, s.0, s.1)
       go false p e = let z : ◌≡◌ {A = ℕ} 0 1 = cc in absurd (omega arith)
 
   -- a call that did not begin was refused 1 or 2
-  pub gate_shut : (v : Verdict) → gate_of h bytes records ≡ Shut v → (v ≡ verdict 1 0) ⊎ (v ≡ verdict 2 0)
+  pub gate_shut : (v : Verdict) → gate_of h bytes records ≡ Err v → (v ≡ verdict 1 0) ⊎ (v ≡ verdict 2 0)
   unfolding gate_of size_gate
   gate_shut v e = go (id_length h) (leb bytes most_bytes && leb records most_records) e
     where
-      go : (a b : Bool) → pick a (pick b Open (Shut (verdict 2 0))) (Shut (verdict 1 0)) ≡ Shut v → (v ≡ verdict 1 0) ⊎ (v ≡ verdict 2 0)
+      go : (a b : Bool) → pick a (pick b (Ok (tt {0})) (Err (verdict 2 0))) (Err (verdict 1 0)) ≡ Err v → (v ≡ verdict 1 0) ⊎ (v ≡ verdict 2 0)
       go true true e = let z : ◌≡◌ {A = ℕ} 0 1 = cc in absurd (omega arith)
       go true false e = inr (cc)
       go false b e = inl (cc)

@@ -1,11 +1,9 @@
 -- The numbers' carrier, and the one decision on refusals 1 and 2 (docs/FORMAT.md, "Numbers" and "Bounds").
 -- Assumes nothing.
-use Rattle.std.specs.Prelude.{ℕ, Bool, ◌&&◌, ◌||◌, List, ◌++◌, eqb, leb, length, drop}
+use Rattle.std.specs.Prelude.{ℕ, Bool, ◌&&◌, ◌||◌, List, ◌++◌, eqb, leb, length, drop, Err, Ok, Result, ⊤}
 use Rattle.ground.specs.Basics.{pick}
 use Rattle.ground.specs.declared.Verdict.{Verdict}
 use Rattle.ground.specs.declared.Answer.{Answer}
-use Rattle.ground.specs.declared.Gate.{Gate}
-use Rattle.ground.specs.declared.Gate.TheVariants.{Open, Shut}
 
 -- a number of the table and its place
 abbrev pub verdict : ℕ → ℕ → Verdict
@@ -47,17 +45,17 @@ unfoldable pub is_set : ℕ → Bool
 is_set k = eqb k 1 || eqb k 2
 
 -- 2 where a buffer or a list is over its bound
-unfoldable pub size_gate : ℕ → ℕ → Gate
-size_gate bytes records = pick (leb bytes most_bytes && leb records most_records) Open (Shut (verdict 2 0))
+unfoldable pub size_gate : ℕ → ℕ → Result ⊤ Verdict
+size_gate bytes records = pick (leb bytes most_bytes && leb records most_records) (Ok tt) (Err (verdict 2 0))
 
 -- 1 where the id length is neither of the two, then 2
-unfoldable pub gate_of : ℕ → ℕ → ℕ → Gate
-gate_of h bytes records = pick (id_length h) (size_gate bytes records) (Shut (verdict 1 0))
+unfoldable pub gate_of : ℕ → ℕ → ℕ → Result ⊤ Verdict
+gate_of h bytes records = pick (id_length h) (size_gate bytes records) (Err (verdict 1 0))
 
 -- the verdict that a gate stands for: an open one is done
-abbrev pub gate_verdict : Gate → Verdict
-gate_verdict Open = fine
-gate_verdict (Shut v) = v
+abbrev pub gate_verdict : Result ⊤ Verdict → Verdict
+gate_verdict (Ok tt) = fine
+gate_verdict (Err v) = v
 
 -- what a lent buffer or list holds after a call with this verdict that writes l at its front: past l it stays, and after a refusal all of it stays
 unfoldable pub stored : Verdict → List ℕ → List ℕ → List ℕ

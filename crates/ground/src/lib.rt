@@ -94,34 +94,27 @@ pub struct Answer {
     pub count: usize,
 }
 
-// Whether a call may begin.
-#[derive(Clone, Copy)]
-pub enum Gate {
-    Open,
-    Shut(Verdict),
-}
-
 // Refusal 2: the longest lent byte buffer or the longest lent list is over its bound.
-pub fn sizes(bytes: usize, records: usize) -> Gate
+pub fn sizes(bytes: usize, records: usize) -> Result<(), Verdict>
     ensures { result ≡ size_gate bytes records }
 {
     if MOST_BYTES < bytes {
-        return Gate::Shut(Verdict {
+        return Err(Verdict {
             number: BOUND,
             ..FINE
         });
     }
     if MOST_RECORDS < records {
-        return Gate::Shut(Verdict {
+        return Err(Verdict {
             number: BOUND,
             ..FINE
         });
     }
-    Gate::Open
+    Ok(())
 }
 
 // Refusals 1 and 2: the one decision before any call with an id length.
-pub fn bounds(h: usize, bytes: usize, records: usize) -> Gate
+pub fn bounds(h: usize, bytes: usize, records: usize) -> Result<(), Verdict>
     ensures { result ≡ gate_of h bytes records }
 {
     if h == 20 {
@@ -130,7 +123,7 @@ pub fn bounds(h: usize, bytes: usize, records: usize) -> Gate
     if h == 32 {
         return sizes(bytes, records);
     }
-    Gate::Shut(Verdict {
+    Err(Verdict {
         number: ID_LENGTH,
         ..FINE
     })

@@ -1,12 +1,12 @@
 -- Laws of records, one for each way through a definition. Assumes nothing.
 use Prim.Native.Nat.{ℕ, ◌+◌, ◌*◌, ◌/◌, ◌<◌, ◌≤◌}
 use mathlib.Core.Path.{◌≡◌, ap, sym, ◌∙◌}
-use mathlib.Core.Bool.{true, false, ◌&&◌}
+use mathlib.Core.Bool.{true, ◌&&◌}
 use mathlib.Core.List.{List}
 use lib.ListN.{length, get_or}
 use lib.Seq.{sets}
 use lib.Dec.{leb}
-use borrow.Author.Tests.{lt-ltb, le-ltb, le-leb, lt-leb, leb-true}
+use borrow.Author.Tests.{lt-ltb, le-ltb, le-leb, leb-true}
 use Rattle.ground.proofs.Laws.{and_left, and_right}
 use Rattle.header.specs.Record.{width, header_of, flat, header_at, put_header, well_formed}
 use Rattle.header.specs.declared.HeaderRecord.{HeaderRecord}
@@ -36,43 +36,6 @@ module _ (l : List ℕ) (i : ℕ) where
   unfolding put_header
   put_is x h = simp (lt-ltb i (length l / width) h)
 
-module _ (x : HeaderRecord) (len : ℕ) where
-  pub well_name : x.name_end < x.name_start → well_formed x len ≡ false
-  unfolding well_formed
-  well_name e = simp (lt-leb x.name_start x.name_end e)
-
-  module _ (a : x.name_start ≤ x.name_end) where
-    pub well_name_end : len < x.name_end → well_formed x len ≡ false
-    unfolding well_formed
-    well_name_end e = simp (le-leb x.name_start x.name_end a, lt-leb x.name_end len e)
-
-    module _ (b : x.name_end ≤ len) where
-      pub well_range : x.value_end < x.value_start → well_formed x len ≡ false
-      unfolding well_formed
-      well_range e =
-          simp (le-leb x.name_start x.name_end a, le-leb x.name_end len b, lt-leb x.value_start x.value_end e)
-
-      module _ (c : x.value_start ≤ x.value_end) where
-        pub well_range_end : len < x.value_end → well_formed x len ≡ false
-        unfolding well_formed
-        well_range_end e =
-            simp (
-              le-leb x.name_start x.name_end a,
-              le-leb x.name_end len b,
-              le-leb x.value_start x.value_end c,
-              lt-leb x.value_end len e,
-            )
-
-        pub well_mark : x.value_end ≤ len → well_formed x len ≡ leb x.mark 1
-        unfolding well_formed
-        well_mark e =
-            simp (
-              le-leb x.name_start x.name_end a,
-              le-leb x.name_end len b,
-              le-leb x.value_start x.value_end c,
-              le-leb x.value_end len e,
-            )
-
 -- a well-formed record's ranges are inside, and its mark is 0 or 1
 pub record WellFormed (x : HeaderRecord) (len : ℕ) : Type 0 where
   pub name_forward : x.name_start ≤ x.name_end
@@ -101,5 +64,11 @@ well_parts x len e =
     }
 
 pub well_made : (x : HeaderRecord) (len : ℕ) → WellFormed x len → well_formed x len ≡ true
+unfolding well_formed
 well_made x len w =
-    well_mark x len w.name_forward w.name_inside w.value_forward w.value_inside ∙ le-leb x.mark 1 w.marked
+    simp (
+      le-leb x.name_start x.name_end w.name_forward,
+      le-leb x.name_end len w.name_inside,
+      le-leb x.value_start x.value_end w.value_forward,
+      le-leb x.value_end len w.value_inside,
+    ) (le-leb x.mark 1 w.marked)

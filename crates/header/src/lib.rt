@@ -63,28 +63,23 @@ pub fn put_header(headers: &mut [usize], i: usize, x: HeaderRecord)
         return;
     }
     let at = i * HEADER_WIDTH;
-    headers[at] = x.name_start;
-    headers[at + 1] = x.name_end;
-    headers[at + 2] = x.value_start;
-    headers[at + 3] = x.value_end;
-    headers[at + 4] = x.mark;
+    headers[at..at + HEADER_WIDTH].copy_from_slice(&[
+        x.name_start,
+        x.name_end,
+        x.value_start,
+        x.value_end,
+        x.mark,
+    ]);
 }
 
 // Whether both ranges run forward inside so many bytes, and the mark is 0 or 1.
+#[tactic(auto, unfolding(crate::specs::Record::well_formed))]
 pub fn well_formed(x: HeaderRecord, len: usize) -> bool
     ensures { result ≡ well_formed x len }
 {
-    if x.name_end < x.name_start {
-        return false;
-    }
-    if len < x.name_end {
-        return false;
-    }
-    if x.value_end < x.value_start {
-        return false;
-    }
-    if len < x.value_end {
-        return false;
-    }
-    x.mark <= 1
+    x.name_start <= x.name_end
+        && x.name_end <= len
+        && x.value_start <= x.value_end
+        && x.value_end <= len
+        && x.mark <= 1
 }

@@ -1,5 +1,5 @@
 -- The table of all bytes, by its rule; and laws of hex digits, one for each way through a definition. Assumes nothing.
-use Prim.Native.Nat.{ℕ, zero, suc, ◌+◌, ◌-◌, ◌*◌, ◌/◌, ◌%◌, ◌<◌, ◌≤◌}
+use Prim.Native.Nat.{ℕ, zero, suc, ◌+◌, ◌-◌, ◌<◌, ◌≤◌}
 use native.Mathlib.Nat.{not-suc-le-zero, le_of_suc-le-suc}
 use native.Mathlib.Numerals.{add-one}
 use native.Mathlib.Omega.{arith}
@@ -9,53 +9,28 @@ use mathlib.Core.Bool.{Bool, true, false, ◌&&◌}
 use mathlib.Core.List.{List, [], ◌∷◌, map}
 use lib.Bits.{bit_or, and_le_l, and_le_r, or_lt, or_add_and}
 use lib.Dec.{eqb, ltb, leb}
-use lib.ListN.{length, get_or, set, drop, drop_of_length-le}
-use lib.Seq.{drop-cons, get_or-set_same, get_or-set_other}
+use lib.ListN.{length, get_or, drop, drop_of_length-le}
+use lib.Seq.{drop-cons}
 use borrow.Author.Tests.{eq-eqb, ne_eqb, eqb-true, eqb-false, le-leb, lt-leb, leb-true, lt-ltb, le-ltb, ltb-true, ltb-false}
 use Rattle.ground.specs.Basics.{pick}
 use Rattle.ground.proofs.Laws.{and_left, and_right}
-use Rattle.hex_digits.specs.Hex.{hex_value, is_hex, lower_digit, digit_of, Laid}
+use Rattle.hex_digits.specs.Hex.{hex_value, is_hex, lower_digit, digit_of}
 
 -- ---- the table
 
--- the values of so many bytes from b on, and so many rows of sixteen
+-- the values of so many bytes from b on
 abbrev pub values_from : ℕ → ℕ → List ℕ
 values_from zero b = []
 values_from (suc n) b = hex_value b ∷ values_from n (b + 1)
-
-abbrev pub rows_from : ℕ → ℕ → List (List ℕ)
-rows_from zero b = []
-rows_from (suc n) b = values_from 16 b ∷ rows_from n (b + 16)
 
 value-at : (n b k : ℕ) → k < n → get_or (values_from n b) k 0 ≡ hex_value (b + k)
 value-at zero b k p = absurd (not-suc-le-zero p)
 value-at (suc n) b zero p = let z : b ≡ b + zero = omega arith in ap hex_value z
 value-at (suc n) b (suc k) p = let z : b + 1 + k ≡ b + suc k = omega arith in value-at n (b + 1) k (le_of_suc-le-suc p) ∙ ap hex_value z
 
-row-at : (n b i : ℕ) → i < n → get_or (rows_from n b) i [] ≡ values_from 16 (b + i * 16)
-row-at zero b i p = absurd (not-suc-le-zero p)
-row-at (suc n) b zero p = let z : b ≡ b + zero * 16 = omega arith in ap (values_from 16) z
-row-at (suc n) b (suc i) p =
-    let z : b + 16 + i * 16 ≡ b + suc i * 16 = omega arith in row-at n (b + 16) i (le_of_suc-le-suc p) ∙ ap (values_from 16) z
-
--- the sixteen rows of all bytes have each byte's value at its place
-pub table_is : (b : ℕ) → b < 256 → get_or (get_or (rows_from 16 0) (b / 16) []) (b % 16) 0 ≡ hex_value b
-table_is b p =
-    let z : 0 + b / 16 * 16 + b % 16 ≡ b = omega arith in
-    ap (λ (r : List ℕ). get_or r (b % 16) 0) (row-at 16 0 (b / 16) (omega (arith, p))) ∙ value-at 16 (0 + b / 16 * 16) (b % 16) (omega arith) ∙ ap hex_value z
-
--- one more number behind those that are laid out: column k of row i
-pub laid_more : (rows : List (List ℕ)) (l : List ℕ) (i k : ℕ) → k < 16 → i * 16 + k < length l → Laid rows (i * 16 + k) l
-    → Laid rows (i * 16 + (k + 1)) (set l (i * 16 + k) (get_or (get_or rows i []) k 0))
-laid_more rows l i k h p f b q =
-    elim (dec_lt b (i * 16 + k)) [
-      | yes g ↦ get_or-set_other l (i * 16 + k) b _ 0 (λ z. omega arith) ∙ f b g
-      | no g ↦
-          let z : b ≡ i * 16 + k = omega (arith, q) in
-          let x : (i * 16 + k) / 16 ≡ i = omega arith in
-          let y : (i * 16 + k) % 16 ≡ k = omega arith in
-          rw (z, x, y) (get_or-set_same l (i * 16 + k) (get_or (get_or rows i []) k 0) 0 p)
-    ]
+-- the values of all bytes have each byte's at its place
+pub table_is : (b : ℕ) → b < 256 → get_or (values_from 256 0) b 0 ≡ hex_value b
+table_is b p = let z : 0 + b ≡ b = omega arith in value-at 256 0 b p ∙ ap hex_value z
 
 -- ---- hex digits, from a place on: one, another byte, the end
 

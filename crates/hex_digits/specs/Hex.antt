@@ -1,5 +1,5 @@
 -- Hex digits (docs/FORMAT.md, "Hex"). Assumes nothing.
-use Rattle.std.specs.Prelude.{ℕ, ◌+◌, ◌-◌, ◌/◌, ◌%◌, ◌<◌, ◌≡◌, Bool, true, ◌&&◌, not, List, [], ◌∷◌, map, eqb, leb, get_or}
+use Rattle.std.specs.Prelude.{ℕ, ◌+◌, ◌-◌, Bool, true, ◌&&◌, not, List, [], ◌∷◌, map, eqb, leb, get_or}
 use Rattle.ground.specs.Basics.{pick, ascii}
 
 -- the value of a hex digit of either case, 255 for another byte
@@ -25,7 +25,3 @@ lower_hex d = map lower_digit d
 -- the digit of a number below 16, in lower case
 unfoldable pub digit_of : ℕ → ℕ
 digit_of x = get_or (ascii "0123456789abcdef") x 0
-
--- the first n numbers are those of rows of sixteen, one behind the other
-abbrev pub Laid : List (List ℕ) → ℕ → List ℕ → Type 0
-Laid rows n l = (b : ℕ) → b < n → get_or l b 0 ≡ get_or (get_or rows (b / 16) []) (b % 16) 0

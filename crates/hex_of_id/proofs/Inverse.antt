@@ -9,7 +9,6 @@ use lib.ListN.{length}
 use borrow.Author.Tests.{ne_eqb}
 use Rattle.ground.specs.Verdict.{counted, gate_of}
 use Rattle.ground.specs.declared.Answer.{Answer}
-use Rattle.ground.specs.declared.Gate.TheVariants.{Open}
 use Rattle.ground.proofs.Laws.{equal, id_small, gate_open, gate_fine}
 use Rattle.output.specs.Output.{fitted}
 use Rattle.output.proofs.Laws.{fitted-done, fitted-fine}
@@ -20,6 +19,7 @@ use Rattle.hex_of_id.specs.Hex.{hex_of}
 use Rattle.hex_of_id.specs.Demand.{Bytes, IdBack, HexBack}
 use Rattle.id_of_hex.proofs.Laws.{hex-first, halved_even, halved_odd, bytes-length, read-hex, read_done, id_open, id_began}
 use Rattle.hex_of_id.proofs.Laws.{hex-length, hex_open, hex_began}
+use Rattle.std.specs.Prelude.{Ok}
 
 -- ---- the digits of bytes
 
@@ -72,11 +72,11 @@ pub id_back : IdBack
 id_back id room n back f a fits small =
     let d : List ℕ = hex_of id in
     let l : length d ≡ 2 * length id = hex-length id in
-    let began : gate_of (length id) room 0 ≡ Open = hex_began id room (ap (λ (x : Answer). x.verdict.number) a) in
+    let began : gate_of (length id) room 0 ≡ Ok tt = hex_began id room (ap (λ (x : Answer). x.verdict.number) a) in
     let m : fitted room (counted (2 * length id)) ≡ counted n = sym (hex_open id room began) ∙ a in
     let done = fitted-done room (counted (2 * length id)) (ap (λ (x : Answer). x.verdict.number) m) in
     let k : length id ≡ halved (length d) = omega (arith, l, halved_even (length d) (omega (arith, l))) in
-    let again : gate_of (length id) back 0 ≡ Open = gate_fine (length id) back 0 (gate_open (length id) room 0 began).0 small (omega arith) in
+    let again : gate_of (length id) back 0 ≡ Ok tt = gate_fine (length id) back 0 (gate_open (length id) room 0 began).0 small (omega arith) in
     let e : length d / 2 ≡ length id = omega (arith, l) in
     let r : digits_read d ≡ counted (length id) = read-hex d (digits-hex id f) ∙ ap counted e in (
       ap (λ (x : Answer). x.count) (sym m ∙ done.2) ∙ sym l,
@@ -87,7 +87,7 @@ id_back id room n back f a fits small =
 
 pub hex_back : HexBack
 hex_back d room n back a fits small =
-    let began : gate_of (halved (length d)) room 0 ≡ Open = id_began d room (ap (λ (x : Answer). x.verdict.number) a) in
+    let began : gate_of (halved (length d)) room 0 ≡ Ok tt = id_began d room (ap (λ (x : Answer). x.verdict.number) a) in
     let i = (gate_open (halved (length d)) room 0 began).0 in
     let even : length d % 2 ≡ 0
     = ⊎_elim (λ e. e) (λ e. absurd (omega (arith, id_small (halved (length d)) i, halved_odd (length d) e))) (equal (length d % 2) 0) in
@@ -96,7 +96,7 @@ hex_back d room n back a fits small =
     let read = read_done d done.0 in
     let l : length (bytes_of d) ≡ length d / 2 = bytes-length d in
     let k : halved (length d) ≡ length (bytes_of d) = halved_even (length d) even ∙ sym l in
-    let again : gate_of (length (bytes_of d)) back 0 ≡ Open
+    let again : gate_of (length (bytes_of d)) back 0 ≡ Ok tt
     = ap (λ (h : ℕ). gate_of h back 0) (sym k) ∙ gate_fine (halved (length d)) back 0 i small (omega arith) in
     let e : 2 * length (bytes_of d) ≡ length d = omega (arith, l, even) in (
       ap (λ (x : Answer). x.count) (sym m ∙ done.2) ∙ read.1 ∙ sym l,

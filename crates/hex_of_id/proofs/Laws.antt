@@ -8,11 +8,11 @@ use lib.ListN.{length, get_or, drop, set, drop_of_length-le}
 use lib.Seq.{sets, drop-cons}
 use Rattle.ground.specs.Verdict.{counted, refused, gate_of}
 use Rattle.ground.specs.declared.Verdict.{Verdict}
-use Rattle.ground.specs.declared.Gate.TheVariants.{Open, Shut}
 use Rattle.output.specs.Output.{fitted}
 use Rattle.output.proofs.Laws.{gated_open, gated-shut, gated-done}
 use Rattle.hex_digits.specs.Hex.{digit_of}
 use Rattle.hex_of_id.specs.Hex.{hex_of, hex_answer}
+use Rattle.std.specs.Prelude.{Err, Ok}
 
 -- ---- bytes from a place on
 
@@ -47,14 +47,14 @@ hex-length (b ∷ bs) = omega (arith, hex-length bs)
 -- ---- the answer
 
 module _ (id : List ℕ) (room : ℕ) where
-  pub hex-shut : (v : Verdict) → gate_of (length id) room 0 ≡ Shut v → hex_answer id room ≡ refused v
+  pub hex-shut : (v : Verdict) → gate_of (length id) room 0 ≡ Err v → hex_answer id room ≡ refused v
   unfolding hex_answer
   hex-shut v g = gated-shut (gate_of (length id) room 0) v (fitted room (counted (2 * length id))) g
 
-  pub hex_open : gate_of (length id) room 0 ≡ Open → hex_answer id room ≡ fitted room (counted (2 * length id))
+  pub hex_open : gate_of (length id) room 0 ≡ Ok tt → hex_answer id room ≡ fitted room (counted (2 * length id))
   unfolding hex_answer
   hex_open g = gated_open (gate_of (length id) room 0) (fitted room (counted (2 * length id))) g
 
-  pub hex_began : (hex_answer id room).verdict.number ≡ 0 → gate_of (length id) room 0 ≡ Open
+  pub hex_began : (hex_answer id room).verdict.number ≡ 0 → gate_of (length id) room 0 ≡ Ok tt
   unfolding hex_answer
   hex_began z = gated-done (length id) room 0 (fitted room (counted (2 * length id))) z

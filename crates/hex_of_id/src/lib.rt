@@ -6,7 +6,7 @@ ghost use Rattle.std.proofs.lemmas.List.Edits.{sets};
 ghost use Rattle.ground.specs.Verdict.{counted, stored};
 ghost use Rattle.hex_of_id.specs.Hex.{hex_of, hex_answer};
 
-use ground::{Answer, DONE, FINE, Gate, bounds};
+use ground::{Answer, DONE, FINE, bounds};
 use hex_letter::digit_of;
 use output::fit;
 
@@ -26,14 +26,9 @@ fn put_hex(out: &mut [u8], id: &[u8])
     requires { 2 * length id.now ≤ length out.old }
     ensures { out.new ≡ sets out.old 0 (hex_of id.now) }
 {
-    let mut i = 0;
-    while i < id.len() {
-        let b = id[i];
-        let at = 2 * i;
-        let next = at + 1;
-        out[at] = digit_of(b / 16);
-        out[next] = digit_of(b);
-        i += 1;
+    for (i, b) in id.iter().enumerate() {
+        out[2 * i] = digit_of(*b / 16);
+        out[2 * i + 1] = digit_of(*b);
     }
 }
 
@@ -43,13 +38,13 @@ pub fn hex_of_id(id: &[u8], out: &mut [u8]) -> Answer
     ensures out_after { out.new ≡ stored (hex_answer id.now (length out.old)).verdict (hex_of id.now) out.old }
 {
     match bounds(id.len(), out.len(), 0) {
-        Gate::Shut(v) => {
+        Err(v) => {
             return Answer {
                 verdict: v,
                 count: 0,
             };
         }
-        Gate::Open => {}
+        Ok(()) => {}
     }
     let a = fit(out.len(), count_digits(id));
     let number = a.verdict.number;

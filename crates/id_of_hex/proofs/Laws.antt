@@ -12,13 +12,13 @@ use borrow.Author.Tests.{eq-eqb, ne_eqb}
 use Rattle.ground.specs.Basics.{pick}
 use Rattle.ground.specs.Verdict.{verdict, counted, refused, gate_of}
 use Rattle.ground.specs.declared.Verdict.{Verdict}
-use Rattle.ground.specs.declared.Gate.TheVariants.{Open, Shut}
 use Rattle.ground.proofs.Laws.{and_left, and_right}
 use Rattle.output.specs.Output.{fitted}
 use Rattle.output.proofs.Laws.{gated_open, gated-shut, gated-done}
 use Rattle.hex_digits.specs.Hex.{hex_value, is_hex}
 use Rattle.hex_digits.proofs.Laws.{hex-small}
 use Rattle.id_of_hex.specs.Id.{bytes_of, halved, digits_read, id_answer}
+use Rattle.std.specs.Prelude.{Err, Ok}
 
 -- ---- half of a number
 
@@ -103,10 +103,6 @@ pub read-hex : (d : List ℕ) → is_hex d ≡ true → digits_read d ≡ counte
 unfolding digits_read
 read-hex d e = rw e
 
-pub read-other : (d : List ℕ) → is_hex d ≡ false → digits_read d ≡ refused (verdict 10 0)
-unfolding digits_read
-read-other d e = rw e
-
 -- digits that are read are hex
 pub read_done : (d : List ℕ) → (digits_read d).verdict.number ≡ 0 → (is_hex d ≡ true) × ((digits_read d).count ≡ length d / 2)
 unfolding digits_read
@@ -118,15 +114,15 @@ read_done d = go (is_hex d) refl
     go false q z = absurd (omega arith)
 
 module _ (d : List ℕ) (room h : ℕ) (e : h ≡ halved (length d)) where
-  pub id-shut : (v : Verdict) → gate_of h room 0 ≡ Shut v → id_answer d room ≡ refused v
+  pub id-shut : (v : Verdict) → gate_of h room 0 ≡ Err v → id_answer d room ≡ refused v
   unfolding id_answer
   id-shut v g = gated-shut (gate_of (halved (length d)) room 0) v (fitted room (digits_read d)) (ap (λ (k : ℕ). gate_of k room 0) (sym e) ∙ g)
 
-  pub id_open : gate_of h room 0 ≡ Open → id_answer d room ≡ fitted room (digits_read d)
+  pub id_open : gate_of h room 0 ≡ Ok tt → id_answer d room ≡ fitted room (digits_read d)
   unfolding id_answer
   id_open g = gated_open (gate_of (halved (length d)) room 0) (fitted room (digits_read d)) (ap (λ (k : ℕ). gate_of k room 0) (sym e) ∙ g)
 
 -- a call that is done began
-pub id_began : (d : List ℕ) (room : ℕ) → (id_answer d room).verdict.number ≡ 0 → gate_of (halved (length d)) room 0 ≡ Open
+pub id_began : (d : List ℕ) (room : ℕ) → (id_answer d room).verdict.number ≡ 0 → gate_of (halved (length d)) room 0 ≡ Ok tt
 unfolding id_answer
 id_began d room z = gated-done (halved (length d)) room 0 (fitted room (digits_read d)) z

@@ -7,21 +7,20 @@ ghost use Rattle.ground.specs.Verdict.{stored};
 ghost use Rattle.hex_digits.specs.Hex.{is_hex};
 ghost use Rattle.id_of_hex.specs.Id.{bytes_of, halved, digits_read, id_answer};
 
-use ground::{Answer, BAD_RECORD, DONE, FINE, Gate, Verdict, bounds};
+use ground::{Answer, BAD_RECORD, DONE, FINE, Verdict, bounds};
 use hex_digits::{hex_digit, is_hex};
 use output::fit;
 
 // Half of an even number, and 0 for an odd one.
+#[tactic(auto, unfolding(crate::specs::Id::halved))]
 fn half(n: usize) -> usize
     ensures { result ≡ halved n }
 {
-    if n % 2 == 0 {
-        return n / 2;
-    }
-    0
+    if n % 2 == 0 { n / 2 } else { 0 }
 }
 
 // How many bytes the digits say; 10 where one is no digit.
+#[tactic(auto, unfolding(crate::specs::Id::digits_read))]
 fn read_digits(digits: &[u8]) -> Answer
     ensures { result ≡ digits_read digits.now }
 {
@@ -45,15 +44,11 @@ fn put_bytes(out: &mut [u8], digits: &[u8])
     requires { (is_hex digits.now ≡ true) × (length digits.now / 2 ≤ length out.old) }
     ensures { out.new ≡ sets out.old 0 (bytes_of digits.now) }
 {
-    let n = digits.len() / 2;
-    let mut i = 0;
-    while i < n {
-        let at = 2 * i;
-        let next = at + 1;
-        let high = hex_digit(digits[at]);
-        let low = hex_digit(digits[next]);
+    // By index: the slice's contract says nothing of the elements that `iter_mut` writes.
+    for i in 0..digits.len() / 2 {
+        let high = hex_digit(digits[2 * i]);
+        let low = hex_digit(digits[2 * i + 1]);
         out[i] = high * 16 + low;
-        i += 1;
     }
 }
 
@@ -63,13 +58,13 @@ pub fn id_of_hex(digits: &[u8], out: &mut [u8]) -> Answer
     ensures out_after { out.new ≡ stored (id_answer digits.now (length out.old)).verdict (bytes_of digits.now) out.old }
 {
     match bounds(half(digits.len()), out.len(), 0) {
-        Gate::Shut(v) => {
+        Err(v) => {
             return Answer {
                 verdict: v,
                 count: 0,
             };
         }
-        Gate::Open => {}
+        Ok(()) => {}
     }
     let a = fit(out.len(), read_digits(digits));
     let number = a.verdict.number;

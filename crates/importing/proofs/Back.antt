@@ -12,8 +12,6 @@ use Rattle.ground.specs.Scan.{same_bytes}
 use Rattle.ground.specs.Verdict.{fine, counted, most_bytes, most_records}
 use Rattle.ground.specs.declared.Verdict.{Verdict}
 use Rattle.ground.specs.declared.Answer.{Answer}
-use Rattle.ground.specs.declared.Gate.{Gate}
-use Rattle.ground.specs.declared.Gate.TheVariants.{Open, Shut}
 use Rattle.ground.proofs.Laws.{is_false, same_true, id_small, gate_open, gate_fine}
 use Rattle.output.specs.Output.{fitted}
 use Rattle.output.proofs.Laws.{fitted-done, fitted-fine}
@@ -23,8 +21,6 @@ use Rattle.order.specs.Order.{is_below, opposite}
 use Rattle.order.proofs.Laws.{order_flip, order_trans}
 use Rattle.entry.specs.Entry.{Entry, entry_bytes, as_written, entries_of, entry_of}
 use Rattle.entry.specs.Decode.{decode}
-use Rattle.entry.specs.declared.Decoded.{Decoded}
-use Rattle.entry.specs.declared.Decoded.TheVariants.{Whole, Broken}
 use Rattle.rules.specs.Rules.{git_rules, stands_before}
 use Rattle.rules.specs.Gate.{rule_gate}
 use Rattle.rules.proofs.Laws.{rule_known, rule_open}
@@ -47,6 +43,9 @@ use Rattle.text_import.proofs.Whole.{import-open, counted-fine}
 use Rattle.importing.specs.Back.{ExportDone, ExportSays, SameObject}
 use Rattle.importing.proofs.Sorted.{Apart}
 use Rattle.importing.proofs.Record.{record_back, record_some}
+use Rattle.entry.specs.declared.Cursor.{Cursor}
+use Rattle.entry.specs.declared.EntryRecord.{EntryRecord}
+use Rattle.std.specs.Prelude.{Err, Ok, Result, ⊤}
 
 -- ---- all records
 
@@ -180,10 +179,10 @@ plain-few h zero at (x ∷ xs) = omega arith
 plain-few h (suc left) at [] = omega arith
 plain-few h (suc left) at (x ∷ xs) = go (λ a c. plain-few h left a c) (decode h at (x ∷ xs))
   where
-    go : ((a : ℕ) (c : List ℕ) → length (records_in (plain h left a c)) ≤ left) → (d : Decoded)
+    go : ((a : ℕ) (c : List ℕ) → length (records_in (plain h left a c)) ≤ left) → (d : Result (EntryRecord × Cursor) Verdict)
         → length (records_in (follow (plain h left) at (x ∷ xs) d)) ≤ suc left
-    go ih (Whole e next) = omega (arith, ih next.at (drop (next.at - at) (x ∷ xs)))
-    go ih (Broken v) = omega arith
+    go ih (Ok (e, next)) = omega (arith, ih next.at (drop (next.at - at) (x ∷ xs)))
+    go ih (Err v) = omega arith
 
 -- what an export that is done says of the object
 record Exported (k h : ℕ) (s : List ℕ) (room : ℕ) : Type 0 where
@@ -200,12 +199,12 @@ exported : (k h : ℕ) (s : List ℕ) (room : ℕ) → ExportDone k h s room →
 unfolding counted_in
 exported k h s room z = go (rule_gate k h (max (length s) room) 0) refl
   where
-    go : (g : Gate) → rule_gate k h (max (length s) room) 0 ≡ g → Exported k h s room
-    go (Shut v) q =
+    go : (g : Result ⊤ Verdict) → rule_gate k h (max (length s) room) 0 ≡ g → Exported k h s room
+    go (Err v) q =
         absurd
         (strict-refuses k h (max (length s) room) 0 v q
         (sym (ap (λ (a : Answer). a.verdict.number) (export_shut k h s room (max (length s) room) refl v q)) ∙ z))
-    go Open q =
+    go (Ok tt) q =
         let o = export_open k h s room (max (length s) room) refl q in
         let m : Answer = counted_in h s (tally 0 (strictly (git_rules k) h s)) in
         let d = fitted-done room m (sym (ap (λ (a : Answer). a.verdict.number) o) ∙ z) in

@@ -10,8 +10,6 @@ use Rattle.ground.specs.Verdict.{verdict}
 use Rattle.ground.proofs.Laws.{same_refl}
 use Rattle.mode.specs.Mode.{is_tree}
 use Rattle.order.specs.Order.{is_below, name_order, opposite}
-use Rattle.order.specs.declared.Order.{Order}
-use Rattle.order.specs.declared.Order.TheVariants.{Below, Same, Above}
 use Rattle.order.proofs.Laws.{below-is, order_flip}
 use Rattle.entry.specs.Entry.{Entry}
 use Rattle.rules.specs.Rules.{stands_before}
@@ -20,6 +18,8 @@ use Rattle.sorting.specs.Sort.{insert_by, sort_by, Perm, none, more, flip, then}
 use Rattle.sorting.proofs.Sorted.{sort_perm, perm_sym}
 use Rattle.sorting.proofs.Repeats.{perm_mem}
 use Rattle.text_import.specs.Import.{Texts, done, stop, one, entries_in, is_same, compare_same, name_same, any_before, repeated}
+use Rattle.std.specs.declared.cmp.Ordering.{Ordering}
+use Rattle.std.specs.declared.cmp.Ordering.TheVariants.{Equal, Greater, Less}
 
 -- ---- no entry repeats an earlier one
 
@@ -62,10 +62,10 @@ not_same : (x y : Entry) → stands_before y x ≡ false → compare_same x y �
 unfolding stands_before compare_same
 not_same x y p q = go (name_order x.name (is_tree x.mode) y.name (is_tree y.mode)) refl
   where
-    go : (o : Order) → name_order x.name (is_tree x.mode) y.name (is_tree y.mode) ≡ o → o ≡ Below
-    go Below e = refl
-    go Same e = absurd (false≢true (sym q ∙ ap is_same e))
-    go Above e =
+    go : (o : Ordering) → name_order x.name (is_tree x.mode) y.name (is_tree y.mode) ≡ o → o ≡ Less
+    go Less e = refl
+    go Equal e = absurd (false≢true (sym q ∙ ap is_same e))
+    go Greater e =
         absurd (false≢true (sym p ∙ ap is_below (order_flip x.name (is_tree x.mode) y.name (is_tree y.mode) ∙ ap opposite e)))
 
 stands-before : (x y : Entry) → stands_before x y ≡ true → Before x y

@@ -12,8 +12,6 @@ use Rattle.ground.specs.Basics.{pick, ascii, part}
 use Rattle.ground.specs.Scan.{same_bytes}
 use Rattle.ground.specs.Verdict.{counted, refused, most_bytes, most_records}
 use Rattle.ground.specs.declared.Answer.{Answer}
-use Rattle.ground.specs.declared.Gate.{Gate}
-use Rattle.ground.specs.declared.Gate.TheVariants.{Open, Shut}
 use Rattle.ground.proofs.Laws.{same_refl, gate_open, gate_fine}
 use Rattle.output.specs.Output.{fitted}
 use Rattle.output.proofs.Laws.{fitted-done, fitted-fine}
@@ -24,8 +22,6 @@ use Rattle.rules.specs.Rules.{modes_of, group_row, is_dot_git, git_rules, stands
 use Rattle.rules.specs.Gate.{rule_gate}
 use Rattle.rules.proofs.Laws.{permitted-parts, number_free, rule_known, rule_open}
 use Rattle.reading.specs.Listing.{Listing, records_in, tally}
-use Rattle.reading.specs.declared.Counted.{Counted}
-use Rattle.reading.specs.declared.Counted.TheVariants.{Total}
 use Rattle.strict.specs.Strict.{strictly}
 use Rattle.strict.proofs.Laws.{strict-refuses, strict-plain}
 use Rattle.one_listing.specs.Sound.{Five, Sound, SoundEntry, EachSound, SoundListing}
@@ -52,6 +48,8 @@ use Rattle.text_import.proofs.Bytes.{one-digits}
 use Rattle.text_import.proofs.Whole.{import_shut, import-open, counted-fine}
 use Rattle.importing.specs.Importing.{given, imported_listing, Done, Importing}
 use Rattle.importing.proofs.Sorted.{clear, sort-up, each_perm, distinct_perm, apart_distinct}
+use Rattle.ground.specs.declared.Verdict.{Verdict}
+use Rattle.std.specs.Prelude.{Err, Ok, Result, ⊤}
 
 -- ---- one entry
 
@@ -147,11 +145,11 @@ pub record Known (k h : ℕ) (s : List ℕ) (room : ℕ) : Type 0 where
 pub whole : (k h : ℕ) (s : List ℕ) (room : ℕ) → Done k h s room → Known k h s room
 whole k h s room d = go (rule_gate k h (max (length s) room) 0) refl
   where
-    go : (g : Gate) → rule_gate k h (max (length s) room) 0 ≡ g → Known k h s room
-    go (Shut v) q =
+    go : (g : Result ⊤ Verdict) → rule_gate k h (max (length s) room) 0 ≡ g → Known k h s room
+    go (Err v) q =
         absurd
         (strict-refuses k h (max (length s) room) 0 v q (sym (ap (λ (a : Answer). a.verdict.number) (import_shut k h s room (max (length s) room) refl v q)) ∙ d))
-    go Open q =
+    go (Ok tt) q =
         let o = import-open k h s room (max (length s) room) refl q in
         let f = fitted-done room (counted_of (texts k h s)) (sym (ap (λ (a : Answer). a.verdict.number) o) ∙ d) in
         let r = rule_open k h (max (length s) room) 0 q in
@@ -202,10 +200,10 @@ module _ (k h : ℕ) (s : List ℕ) (room : ℕ) (d : Done k h s room) where
       × (entries_of h (as_written (imported_listing k h s)) (records_in (listed 0 (imported_listing k h s))) ≡ imported_listing k h s)
   read_again = sound-listed (git_rules k) (git_ok k) h (imported_listing k h s) by-rules few
 
-  total : tally 0 (strictly (git_rules k) h (imported (texts k h s))) ≡ Total (length (imported_listing k h s))
+  total : tally 0 (strictly (git_rules k) h (imported (texts k h s))) ≡ Ok (length (imported_listing k h s))
   total =
       let z : 0 + length (imported_listing k h s) ≡ length (imported_listing k h s) = omega arith in
-      ap (λ (l : List ℕ). tally 0 (strictly (git_rules k) h l)) written ∙ ap (tally 0) read_again.0 ∙ listed_total 0 0 (imported_listing k h s) ∙ ap Total z
+      ap (λ (l : List ℕ). tally 0 (strictly (git_rules k) h l)) written ∙ ap (tally 0) read_again.0 ∙ listed_total 0 0 (imported_listing k h s) ∙ ap Ok z
 
   out-again : text_in h (imported (texts k h s)) ≡ as_text (imported_listing k h s)
   out-again =
@@ -223,7 +221,7 @@ module _ (k h : ℕ) (s : List ℕ) (room : ℕ) (d : Done k h s room) where
       let g = rule_known k h (max (length (imported (texts k h s))) back) 0 w.set
       ∙ gate_fine h (max (length (imported (texts k h s))) back) 0 w.id (omega (arith, w.fits, w.bound, q)) (omega arith) in
       export_open k h (imported (texts k h s)) back (max (length (imported (texts k h s))) back) refl g
-      ∙ ap (λ (c : Counted). fitted back (counted_in h o c)) total ∙ ap (λ (l : List ℕ). fitted back (counted (length l))) out-again
+      ∙ ap (λ (c : Result ℕ Verdict). fitted back (counted_in h o c)) total ∙ ap (λ (l : List ℕ). fitted back (counted (length l))) out-again
       ∙ fitted-fine back (counted (length (as_text (imported_listing k h s)))) refl p
 
 pub importing : Importing

@@ -12,13 +12,13 @@ use Rattle.ground.specs.Basics.{pick}
 use Rattle.ground.specs.Verdict.{most_bytes}
 use Rattle.ground.proofs.Laws.{sets_front}
 use Rattle.frame.specs.Frame.{frame_at, done, fault, onward, frames, frames_by}
-use Rattle.frame.specs.declared.Framed.{Framed}
-use Rattle.frame.specs.declared.Framed.TheVariants.{Whole, Broken}
 use Rattle.frame.specs.declared.Header.{Header}
 use Rattle.keys.specs.Key.{key_at, below_by}
 use Rattle.sorting.specs.Sort.{sort_by}
 use Rattle.sorting.proofs.Sorted.{sort-length}
 use Rattle.indexing.specs.Indexing.{elements_in, index_of}
+use Rattle.frame.specs.declared.Frame.{Frame}
+use Rattle.std.specs.Prelude.{None, Option, Some}
 
 elements-few : (h : ℕ) (s : List ℕ) (n at : ℕ) → length (elements_in (frames h s n at)) ≤ n
 unfolding frames onward elements_in
@@ -29,9 +29,9 @@ elements-few h s zero at = go (eqb at (length s))
     go false = omega arith
 elements-few h s (suc n) at = go (λ (b : ℕ). elements-few h s n b) (frame_at h at (drop at s))
   where
-    go : ((b : ℕ) → length (elements_in (frames h s n b)) ≤ n) → (r : Framed) → length (elements_in (onward (frames h s n) r)) ≤ suc n
-    go ih (Whole f) = let i = ih f.end in omega arith
-    go ih Broken = omega arith
+    go : ((b : ℕ) → length (elements_in (frames h s n b)) ≤ n) → (r : Option Frame) → length (elements_in (onward (frames h s n) r)) ≤ suc n
+    go ih (Some f) = let i = ih f.end in omega arith
+    go ih None = omega arith
 
 -- what is said of a list and its length, once the index is made
 abbrev pub Made : List ℕ → Header → List ℕ → ℕ → List ℕ → Type 0

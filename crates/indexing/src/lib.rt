@@ -7,7 +7,7 @@ ghost use Rattle.ground.specs.Verdict.{most_bytes};
 ghost use Rattle.frame.specs.Frame.{frames};
 ghost use Rattle.indexing.specs.Indexing.{elements_in, index_of};
 
-use frame::{Framed, Header, frame_at};
+use frame::{Header, frame_at};
 use ground::MOST_BYTES;
 use sorting::sort_front;
 
@@ -23,8 +23,8 @@ fn places(s: &[u8], h: usize, count: usize, from: usize, list: &mut [u32]) -> us
     let mut n: usize = 0;
     while 0 < left {
         match frame_at(s, h, at) {
-            Framed::Broken => return n,
-            Framed::Whole(f) => {
+            None => return n,
+            Some(f) => {
                 let place = f.id;
                 list[n] = (place * 2) as u32;
                 n += 1;

@@ -15,21 +15,19 @@ use Rattle.ground.specs.Scan.{same_bytes}
 use Rattle.ground.specs.Verdict.{verdict, most_bytes, most_records, size_gate}
 use Rattle.ground.proofs.Laws.{same_refl, same_true, is_false, same_test}
 use Rattle.ground.specs.declared.Verdict.{Verdict}
-use Rattle.ground.specs.declared.Gate.{Gate}
-use Rattle.ground.specs.declared.Gate.TheVariants as gate
 use Rattle.entry.specs.Record.{id_of}
 use Rattle.reading.specs.Listing.{plain}
 use Rattle.twice.specs.Ids.{among, repeats}
 use Rattle.bundle.specs.Bundle.{Object, Bundle, good, bundle_of, ids_of, Sought, present, absent, object_with}
 use Rattle.component.specs.Component.{components, is_path}
 use Rattle.component.specs.Named.{Found, there, nowhere, entries_read, first_named, first_in}
-use Rattle.component.specs.declared.Named.{Named}
-use Rattle.component.specs.declared.Named.TheVariants.{Entry, NoEntry}
 use Rattle.component.proofs.Laws.{seen, first-named, first-within}
 use Rattle.path.specs.Path.{in_object, step_to, onto, walk_along, refused_with, answered, follow_along, follow_in, follow_from, follow}
 use Rattle.path_walk.specs.declared.Followed.{Followed}
 use Rattle.isolation.proofs.Checked.{checked}
 use Rattle.isolation.specs.Isolation.{Meets, first, later, Lacks, Holds, Agree, neither, both, Called, Isolation}
+use Rattle.entry.specs.declared.EntryRecord.{EntryRecord}
+use Rattle.std.specs.Prelude.{Err, None, Ok, Option, Result, Some, ⊤}
 
 -- ---- an object and the id that it is sought by
 
@@ -117,10 +115,10 @@ module _ (s t root path : List ℕ) (h : ℕ) (ps qs : List Object)
   unfolding follow_in follow_along
   same_in = rw (rs, rt, walks)
 
-  same_from : (g : Gate) → follow_from s root path g ≡ follow_from t root path g
+  same_from : (g : Result ⊤ Verdict) → follow_from s root path g ≡ follow_from t root path g
   unfolding follow_from
-  same_from (gate.Shut v) = refl
-  same_from gate.Open =
+  same_from (Err v) = refl
+  same_from (Ok tt) =
       ap (λ (b : Bundle). follow_in b root (components path)) ws ∙ same_in ∙ sym (ap (λ (b : Bundle). follow_in b root (components path)) wt)
 
 -- ---- the theorem
@@ -181,13 +179,13 @@ moved s t root path h ps qs ls lt ws wt rs rt f g = isolation s t root path h ps
 -- ---- the answer's id has H bytes
 
 -- it has h bytes
-seen_size : (h : ℕ) (b name : List ℕ) (r : Named) → r ≡ first_in b name (plain h (length b) 0 b) → (m : ℕ) (i : List ℕ) → seen h b r ≡ there m i → length i ≡ h
+seen_size : (h : ℕ) (b name : List ℕ) (r : Option EntryRecord) → r ≡ first_in b name (plain h (length b) 0 b) → (m : ℕ) (i : List ℕ) → seen h b r ≡ there m i → length i ≡ h
 unfolding seen id_of
-seen_size h b name (Entry e) q m i w =
+seen_size h b name (Some e) q m i w =
     let j : take h (drop e.id_start b) ≡ i = cc in
     let l = first-within h b name (length b) 0 e (sym q) in
     sym (ap length j) ∙ length-take-le h (drop e.id_start b) (omega (arith, length-drop e.id_start b))
-seen_size h b name NoEntry q m i w = let z : ◌≡◌ {A = ℕ} 0 1 = cc in absurd (omega arith)
+seen_size h b name None q m i w = let z : ◌≡◌ {A = ℕ} 0 1 = cc in absurd (omega arith)
 
 named-size : (h : ℕ) (b name : List ℕ) (m : ℕ) (i : List ℕ) → first_named name (entries_read h b) ≡ there m i → length i ≡ h
 unfolding entries_read
@@ -232,19 +230,19 @@ in_size h os root cs e = go (eqb (length root) h) (repeats (ids_of os)) (is_path
     go true false false e = absurd (omega arith)
     go false b c e = absurd (omega arith)
 
-from-size : (s root path : List ℕ) (h : ℕ) (os : List Object) → bundle_of s ≡ good h os → (g : Gate) → ((v : Verdict) → g ≡ gate.Shut v → v.number ≡ 0 → ⊥)
+from-size : (s root path : List ℕ) (h : ℕ) (os : List Object) → bundle_of s ≡ good h os → (g : Result ⊤ Verdict) → ((v : Verdict) → g ≡ Err v → v.number ≡ 0 → ⊥)
     → (follow_from s root path g).verdict.number ≡ 0 → (follow_from s root path g).size ≡ h
 unfolding follow_from
-from-size s root path h os w (gate.Shut v) n e = absurd (n v refl e)
-from-size s root path h os w gate.Open n e =
+from-size s root path h os w (Err v) n e = absurd (n v refl e)
+from-size s root path h os w (Ok tt) n e =
     let f : follow_in (bundle_of s) root (components path) ≡ follow_in (good h os) root (components path) = ap (λ (b : Bundle). follow_in b root (components path)) w in
     ap (λ (r : Followed). r.size) f ∙ in_size h os root (components path) (rw f at e)
 
-gate_number : (n r : ℕ) (v : Verdict) → size_gate n r ≡ gate.Shut v → v.number ≡ 0 → ⊥
+gate_number : (n r : ℕ) (v : Verdict) → size_gate n r ≡ Err v → v.number ≡ 0 → ⊥
 unfolding size_gate
 gate_number n r v e z = go (leb n most_bytes && leb r most_records) e
   where
-    go : (b : Bool) → pick b gate.Open (gate.Shut (verdict 2 0)) ≡ gate.Shut v → ⊥
+    go : (b : Bool) → pick b (Ok tt) (Err (verdict 2 0)) ≡ Err v → ⊥
     go true e = let y : ◌≡◌ {A = ℕ} 0 1 = cc in omega arith
     go false e = let y : verdict 2 0 ≡ v = cc in let x : 2 ≡ v.number = ap (λ (u : Verdict). u.number) y in omega arith
 

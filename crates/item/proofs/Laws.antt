@@ -1,4 +1,4 @@
--- Runs of stores, a copy within one list, and a path that is stored. Assumes nothing.
+-- Runs of stores, and a path that is stored. Assumes nothing.
 use Prim.Native.Nat.{ℕ, suc, ◌+◌, ◌*◌, ◌/◌, ◌≤◌, ◌<◌}
 use mathlib.Core.Bool.{Bool, true, false, ◌&&◌}
 use mathlib.Core.Path.{◌≡◌, ap, sym, ◌∙◌}
@@ -6,10 +6,10 @@ use mathlib.Core.List.{List, [], ◌∷◌, ◌++◌, append_assoc}
 use native.Mathlib.Omega.{arith}
 use native.Mathlib.Nat.{add-zero, add-suc, suc-add}
 use native.Mathlib.Numerals.{add-one}
-use borrow.Author.Tests.{eq-eqb, ne_eqb, le-leb, lt-leb, lt-ltb, le-ltb, leb-true, ltb-true}
+use borrow.Author.Tests.{eq-eqb, ne_eqb, le-leb, lt-ltb, le-ltb, leb-true, ltb-true}
 use lib.Dec.{leb, ltb}
 use lib.ListN.{length, get_or, take, drop, set, length-drop, length-append, get_or-append}
-use lib.Seq.{sets, sets-eq, paste, paste-suc, length-take-le, get_or-drop, get_or-take}
+use lib.Seq.{sets, sets-eq, paste, length-take-le, get_or-take}
 use Rattle.ground.proofs.Laws.{and_left, and_right}
 use Rattle.merge.specs.declared.Change.{Change}
 use Rattle.item.specs.Items.{join}
@@ -48,36 +48,11 @@ module _ (l : List ℕ) (n start end : ℕ) (c : Change) where
   unfolding put_numbers
   numbers-room m e h = let f : n < length l / 6 = omega arith in e ∙ rw (lt-ltb _ _ f)
 
--- ---- a copy within one list, from before its place
-
-get_d_paste : (d : List ℕ) (at : ℕ) (s : List ℕ) (n i : ℕ) → i < at → at ≤ length d → get_or (paste d at s n) i 0 ≡ get_or d i 0
-get_d_paste d at s n i h g =
-    let l : i < length (take at d) = omega (arith, length-take-le at d g) in
-    rw (append_assoc) (get_or-append (take at d) (take n s ++ drop (at + n) d) 0 i l) ∙ get_or-take at d i 0 h
-
-pub copy-suc : (d : List ℕ) (ps pl m k : ℕ) (p : List ℕ) → p ≡ paste d m (drop ps d) k → ps + pl ≤ m → m + pl ≤ length d → k < pl
-    → set p (m + k) (get_or p (ps + k) 0) ≡ paste d m (drop ps d) (k + 1)
-copy-suc d ps pl m k p e h g l =
-    let a : ps + k < m = omega arith in
-    let b : m ≤ length d = omega arith in
-    let f : m + k < length d = omega arith in
-    let i : k < length (drop ps d) = omega (arith, length-drop ps d) in
-    rw (e, get_d_paste d m (drop ps d) k (ps + k) a b, ← get_or-drop ps d k 0, add-one) (paste-suc d m (drop ps d) k 0 f i)
-
 -- ---- room for a folder's path and a slash
 
 module _ (ps pl m len : ℕ) where
   abbrev pub Room : Bool
   Room = leb (ps + pl) m && ltb (m + pl) len
-
-  pub room-over : m < ps + pl → false ≡ Room
-  room-over h = rw (lt-leb (ps + pl) m h)
-
-  pub room-short : ps + pl ≤ m → len ≤ m + pl → false ≡ Room
-  room-short h g = rw (le-leb (ps + pl) m h, le-ltb (m + pl) len g)
-
-  pub room-both : ps + pl ≤ m → m + pl < len → true ≡ Room
-  room-both h g = rw (le-leb (ps + pl) m h, lt-ltb (m + pl) len g)
 
   pub room_says : (t : Bool) → t ≡ Room → t ≡ true → (ps + pl ≤ m) × (m + pl < len)
   room_says t e k =

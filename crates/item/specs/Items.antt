@@ -1,5 +1,5 @@
 -- What a difference is said with: the entries of a folder, items, and the objects of a store (docs/FORMAT.md, "Differences"). Assumes nothing.
-use Rattle.std.specs.Prelude.{ℕ, ◌+◌, Bool, ◌&&◌, List, [], ◌∷◌, ◌++◌, map, eqb}
+use Rattle.std.specs.Prelude.{ℕ, ◌+◌, Bool, ◌&&◌, List, [], ◌∷◌, ◌++◌, map, eqb, Err, Ok, Result}
 use Rattle.ground.specs.Basics.{pick}
 use Rattle.ground.specs.Scan.{same_bytes}
 use Rattle.ground.specs.Verdict.{verdict}
@@ -9,8 +9,6 @@ use Rattle.entry.specs.Record.{name_of, id_of}
 use Rattle.entry.specs.Entry.{Entry}
 use Rattle.entry.specs.declared.EntryRecord.{EntryRecord}
 use Rattle.reading.specs.Listing.{records_in}
-use Rattle.reading.specs.declared.Counted.{Counted}
-use Rattle.reading.specs.declared.Counted.TheVariants.{Total, Stopped}
 use Rattle.rules.specs.Rules.{git_rules}
 use Rattle.strict.specs.Strict.{strictly, strict_count}
 
@@ -54,9 +52,9 @@ unfoldable pub named_of : ℕ → ℕ → List ℕ → EntryRecord → Named
 named_of h start s e = record { name = name_of s e; side = record { mode = e.mode; id = id_of h s e; place = start + e.id_start } }
 
 -- the entries of an object that strict reading by rule set k counted, or its refusal
-unfoldable pub read_strictly : ℕ → ℕ → ℕ → List ℕ → Counted → Folder
-read_strictly k h start s (Stopped v) = shut v
-read_strictly k h start s (Total n) = holds (map (named_of h start s) (records_in (strictly (git_rules k) h s)))
+unfoldable pub read_strictly : ℕ → ℕ → ℕ → List ℕ → Result ℕ Verdict → Folder
+read_strictly k h start s (Err v) = shut v
+read_strictly k h start s (Ok n) = holds (map (named_of h start s) (records_in (strictly (git_rules k) h s)))
 
 -- 28 for what is missing or no tree, then what strict reading gives
 unfoldable pub tree_of : ℕ → ℕ → Stored → Folder

@@ -2,8 +2,7 @@
 // A folder's item comes before its inner items, so the front of an inner path is copied from where the folder's path was stored.
 #![tactic(auto)]
 
-ghost use Rattle.std.specs.Prelude.{◌≡◌, ◌&&◌, ◌+◌, ◌≤◌, leb, ltb, length, drop};
-ghost use Rattle.std.proofs.Math.Seq.{paste};
+ghost use Rattle.std.specs.Prelude.{◌≡◌, ◌&&◌, ◌+◌, leb, ltb};
 ghost use Rattle.item.specs.Put.{put_numbers, put_path};
 
 use merge::Change;
@@ -11,37 +10,11 @@ use merge::Change;
 // The numbers of an item, as they lie in a flat list: where its path starts and ends, both modes, and where both ids start.
 pub const ITEM: usize = 6;
 
-// Copies so many bytes to a place from an earlier one.
-fn copy_down(paths: &mut [u8], ps: usize, pl: usize, m: usize)
-    requires { (ps + pl ≤ m) × (m + pl ≤ length paths.old) }
-    ensures { paths.new ≡ paste paths.old m (drop ps paths.old) pl }
-{
-    let mut k = 0;
-    while k < pl {
-        let to = m + k;
-        let from = ps + k;
-        paths[to] = paths[from];
-        k += 1;
-    }
-}
-
 // Whether so many bytes from ps on end before m, where a list of so many bytes has room for them and for a slash.
 fn has_room(ps: usize, pl: usize, m: usize, len: usize) -> bool
     ensures { result ≡ (leb (ps + pl) m && ltb (m + pl) len) }
 {
-    if m < ps {
-        return false;
-    }
-    if m - ps < pl {
-        return false;
-    }
-    if len <= m {
-        return false;
-    }
-    if len - m <= pl {
-        return false;
-    }
-    true
+    ps <= m && pl <= m - ps && m < len && pl < len - m
 }
 
 // Stores a path as far as there is room: its folder's, which stands at ps, a slash, and the name.
@@ -53,7 +26,7 @@ pub fn put_path(paths: &mut [u8], m: usize, ps: usize, pl: usize, name: &[u8])
         return;
     }
     if has_room(ps, pl, m, paths.len()) {
-        copy_down(paths, ps, pl, m);
+        paths.copy_within(ps..ps + pl, m);
         let slash = m + pl;
         paths[slash] = b'/';
         output::put(paths, slash + 1, name);

@@ -14,21 +14,21 @@ use Rattle.ground.specs.Basics.{pick}
 use Rattle.ground.specs.Scan.{count_to, place_from, common_start, free_of}
 use Rattle.ground.proofs.Laws.{count_free, equal, part-from, count-le, count_at, count-is, common_same, common_differ}
 use Rattle.order.specs.Order.{by_number, then_by, opposite, next, name_order}
-use Rattle.order.specs.declared.Order.{Order}
-use Rattle.order.specs.declared.Order.TheVariants.{Below, Same, Above}
 use Rattle.order.proofs.Laws.{by_lt, by_gt, by-eq, by-same, by-below, by_above, order_self, order_flip, order_trans, order_same, next-byte, decided_at}
 use Rattle.keys.specs.Strict.{Strict}
 use Rattle.keys.specs.Key.{past_mark, cut_to, name_at, folder, slash, key_at, decide, below_by, ended}
+use Rattle.std.specs.declared.cmp.Ordering.{Ordering}
+use Rattle.std.specs.declared.cmp.Ordering.TheVariants.{Equal, Greater, Less}
 
 -- ---- keys in the order of their bytes
 
-else_same : (p r : Order) → then_by p r ≡ Same → (p ≡ Same) × (r ≡ Same)
-else_same Below r h = let z : ◌≡◌ {A = ℕ} 0 1 = cc in absurd (omega arith)
-else_same Same r h = (refl, h)
-else_same Above r h = let z : ◌≡◌ {A = ℕ} 0 1 = cc in absurd (omega arith)
+else_same : (p r : Ordering) → then_by p r ≡ Equal → (p ≡ Equal) × (r ≡ Equal)
+else_same Less r h = let z : ◌≡◌ {A = ℕ} 0 1 = cc in absurd (omega arith)
+else_same Equal r h = (refl, h)
+else_same Greater r h = let z : ◌≡◌ {A = ℕ} 0 1 = cc in absurd (omega arith)
 
 -- keys that compare Same are one
-pub plain-same : (a b : List ℕ) → name_order a false b false ≡ Same → a ≡ b
+pub plain-same : (a b : List ℕ) → name_order a false b false ≡ Equal → a ≡ b
 unfolding name_order next
 plain-same [] [] h = refl
 plain-same [] (y ∷ b) h = absurd (omega (arith, by-same h))
@@ -39,10 +39,10 @@ plain-same (x ∷ a) (y ∷ b) h =
     let j = by-same e.0 in
     cc
 
-decide_true : (o : Order) (t : Bool) → decide o t ≡ true → (o ≡ Below) ⊎ ((o ≡ Same) × (t ≡ true))
-decide_true Below t h = inl refl
-decide_true Same t h = inr (refl, h)
-decide_true Above t h = absurd (false≢true h)
+decide_true : (o : Ordering) (t : Bool) → decide o t ≡ true → (o ≡ Less) ⊎ ((o ≡ Equal) × (t ≡ true))
+decide_true Less t h = inl refl
+decide_true Equal t h = inr (refl, h)
+decide_true Greater t h = absurd (false≢true h)
 
 module _ (key : ℕ → List ℕ) where
   key_self : (x : ℕ) → below_by key x x ≡ false
@@ -54,34 +54,34 @@ module _ (key : ℕ → List ℕ) where
   key_chain x y z p q =
       go (decide_true (name_order (key x) false (key y) false) (ltb x y) p) (decide_true (name_order (key y) false (key z) false) (ltb y z) q)
     where
-      first : name_order (key x) false (key z) false ≡ Below → decide (name_order (key x) false (key z) false) (ltb x z) ≡ true
-      first e = ap (λ (o : Order). decide o (ltb x z)) e
+      first : name_order (key x) false (key z) false ≡ Less → decide (name_order (key x) false (key z) false) (ltb x z) ≡ true
+      first e = ap (λ (o : Ordering). decide o (ltb x z)) e
 
-      go : (name_order (key x) false (key y) false ≡ Below) ⊎ ((name_order (key x) false (key y) false ≡ Same) × (ltb x y ≡ true))
-          → (name_order (key y) false (key z) false ≡ Below) ⊎ ((name_order (key y) false (key z) false ≡ Same) × (ltb y z ≡ true))
+      go : (name_order (key x) false (key y) false ≡ Less) ⊎ ((name_order (key x) false (key y) false ≡ Equal) × (ltb x y ≡ true))
+          → (name_order (key y) false (key z) false ≡ Less) ⊎ ((name_order (key y) false (key z) false ≡ Equal) × (ltb y z ≡ true))
           → decide (name_order (key x) false (key z) false) (ltb x z) ≡ true
       go (inl f) (inl g) = first (order_trans (key x) false (key y) false (key z) false f g)
       go (inl f) (inr g) = first (ap (λ (k : List ℕ). name_order (key x) false k false) (sym (plain-same (key y) (key z) g.0)) ∙ f)
       go (inr f) (inl g) = first (ap (λ (k : List ℕ). name_order k false (key z) false) (plain-same (key x) (key y) f.0) ∙ g)
       go (inr f) (inr g) =
           ap (λ (k : List ℕ). decide (name_order k false (key z) false) (ltb x z)) (plain-same (key x) (key y) f.0)
-          ∙ ap (λ (o : Order). decide o (ltb x z)) g.0
+          ∙ ap (λ (o : Ordering). decide o (ltb x z)) g.0
           ∙ lt-ltb x z (omega (arith, ltb-true x y f.1, ltb-true y z g.1))
 
   key_one : (x y : ℕ) → below_by key x y ≡ false → below_by key y x ≡ false → x ≡ y
   unfolding below_by
   key_one x y p q = go (name_order (key x) false (key y) false) refl
     where
-      back : (o : Order) → name_order (key x) false (key y) false ≡ o → decide (opposite o) (ltb y x) ≡ false
-      back o e = ap (λ (o : Order). decide o (ltb y x)) (ap opposite (sym e) ∙ sym (order_flip (key x) false (key y) false)) ∙ q
+      back : (o : Ordering) → name_order (key x) false (key y) false ≡ o → decide (opposite o) (ltb y x) ≡ false
+      back o e = ap (λ (o : Ordering). decide o (ltb y x)) (ap opposite (sym e) ∙ sym (order_flip (key x) false (key y) false)) ∙ q
 
-      there : (o : Order) → name_order (key x) false (key y) false ≡ o → decide o (ltb x y) ≡ false
-      there o e = ap (λ (o : Order). decide o (ltb x y)) (sym e) ∙ p
+      there : (o : Ordering) → name_order (key x) false (key y) false ≡ o → decide o (ltb x y) ≡ false
+      there o e = ap (λ (o : Ordering). decide o (ltb x y)) (sym e) ∙ p
 
-      go : (o : Order) → name_order (key x) false (key y) false ≡ o → x ≡ y
-      go Below e = absurd (false≢true (sym (there Below e)))
-      go Same e = omega (arith, ltb-false x y (there Same e), ltb-false y x (back Same e))
-      go Above e = absurd (false≢true (sym (back Above e)))
+      go : (o : Ordering) → name_order (key x) false (key y) false ≡ o → x ≡ y
+      go Less e = absurd (false≢true (sym (there Less e)))
+      go Equal e = omega (arith, ltb-false x y (there Equal e), ltb-false y x (back Equal e))
+      go Greater e = absurd (false≢true (sym (back Greater e)))
 
   -- elements by their keys, equal keys by the elements: a strict total order
   pub key_strict : Strict (below_by key)
@@ -92,15 +92,15 @@ module _ (key : ℕ → List ℕ) where
 by-suc : (x y : ℕ) → by_number (suc x) (suc y) ≡ by_number x y
 by-suc x y = go (by_number x y) refl
   where
-    go : (o : Order) → by_number x y ≡ o → by_number (suc x) (suc y) ≡ o
-    go Below e = by_lt (omega (arith, by-below e))
-    go Same e = by-eq (ap suc (by-same e))
-    go Above e = by_gt (omega (arith, by_above e))
+    go : (o : Ordering) → by_number x y ≡ o → by_number (suc x) (suc y) ≡ o
+    go Less e = by_lt (omega (arith, by-below e))
+    go Equal e = by-eq (ap suc (by-same e))
+    go Greater e = by_gt (omega (arith, by_above e))
 
-else_else : (p q r : Order) → then_by p (then_by q r) ≡ then_by (then_by p q) r
-else_else Below q r = refl
-else_else Same q r = refl
-else_else Above q r = refl
+else_else : (p q r : Ordering) → then_by p (then_by q r) ≡ then_by (then_by p q) r
+else_else Less q r = refl
+else_else Equal q r = refl
+else_else Greater q r = refl
 
 none_order : (l : List ℕ) → name_order [] false l false ≡ by_number 0 (length l)
 unfolding name_order next
@@ -119,11 +119,11 @@ none-none true false = refl
 none-none false true = refl
 none-none false false = refl
 
-below_else : (o r : Order) → o ≡ Below → o ≡ then_by o r
-below_else o r e = e ∙ ap (λ (o : Order). then_by o r) (sym e)
+below_else : (o r : Ordering) → o ≡ Less → o ≡ then_by o r
+below_else o r e = e ∙ ap (λ (o : Ordering). then_by o r) (sym e)
 
-above_else : (o r : Order) → o ≡ Above → o ≡ then_by o r
-above_else o r e = e ∙ ap (λ (o : Order). then_by o r) (sym e)
+above_else : (o r : Ordering) → o ≡ Greater → o ≡ then_by o r
+above_else o r e = e ∙ ap (λ (o : Ordering). then_by o r) (sym e)
 
 -- the keys' bytes compare as the names do in Git's order, and where those are Same by the keys' lengths
 pub key_order : (a : List ℕ) (s : Bool) (b : List ℕ) (t : Bool)
@@ -132,11 +132,11 @@ unfolding name_order next
 key_order [] s [] t = none-none s t
 key_order [] false (y ∷ b) t = below_else (by_number 0 (suc y)) _ (by_lt (omega arith))
 key_order [] true (y ∷ b) t =
-    ap (λ (o : Order). then_by o (name_order [] false (b ++ slash t) false)) (sym (by-suc 47 y))
+    ap (λ (o : Ordering). then_by o (name_order [] false (b ++ slash t) false)) (sym (by-suc 47 y))
     ∙ ap (then_by (by_number 48 (suc y))) (none_order (b ++ slash t) ∙ sym (by-suc 0 (length (b ++ slash t))))
 key_order (x ∷ a) s [] false = above_else (by_number (suc x) 0) _ (by_gt (omega arith))
 key_order (x ∷ a) s [] true =
-    ap (λ (o : Order). then_by o (name_order (a ++ slash s) false [] false)) (sym (by-suc x 47))
+    ap (λ (o : Ordering). then_by o (name_order (a ++ slash s) false [] false)) (sym (by-suc x 47))
     ∙ ap (then_by (by_number (suc x) 48)) (order_none (a ++ slash s) ∙ sym (by-suc (length (a ++ slash s)) 0))
 key_order (x ∷ a) s (y ∷ b) t =
     ap (then_by (by_number x y)) (key_order a s b t)
@@ -148,10 +148,10 @@ pub key_names : (a : List ℕ) (s : Bool) (b : List ℕ) (t : Bool) → free_of 
     → name_order (a ++ slash s) false (b ++ slash t) false ≡ name_order a s b t
 key_names a s b t p q = key_order a s b t ∙ go (name_order a s b t) refl
   where
-    go : (o : Order) → name_order a s b t ≡ o → then_by o (by_number (length (a ++ slash s)) (length (b ++ slash t))) ≡ o
-    go Below e = refl
-    go Same e = let w = order_same a s b t p q e in by-eq (rw (w.0, w.1) refl)
-    go Above e = refl
+    go : (o : Ordering) → name_order a s b t ≡ o → then_by o (by_number (length (a ++ slash s)) (length (b ++ slash t))) ≡ o
+    go Less e = refl
+    go Equal e = let w = order_same a s b t p q e in by-eq (rw (w.0, w.1) refl)
+    go Greater e = refl
 
 -- ---- two elements compared
 
@@ -174,18 +174,18 @@ module _ (text : List ℕ) (mark width : ℕ) where
 
 -- by how the two names stand
 pub below-is : (key : ℕ → List ℕ) (x y : ℕ) (a : List ℕ) (s : Bool) (b : List ℕ) (t : Bool) → key x ≡ a ++ slash s → key y ≡ b ++ slash t
-    → (o : Order) → o ≡ name_order a s b t → (m n : ℕ) → m ≡ length (a ++ slash s) → n ≡ length (b ++ slash t)
+    → (o : Ordering) → o ≡ name_order a s b t → (m n : ℕ) → m ≡ length (a ++ slash s) → n ≡ length (b ++ slash t)
     → decide (then_by o (by_number m n)) (ltb x y) ≡ below_by key x y
 unfolding below_by
 below-is key x y a s b t p q o e m n f g =
     let z : then_by o (by_number m n) ≡ name_order (key x) false (key y) false = rw (e, f, g, p, q) (sym (key_order a s b t)) in
-    ap (λ (o : Order). decide o (ltb x y)) z
+    ap (λ (o : Ordering). decide o (ltb x y)) z
 
 -- the same in terms of where the names begin
 module _ (text : List ℕ) (mark width : ℕ) where
   pub elements : (x y a b : ℕ) → (a ≤ length text) × (drop a text ≡ past_mark mark (drop (x / 2) text))
       → (b ≤ length text) × (drop b text ≡ past_mark mark (drop (y / 2) text))
-      → (o : Order) → o ≡ name_order (cut_to width (drop a text)) (eqb (x % 2) 1) (cut_to width (drop b text)) (eqb (y % 2) 1)
+      → (o : Ordering) → o ≡ name_order (cut_to width (drop a text)) (eqb (x % 2) 1) (cut_to width (drop b text)) (eqb (y % 2) 1)
       → (m n : ℕ) → m ≡ length (cut_to width (drop a text) ++ slash (eqb (x % 2) 1)) → n ≡ length (cut_to width (drop b text) ++ slash (eqb (y % 2) 1))
       → decide (then_by o (by_number m n)) (ltb x y) ≡ below_by (key_at text mark width) x y
   elements x y a b p q o e m n f g =

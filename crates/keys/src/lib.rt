@@ -5,7 +5,7 @@ ghost use Rattle.std.specs.Prelude.{◌≡◌, false, ◌-◌, ◌≤◌, ltb, l
 ghost use Rattle.order.specs.Order.{by_number, next, name_order};
 ghost use Rattle.keys.specs.Key.{past_mark, cut_to, key_at, below_by, decide, ended};
 
-use order::Order;
+use std::cmp::Ordering;
 
 // The place where the bytes past the first mark begin.
 fn begin(text: &[u8], mark: u8, place: usize) -> usize
@@ -38,7 +38,7 @@ fn end(text: &[u8], width: usize, from: usize) -> usize
     text.len()
 }
 
-// Keys that compare Same so far: the shorter is below, and of one length the smaller element.
+// Keys that compare Equal so far: the shorter is below, and of one length the smaller element.
 fn below_same(a: usize, b: usize, x: u32, y: u32) -> bool
     ensures { result ≡ decide (by_number a b) (ltb x y) }
 {
@@ -74,18 +74,18 @@ fn next_at(text: &[u8], width: usize, from: usize, i: usize) -> u16
 }
 
 // Two numbers of bytes compared, where 0 is a name's end: for a folder a slash.
-fn by_next(p: u16, ptree: bool, q: u16, qtree: bool) -> Order
+fn by_next(p: u16, ptree: bool, q: u16, qtree: bool) -> Ordering
     ensures { result ≡ by_number (ended p ptree) (ended q qtree) }
 {
     let x = end_of(p, ptree);
     let y = end_of(q, qtree);
     if x < y {
-        return Order::Below;
+        return Ordering::Less;
     }
     if y < x {
-        return Order::Above;
+        return Ordering::Greater;
     }
-    Order::Same
+    Ordering::Equal
 }
 
 fn end_of(p: u16, tree: bool) -> u16
@@ -101,7 +101,7 @@ fn end_of(p: u16, tree: bool) -> u16
 }
 
 // Git's comparison of the names that begin at two places, which reads no further than it has to.
-fn names(text: &[u8], width: usize, a: usize, atree: bool, b: usize, btree: bool) -> Order
+fn names(text: &[u8], width: usize, a: usize, atree: bool, b: usize, btree: bool) -> Ordering
     requires { (a ≤ length text.now) × (b ≤ length text.now) }
     ensures { result ≡ name_order (cut_to width (drop a text.now)) atree (cut_to width (drop b text.now)) btree }
 {
@@ -129,9 +129,9 @@ pub fn below(text: &[u8], mark: u8, width: usize, x: u32, y: u32) -> bool
     let m = x as usize % 2;
     let n = y as usize % 2;
     match names(text, width, a, m == 1, b, n == 1) {
-        Order::Below => true,
-        Order::Above => false,
-        Order::Same => below_same(
+        Ordering::Less => true,
+        Ordering::Greater => false,
+        Ordering::Equal => below_same(
             end(text, width, a) - a + m,
             end(text, width, b) - b + n,
             x,

@@ -16,16 +16,14 @@ use Rattle.mode.proofs.Laws.{read_next}
 use Rattle.entry.specs.Record.{name_of, id_of}
 use Rattle.entry.specs.Decode.{decode}
 use Rattle.entry.specs.declared.EntryRecord.{EntryRecord}
-use Rattle.entry.specs.declared.Decoded.{Decoded}
-use Rattle.entry.specs.declared.Decoded.TheVariants.{Whole, Broken}
 use Rattle.entry.proofs.Laws.{decode-parts}
 use Rattle.reading.specs.Listing.{follow, plain, listing, records_in, tally}
-use Rattle.reading.specs.declared.Counted.{Counted}
-use Rattle.reading.specs.declared.Counted.TheVariants.{Total, Stopped}
 use Rattle.loose_header.proofs.Digits.{decimal-most}
 use Rattle.hex_of_id.proofs.Laws.{hex-length}
 use Rattle.listing_text.specs.Text.{line, lines, head, refusal, longest, told_of, text_of, text}
 use Rattle.listing_text.proofs.Laws.{mode-most, id-le}
+use Rattle.entry.specs.declared.Cursor.{Cursor}
+use Rattle.std.specs.Prelude.{Err, Ok, Result}
 
 name-long : (s : List ℕ) (e : EntryRecord) → length (name_of s e) ≤ e.name_end - e.name_start
 unfolding name_of
@@ -36,7 +34,7 @@ unfolding line
 line-long h s e = simp length-append (omega (arith, mode-most e.mode, hex-length (id_of h s e), id-le h s e, name-long s e))
 
 -- an entry's line is at most three times as long as the entry
-lines_long : (h : ℕ) → 20 ≤ h → (s : List ℕ) (left at : ℕ) (b : List ℕ) (k n : ℕ) → tally k (plain h left at b) ≡ Total n
+lines_long : (h : ℕ) → 20 ≤ h → (s : List ℕ) (left at : ℕ) (b : List ℕ) (k n : ℕ) → tally k (plain h left at b) ≡ Ok n
     → length (lines h s (records_in (plain h left at b))) ≤ 3 * length b
 unfolding plain follow tally records_in lines
 lines_long h w s zero at [] k n t = omega arith
@@ -44,10 +42,10 @@ lines_long h w s zero at (x ∷ xs) k n t = let z : ◌≡◌ {A = ℕ} 0 1 = cc
 lines_long h w s (suc left) at [] k n t = omega arith
 lines_long h w s (suc left) at (x ∷ xs) k n t = go (lines_long h w s left) (decode h at (x ∷ xs)) refl t
   where
-    go : ((i : ℕ) (b : List ℕ) (j m : ℕ) → tally j (plain h left i b) ≡ Total m → length (lines h s (records_in (plain h left i b))) ≤ 3 * length b)
-        → (d : Decoded) → decode h at (x ∷ xs) ≡ d → tally k (follow (plain h left) at (x ∷ xs) d) ≡ Total n
+    go : ((i : ℕ) (b : List ℕ) (j m : ℕ) → tally j (plain h left i b) ≡ Ok m → length (lines h s (records_in (plain h left i b))) ≤ 3 * length b)
+        → (d : Result (EntryRecord × Cursor) Verdict) → decode h at (x ∷ xs) ≡ d → tally k (follow (plain h left) at (x ∷ xs) d) ≡ Ok n
         → length (lines h s (records_in (follow (plain h left) at (x ∷ xs) d))) ≤ 3 * length (x ∷ xs)
-    go ih (Whole e next) q t =
+    go ih (Ok (e, next)) q t =
         let p = decode-parts h at (x ∷ xs) e next q in
         let r = read_next (x ∷ xs) e.mode p.size p.reads in
         let from : e.name_start ≡ at + p.size = ap (λ (y : EntryRecord). y.name_start) p.laid in
@@ -56,7 +54,7 @@ lines_long h w s (suc left) at (x ∷ xs) k n t = go (lines_long h w s left) (de
         let y = ih next.at rest (k + 1) n t in
         let l = length-append (line h s e) (lines h s (records_in (plain h left next.at rest))) in
         omega (arith, r, y, w, l, from, to, line-long h s e, p.past, p.inside, length-drop p.size (x ∷ xs), length-drop (next.at - at) (x ∷ xs))
-    go ih (Broken v) q t = let z : ◌≡◌ {A = ℕ} 0 1 = cc in absurd (omega arith)
+    go ih (Err v) q t = let z : ◌≡◌ {A = ℕ} 0 1 = cc in absurd (omega arith)
 
 refusal-long : (v : Verdict) → length (refusal v) ≤ 64
 unfolding refusal
@@ -71,13 +69,13 @@ pub text-fits : (h : ℕ) (s : List ℕ) → length (text h s) ≤ 3 * longest +
 unfolding text text_of told_of
 text-fits h s = any (id_length h) refl
   where
-    told : 20 ≤ h → length s ≤ longest → (k : Counted) → tally 0 (listing h s) ≡ k
+    told : 20 ≤ h → length s ≤ longest → (k : Result ℕ Verdict) → tally 0 (listing h s) ≡ k
         → length (told_of h s (records_in (listing h s)) k) ≤ 3 * longest + 64
-    told w p (Total n) t =
+    told w p (Ok n) t =
         let y = lines_long h w s _ 0 s 0 n t in
         let l = length-append (head n) (lines h s (records_in (listing h s))) in
         omega (arith, y, l, head-long n)
-    told w p (Stopped v) t = omega (arith, refusal-long v)
+    told w p (Err v) t = omega (arith, refusal-long v)
 
     go : 20 ≤ h → (b : Bool) → leb (length s) longest ≡ b
         → length (pick b (told_of h s (records_in (listing h s)) (tally 0 (listing h s))) (refusal (verdict 2 0))) ≤ 3 * longest + 64

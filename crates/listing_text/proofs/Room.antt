@@ -10,46 +10,43 @@ use borrow.Author.Tests.{le-leb, lt-leb}
 use Rattle.ground.specs.Verdict.{verdict, fine, counted, gate_of, stored, id_length}
 use Rattle.ground.specs.declared.Verdict.{Verdict}
 use Rattle.ground.specs.declared.Answer.{Answer}
-use Rattle.ground.specs.declared.Gate.TheVariants.{Open}
 use Rattle.ground.proofs.Laws.{id-is, id_small, gate_fine, stored-done}
 use Rattle.mode.proofs.Laws.{read_next}
 use Rattle.entry.specs.Record.{width, many, records_of}
 use Rattle.entry.specs.Decode.{decode}
 use Rattle.entry.specs.declared.EntryRecord.{EntryRecord}
-use Rattle.entry.specs.declared.Decoded.{Decoded}
-use Rattle.entry.specs.declared.Decoded.TheVariants.{Whole, Broken}
 use Rattle.entry.proofs.Laws.{decode-parts}
 use Rattle.reading.specs.Listing.{follow, plain, listing, records_in, flats, tally}
 use Rattle.reading.specs.Whole.{in_room, read_answer, read_records}
-use Rattle.reading.specs.declared.Counted.{Counted}
-use Rattle.reading.specs.declared.Counted.TheVariants.{Total, Stopped}
 use Rattle.reading.proofs.Laws.{Refusal, tally_stops, tally-length, plain-refuses, answer-counted, room-fine, flats-length}
 use Rattle.listing_text.specs.Text.{head, lines, refusal, longest, told_of, tally_verdict, text_of, text, listed_of, listed}
 use Rattle.listing_text.specs.Code.{Added, room}
 use Rattle.listing_text.specs.declared.Listed.{Listed}
 use Rattle.listing_text.proofs.Laws.{added_then}
+use Rattle.entry.specs.declared.Cursor.{Cursor}
+use Rattle.std.specs.Prelude.{Err, Ok, Result}
 
 -- ---- how many entries an object can have
 
 -- an entry has at least 22 bytes: a space, a NUL and an id
-entries_least : (h : ℕ) → 20 ≤ h → (left at : ℕ) (b : List ℕ) (k n : ℕ) → tally k (plain h left at b) ≡ Total n → n * 22 ≤ k * 22 + length b
+entries_least : (h : ℕ) → 20 ≤ h → (left at : ℕ) (b : List ℕ) (k n : ℕ) → tally k (plain h left at b) ≡ Ok n → n * 22 ≤ k * 22 + length b
 unfolding plain follow tally
 entries_least h w zero at [] k n t = let y : k ≡ n = cc in omega arith
 entries_least h w zero at (x ∷ xs) k n t = let z : ◌≡◌ {A = ℕ} 0 1 = cc in absurd (omega arith)
 entries_least h w (suc left) at [] k n t = let y : k ≡ n = cc in omega arith
 entries_least h w (suc left) at (x ∷ xs) k n t = go (entries_least h w left) (decode h at (x ∷ xs)) refl t
   where
-    go : ((i : ℕ) (b : List ℕ) (j m : ℕ) → tally j (plain h left i b) ≡ Total m → m * 22 ≤ j * 22 + length b) → (d : Decoded) → decode h at (x ∷ xs) ≡ d
-        → tally k (follow (plain h left) at (x ∷ xs) d) ≡ Total n → n * 22 ≤ k * 22 + length (x ∷ xs)
-    go ih (Whole e next) q t =
+    go : ((i : ℕ) (b : List ℕ) (j m : ℕ) → tally j (plain h left i b) ≡ Ok m → m * 22 ≤ j * 22 + length b) → (d : Result (EntryRecord × Cursor) Verdict) → decode h at (x ∷ xs) ≡ d
+        → tally k (follow (plain h left) at (x ∷ xs) d) ≡ Ok n → n * 22 ≤ k * 22 + length (x ∷ xs)
+    go ih (Ok (e, next)) q t =
         let p = decode-parts h at (x ∷ xs) e next q in
         let r = read_next (x ∷ xs) e.mode p.size p.reads in
         let y = ih next.at (drop (next.at - at) (x ∷ xs)) (k + 1) n t in
         omega (arith, r, y, w, p.past, p.inside, length-drop p.size (x ∷ xs), length-drop (next.at - at) (x ∷ xs))
-    go ih (Broken v) q t = let z : ◌≡◌ {A = ℕ} 0 1 = cc in absurd (omega arith)
+    go ih (Err v) q t = let z : ◌≡◌ {A = ℕ} 0 1 = cc in absurd (omega arith)
 
 -- so there is room for the entries of an object that is not too long
-pub room_enough : (h : ℕ) → id_length h ≡ true → (s : List ℕ) (n : ℕ) → length s ≤ longest → tally 0 (listing h s) ≡ Total n → n ≤ room
+pub room_enough : (h : ℕ) → id_length h ≡ true → (s : List ℕ) (n : ℕ) → length s ≤ longest → tally 0 (listing h s) ≡ Ok n → n ≤ room
 room_enough h w s n p t = omega (arith, entries_least h (id_small h (id-is h w)).0 _ 0 s 0 n t)
 
 -- ---- an object that was read into so much room
@@ -65,7 +62,7 @@ module _ (h : ℕ) (i : id_length h ≡ true) (s lent : List ℕ) (a : Answer) (
 
   in-room : a ≡ in_room room (tally 0 (listing h s))
   in-room =
-      let g : gate_of h (length s) room ≡ Open = gate_fine h (length s) room (id-is h i) (omega arith) (omega arith) in
+      let g : gate_of h (length s) room ≡ Ok tt = gate_fine h (length s) room (id-is h i) (omega arith) (omega arith) in
       q ∙ rw all_room (answer-counted (listing h s) (gate_of h (length s) room) room g refl)
 
   -- it was refused: the text is the refusal's
@@ -74,22 +71,22 @@ module _ (h : ℕ) (i : id_length h ≡ true) (s lent : List ℕ) (a : Answer) (
   unfolding told_of tally_verdict
   read-refused z = go (tally 0 (listing h s)) refl in-room
     where
-      go : (k : Counted) → tally 0 (listing h s) ≡ k → a ≡ in_room room k
+      go : (k : Result ℕ Verdict) → tally 0 (listing h s) ≡ k → a ≡ in_room room k
           → (told_of h s (records_in (listing h s)) k ≡ refusal a.verdict) × (tally_verdict k ≡ a.verdict)
-      go (Stopped v) t e = let w : a.verdict ≡ v = ap (λ (x : Answer). x.verdict) e in (ap refusal (sym w), sym w)
-      go (Total n) t e = absurd (z (ap (λ (x : Answer). x.verdict.number) (e ∙ room-fine room n (room_enough h i s n p t))))
+      go (Err v) t e = let w : a.verdict ≡ v = ap (λ (x : Answer). x.verdict) e in (ap refusal (sym w), sym w)
+      go (Ok n) t e = absurd (z (ap (λ (x : Answer). x.verdict.number) (e ∙ room-fine room n (room_enough h i s n p t))))
 
   -- it was read: so many entries
-  pub read_all : a.verdict.number ≡ 0 → (tally 0 (listing h s) ≡ Total a.count) × (a.verdict ≡ fine) × (a.count ≤ room)
+  pub read_all : a.verdict.number ≡ 0 → (tally 0 (listing h s) ≡ Ok a.count) × (a.verdict ≡ fine) × (a.count ≤ room)
   read_all z = go (tally 0 (listing h s)) refl in-room
     where
-      go : (k : Counted) → tally 0 (listing h s) ≡ k → a ≡ in_room room k → (k ≡ Total a.count) × (a.verdict ≡ fine) × (a.count ≤ room)
-      go (Stopped v) t e =
+      go : (k : Result ℕ Verdict) → tally 0 (listing h s) ≡ k → a ≡ in_room room k → (k ≡ Ok a.count) × (a.verdict ≡ fine) × (a.count ≤ room)
+      go (Err v) t e =
           absurd (tally_stops Refusal 0 (listing h s) v (plain-refuses h s) t (sym (ap (λ (x : Answer). x.verdict.number) e) ∙ z))
-      go (Total n) t e =
+      go (Ok n) t e =
           let f : a ≡ counted n = e ∙ room-fine room n (room_enough h i s n p t) in
           let c : a.count ≡ n = ap (λ (x : Answer). x.count) f in
-          (ap Total (sym c), ap (λ (x : Answer). x.verdict) f, omega (arith, room_enough h i s n p t))
+          (ap Ok (sym c), ap (λ (x : Answer). x.verdict) f, omega (arith, room_enough h i s n p t))
 
   -- and the front of the lent list holds their records
   pub read-records : (after : List ℕ) (all : ℕ) → after ≡ read_records h s (listing h s) lent → a.verdict.number ≡ 0 → all ≡ a.count * width

@@ -1,5 +1,5 @@
 -- What `listing` says of a tree object whose ids have `h` bytes (docs/FORMAT.md, "Examples"). Assumes nothing.
-use Rattle.std.specs.Prelude.{ℕ, ◌%◌, List, [], ◌∷◌, ◌++◌, leb, length}
+use Rattle.std.specs.Prelude.{ℕ, ◌%◌, List, [], ◌∷◌, ◌++◌, leb, length, Err, Ok, Result}
 use Rattle.ground.specs.Basics.{pick, ascii}
 use Rattle.ground.specs.Verdict.{verdict, fine, id_length}
 use Rattle.ground.specs.declared.Verdict.{Verdict}
@@ -9,8 +9,6 @@ use Rattle.mode_text.specs.Write.{shown}
 use Rattle.entry.specs.Record.{name_of, id_of}
 use Rattle.entry.specs.declared.EntryRecord.{EntryRecord}
 use Rattle.reading.specs.Listing.{listing, records_in, tally}
-use Rattle.reading.specs.declared.Counted.{Counted}
-use Rattle.reading.specs.declared.Counted.TheVariants.{Total, Stopped}
 use Rattle.loose_header.specs.Header.{decimal}
 use Rattle.hex_of_id.specs.Hex.{hex_of}
 use Rattle.listing_text.specs.declared.Listed.{Listed}
@@ -47,13 +45,13 @@ abbrev pub longest : ℕ
 longest = 65536
 
 -- the text, and the verdict, of an object that was read
-unfoldable pub told_of : ℕ → List ℕ → List EntryRecord → Counted → List ℕ
-told_of h s es (Total n) = head n ++ lines h s es
-told_of h s es (Stopped v) = refusal v
+unfoldable pub told_of : ℕ → List ℕ → List EntryRecord → Result ℕ Verdict → List ℕ
+told_of h s es (Ok n) = head n ++ lines h s es
+told_of h s es (Err v) = refusal v
 
-unfoldable pub tally_verdict : Counted → Verdict
-tally_verdict (Total n) = fine
-tally_verdict (Stopped v) = v
+unfoldable pub tally_verdict : Result ℕ Verdict → Verdict
+tally_verdict (Ok n) = fine
+tally_verdict (Err v) = v
 
 -- the whole text where ids have one of the two lengths: a longer object is refused 2
 unfoldable pub text_of : ℕ → List ℕ → List ℕ

@@ -57,11 +57,8 @@ fn add_hex(out: &mut [u8], at: usize, bytes: &[u8]) -> usize
     ensures { Added out.old at (hex_of bytes.now) out.new result × (result ≤ at + 131072) }
 {
     let mut p = at;
-    let mut i: usize = 0;
-    while i < bytes.len() {
-        let b = bytes[i];
-        p = add(out, p, &[digit_of(b / 16), digit_of(b)]);
-        i += 1;
+    for b in bytes {
+        p = add(out, p, &[digit_of(*b / 16), digit_of(*b)]);
     }
     p
 }
@@ -84,20 +81,7 @@ fn piece(s: &[u8], from: usize, n: usize) -> &[u8]
 fn is_id_length(h: usize) -> bool
     ensures { result ≡ id_length h }
 {
-    if h == 20 {
-        return true;
-    }
-    h == 32
-}
-
-// How much more one number is than another.
-fn above(a: usize, b: usize) -> usize
-    ensures { result ≡ a - b }
-{
-    if a < b {
-        return 0;
-    }
-    a - b
+    h == 20 || h == 32
 }
 
 // A mode's text and the word of its kind, each with a space after it.
@@ -125,7 +109,7 @@ fn add_line(out: &mut [u8], at: usize, h: usize, s: &[u8], e: EntryRecord) -> us
     ensures { Added out.old at (line h s.now e) out.new result × (result ≤ at + 65664) }
 {
     let start = e.name_start;
-    let n = above(e.name_end, start);
+    let n = e.name_end.saturating_sub(start);
     let p = add_mode(out, at, e.mode);
     let q = add_hex(out, p, piece(s, e.id_start, h));
     let u = add(out, q, b" ");
@@ -140,10 +124,8 @@ fn add_lines(out: &mut [u8], at: usize, h: usize, s: &[u8], records: &[usize]) -
 {
     let n = records.len() / WIDTH;
     let mut p = at;
-    let mut i: usize = 0;
-    while i < n {
+    for i in 0..n {
         p = add_line(out, p, h, s, entry_at(records, i));
-        i += 1;
     }
     p
 }

@@ -11,16 +11,16 @@ use lib.Count.{leading_length}
 use borrow.Author.Tests.{eq-eqb, ne_eqb, lt-ltb, le-ltb}
 use Rattle.ground.specs.Verdict.{verdict, gate_of}
 use Rattle.ground.specs.declared.Verdict.{Verdict}
-use Rattle.ground.specs.declared.Gate.TheVariants.{Open, Shut}
 use Rattle.ground.proofs.Laws.{gate_shut}
 use Rattle.order.specs.Order.{name_order}
-use Rattle.order.specs.declared.Order.{Order}
-use Rattle.order.specs.declared.Order.TheVariants.{Below, Same, Above}
 use Rattle.entry.specs.declared.EntryRecord.{EntryRecord}
 use Rattle.entry.specs.Record.{well_formed, name_of, folder_of}
 use Rattle.lookup.specs.declared.Looked.{Looked}
 use Rattle.lookup.specs.Halving.{Met, bad, met, found, absent, declined, mid, turn, halving, search_from, most_comparisons}
 use Rattle.lookup.specs.Lookup.{compare_entry, nth, compare_at, lookup_in, any_in}
+use Rattle.std.specs.Prelude.{Err, Ok}
+use Rattle.std.specs.declared.cmp.Ordering.{Ordering}
+use Rattle.std.specs.declared.cmp.Ordering.TheVariants.{Equal, Greater, Less}
 
 -- ---- binary digits
 
@@ -51,9 +51,9 @@ module _ {low high : ℕ} (h : low < high) where
 turn-same : (o : Met) (g g' : ℕ → ℕ → ℕ → Looked) (low high m c : ℕ) → g (m + 1) high (c + 1) ≡ g' (m + 1) high (c + 1)
     → g low m (c + 1) ≡ g' low m (c + 1) → turn o g low high m c ≡ turn o g' low high m c
 turn-same bad g g' low high m c p q = refl
-turn-same (met Below) g g' low high m c p q = p
-turn-same (met Same) g g' low high m c p q = refl
-turn-same (met Above) g g' low high m c p q = q
+turn-same (met Less) g g' low high m c p q = p
+turn-same (met Equal) g g' low high m c p q = refl
+turn-same (met Greater) g g' low high m c p q = q
 
 halving_end : (f : ℕ → Met) (k low high c : ℕ) → high ≤ low → halving f k low high c ≡ absent c
 unfolding halving
@@ -95,18 +95,18 @@ search_more f low high c h =
 pub record Turns (f : ℕ → Met) (P : ℕ → ℕ → ℕ → Looked → Type 0) : Type 0 where
   pub ended : (low high c : ℕ) → high ≤ low → P low high c (absent c)
   pub broken : (low high c : ℕ) → low < high → f (mid low high) ≡ bad → P low high c (declined (verdict 10 (mid low high)))
-  pub below : (low high c : ℕ) (r : Looked) → low < high → f (mid low high) ≡ met Below → P (mid low high + 1) high (c + 1) r → P low high c r
-  pub same : (low high c : ℕ) → low < high → f (mid low high) ≡ met Same → P low high c (found (mid low high) (c + 1))
-  pub above : (low high c : ℕ) (r : Looked) → low < high → f (mid low high) ≡ met Above → P low (mid low high) (c + 1) r → P low high c r
+  pub below : (low high c : ℕ) (r : Looked) → low < high → f (mid low high) ≡ met Less → P (mid low high + 1) high (c + 1) r → P low high c r
+  pub same : (low high c : ℕ) → low < high → f (mid low high) ≡ met Equal → P low high c (found (mid low high) (c + 1))
+  pub above : (low high c : ℕ) (r : Looked) → low < high → f (mid low high) ≡ met Greater → P low (mid low high) (c + 1) r → P low high c r
 
 module _ (f : ℕ → Met) (P : ℕ → ℕ → ℕ → Looked → Type 0) (t : Turns f P) where
   one-turn : (low high c : ℕ) → low < high → P (mid low high + 1) high (c + 1) (search_from f (mid low high + 1) high (c + 1))
       → P low (mid low high) (c + 1) (search_from f low (mid low high) (c + 1)) → (o : Met) → f (mid low high) ≡ o
       → P low high c (turn o (search_from f) low high (mid low high) c)
   one-turn low high c h p q bad e = t.broken low high c h e
-  one-turn low high c h p q (met Below) e = t.below low high c _ h e p
-  one-turn low high c h p q (met Same) e = t.same low high c h e
-  one-turn low high c h p q (met Above) e = t.above low high c _ h e q
+  one-turn low high c h p q (met Less) e = t.below low high c _ h e p
+  one-turn low high c h p q (met Equal) e = t.same low high c h e
+  one-turn low high c h p q (met Greater) e = t.above low high c _ h e q
 
   within : (k low high c : ℕ) → high - low ≤ k → P low high c (search_from f low high c)
   within zero low high c a = rw (search-end f low high c (omega arith)) (t.ended low high c (omega arith))
@@ -154,7 +154,7 @@ module _ (h : ℕ) (object : List ℕ) (records : List EntryRecord) (name : List
     search_bad w = search_half bad (ap (compare_entry h object name folder) (sym read) ∙ met-bad h object name folder e w)
 
     -- by what the leaves answer that compare it
-    pub search_told : well_formed h (length object) e ≡ true → (o : Order) {sort : Bool} {r : Order} → sort ≡ folder_of e
+    pub search_told : well_formed h (length object) e ≡ true → (o : Ordering) {sort : Bool} {r : Ordering} → sort ≡ folder_of e
         → r ≡ name_order (name_of object e) sort name folder → r ≡ o
         → search_from how low high c ≡ turn (met o) (search_from how) low high ((low + high) / 2) c
     search_told w o {sort} {r} f k t =
@@ -164,11 +164,11 @@ module _ (h : ℕ) (object : List ℕ) (records : List EntryRecord) (name : List
 -- ---- the whole
 
 module _ (h : ℕ) (object : List ℕ) (records : List EntryRecord) (name : List ℕ) (folder : Bool) where
-  pub lookup-shut : (v : Verdict) → gate_of h (max (length object) (length name)) (length records) ≡ Shut v → lookup_in h object records name folder ≡ declined v
+  pub lookup-shut : (v : Verdict) → gate_of h (max (length object) (length name)) (length records) ≡ Err v → lookup_in h object records name folder ≡ declined v
   unfolding lookup_in
   lookup-shut v e = rw e
 
-  pub lookup_open : gate_of h (max (length object) (length name)) (length records) ≡ Open
+  pub lookup_open : gate_of h (max (length object) (length name)) (length records) ≡ Ok tt
       → lookup_in h object records name folder ≡ search_from (compare_at h object records name folder) 0 (length records) 0
   unfolding lookup_in
   lookup_open e = rw e
@@ -191,7 +191,7 @@ module _ (h : ℕ) (object : List ℕ) (records : List EntryRecord) (name : List
     any-second n = rw (← f, ← s) (simp (eq-eqb first.verdict.number 15 gone, ne_eqb second.verdict.number 10 n))
 
 pub any-shut : (h : ℕ) (object : List ℕ) (records : List EntryRecord) (name : List ℕ) (v : Verdict)
-    → gate_of h (max (length object) (length name)) (length records) ≡ Shut v → any_in h object records name ≡ declined v
+    → gate_of h (max (length object) (length name)) (length records) ≡ Err v → any_in h object records name ≡ declined v
 any-shut h object records name v e =
     any-first h object records name (sym (lookup-shut h object records name false v e))
     (⊎_elim

@@ -13,13 +13,9 @@ use lib.Dec.{eqb}
 use lib.ListN.{length, length-append}
 use Rattle.ground.specs.Basics.{pick}
 use Rattle.ground.specs.Verdict.{verdict, gate_of}
-use Rattle.ground.specs.declared.Gate.{Gate}
-use Rattle.ground.specs.declared.Gate.TheVariants.{Open, Shut}
 use Rattle.ground.specs.Scan.{free_of}
 use Rattle.ground.proofs.Laws.{gate_open, gate_fine}
 use Rattle.order.specs.Order.{by_number, opposite, name_order}
-use Rattle.order.specs.declared.Order.{Order}
-use Rattle.order.specs.declared.Order.TheVariants.{Below, Same, Above}
 use Rattle.order.proofs.Laws.{by_lt, by-eq, by_gt, by-below, by-same, by_above, order_flip, order_self, order_same, order_trans, order_slash}
 use Rattle.entry.specs.declared.EntryRecord.{EntryRecord}
 use Rattle.entry.specs.Record.{name_of, folder_of}
@@ -27,6 +23,10 @@ use Rattle.lookup.specs.declared.Looked.{Looked}
 use Rattle.lookup.specs.Halving.{Met, bad, met, found, absent, mid, turn, search_from, most_comparisons}
 use Rattle.lookup.specs.Lookup.{nth, compare_at, lookup_in, any_in, Allowed, standing, Sorted, Stands}
 use Rattle.lookup.proofs.Laws.{digits_are, mid-high, search-end, search_more, Turns, by_turns, met-good, lookup-shut, lookup_open}
+use Rattle.ground.specs.declared.Verdict.{Verdict}
+use Rattle.std.specs.Prelude.{Err, Ok, Result, ⊤}
+use Rattle.std.specs.declared.cmp.Ordering.{Ordering}
+use Rattle.std.specs.declared.cmp.Ordering.TheVariants.{Equal, Greater, Less}
 
 -- ---- how often it compares
 
@@ -52,12 +52,12 @@ pub lookup-count : (h : ℕ) (object : List ℕ) (records : List EntryRecord) (n
     → (lookup_in h object records name folder).compared ≤ most_comparisons (length records)
 lookup-count h object records name folder = go (gate_of h (max (length object) (length name)) (length records)) refl
   where
-    go : (g : Gate) → gate_of h (max (length object) (length name)) (length records) ≡ g
+    go : (g : Result ⊤ Verdict) → gate_of h (max (length object) (length name)) (length records) ≡ g
         → (lookup_in h object records name folder).compared ≤ most_comparisons (length records)
-    go Open e =
+    go (Ok tt) e =
         rw (lookup_open h object records name folder e)
         (search_count (compare_at h object records name folder) (length records) (omega (arith, gate_open h _ (length records) e)))
-    go (Shut v) e = rw (lookup-shut h object records name folder v e) (omega arith)
+    go (Err v) e = rw (lookup-shut h object records name folder v e) (omega arith)
 
 -- so the count is small
 pub looked-small : (h : ℕ) (object : List ℕ) (records : List EntryRecord) (name : List ℕ) (folder : Bool) {r : Looked} → r ≡ lookup_in h object records name folder
@@ -92,17 +92,17 @@ any-count h object records name = go (eqb first.verdict.number 15) (eqb second.v
 
 -- ---- the halving where no record is bad
 
-met-is : {m : Met} {o r : Order} → m ≡ met o → m ≡ met r → o ≡ r
+met-is : {m : Met} {o r : Ordering} → m ≡ met o → m ≡ met r → o ≡ r
 met-is e f = cc
 
-never_bad : {m : Met} {o : Order} → m ≡ met o → m ≡ bad → ⊥
+never_bad : {m : Met} {o : Ordering} → m ≡ met o → m ≡ bad → ⊥
 never_bad e f = let z : ◌≡◌ {A = ℕ} 0 1 = cc in omega arith
 
 -- what a search comes to: a record that compares as Same, or nothing
 abbrev Ends : (ℕ → Met) → ℕ → Looked → Type 0
-Ends f n r = ((i : ℕ) × (c : ℕ) × (r ≡ found i c) × (i < n) × (f i ≡ met Same)) ⊎ ((c : ℕ) × (r ≡ absent c))
+Ends f n r = ((i : ℕ) × (c : ℕ) × (r ≡ found i c) × (i < n) × (f i ≡ met Equal)) ⊎ ((c : ℕ) × (r ≡ absent c))
 
-module _ (f : ℕ → Met) (n : ℕ) (o : ℕ → Order) (good : (i : ℕ) → i < n → f i ≡ met (o i)) where
+module _ (f : ℕ → Met) (n : ℕ) (o : ℕ → Ordering) (good : (i : ℕ) → i < n → f i ≡ met (o i)) where
   ends : Turns f (λ low high c r. high ≤ n → Ends f n r)
   ends = record {
     ended = λ low high c h a. inr (c, refl);
@@ -138,22 +138,22 @@ module _ (f g : ℕ → Met) (n : ℕ) (agree : (i : ℕ) → i < n → f i ≡ 
   alike = record {
     ended = λ low high c h a. search-end g low high c h;
     broken = λ low high c h e a. turned low high c h a bad e;
-    below = λ low high c r h e ih a. turned low high c h a (met Below) e ∙ ih a;
-    same = λ low high c h e a. turned low high c h a (met Same) e;
-    above = λ low high c r h e ih a. turned low high c h a (met Above) e ∙ ih (omega (arith, mid-high h));
+    below = λ low high c r h e ih a. turned low high c h a (met Less) e ∙ ih a;
+    same = λ low high c h e a. turned low high c h a (met Equal) e;
+    above = λ low high c r h e ih a. turned low high c h a (met Greater) e ∙ ih (omega (arith, mid-high h));
   }
 
 -- ---- in a sorted listing
 
 module _ (h : ℕ) (object : List ℕ) (records : List EntryRecord) (g : Sorted h object records) where
   -- an earlier record is below a later one
-  earlier : (i j : ℕ) → i < j → j < length records → standing object records i j ≡ Below
+  earlier : (i j : ℕ) → i < j → j < length records → standing object records i j ≡ Less
   earlier i zero l m = absurd (omega arith)
   earlier i (suc j) l m =
-      let next : standing object records j (suc j) ≡ Below = subst (λ (k : ℕ). standing object records j k ≡ Below) (add-one j) (g.ascends j (omega arith)) in
+      let next : standing object records j (suc j) ≡ Less = subst (λ (k : ℕ). standing object records j k ≡ Less) (add-one j) (g.ascends j (omega arith)) in
       elim (dec_lt i j) [
         | yes k ↦ order_trans _ _ _ _ _ _ (earlier i j k (omega arith)) next
-        | no k ↦ let e : j ≡ i = omega arith in subst (λ (k : ℕ). standing object records k (suc j) ≡ Below) e next
+        | no k ↦ let e : j ≡ i = omega arith in subst (λ (k : ℕ). standing object records k (suc j) ≡ Less) e next
       ]
 
   -- two records stand to each other as their places do
@@ -170,14 +170,14 @@ module _ (h : ℕ) (object : List ℕ) (records : List EntryRecord) (g : Sorted 
     abbrev how : ℕ → Met
     how = compare_at h object records name folder
 
-    abbrev against : ℕ → Order
+    abbrev against : ℕ → Ordering
     against i = name_order (name_of object (nth records i)) (folder_of (nth records i)) name folder
 
     -- every record compares
     compares : (i : ℕ) → i < length records → how i ≡ met (against i)
     compares i l = met-good h object name folder (nth records i) (g.good i l)
 
-    found-stands : free_of 47 name ≡ true → (i : ℕ) → i < length records → how i ≡ met Same → Stands object records name folder i
+    found-stands : free_of 47 name ≡ true → (i : ℕ) → i < length records → how i ≡ met Equal → Stands object records name folder i
     found-stands free i l e =
         let s = order_same _ _ _ _ (g.slashless i l) free (met-is (compares i l) e) in
         record { inside = l; named = s.0; sort = s.1 }

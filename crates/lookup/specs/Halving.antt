@@ -4,16 +4,16 @@ use Rattle.std.specs.Int.Count.{count_leading_zeros}
 use Rattle.ground.specs.Basics.{pick}
 use Rattle.ground.specs.Verdict.{verdict, fine}
 use Rattle.ground.specs.declared.Verdict.{Verdict}
-use Rattle.order.specs.declared.Order.{Order}
-use Rattle.order.specs.declared.Order.TheVariants.{Below, Same, Above}
 use Rattle.lookup.specs.declared.Ended.{Ended}
 use Rattle.lookup.specs.declared.Ended.TheVariants.{Found, Bad, Absent}
 use Rattle.lookup.specs.declared.Looked.{Looked}
+use Rattle.std.specs.declared.cmp.Ordering.{Ordering}
+use Rattle.std.specs.declared.cmp.Ordering.TheVariants.{Equal, Greater, Less}
 
 -- what comparing a record gives: it is not well formed, or it stands so to the name sought
 pub data Met : Type 0 where
   bad : Met
-  met : Order → Met
+  met : Ordering → Met
 
 -- the answers: found at an index, not there, refused; c records were compared
 abbrev pub found : ℕ → ℕ → Looked
@@ -38,9 +38,9 @@ mid low high = low + (high - low) / 2
 -- how the search goes on after record m was met, c records having been compared before it
 abbrev pub turn : Met → (ℕ → ℕ → ℕ → Looked) → ℕ → ℕ → ℕ → ℕ → Looked
 turn bad again low high m c = declined (verdict 10 m)
-turn (met Below) again low high m c = again (m + 1) high (c + 1)
-turn (met Same) again low high m c = found m (c + 1)
-turn (met Above) again low high m c = again low m (c + 1)
+turn (met Less) again low high m c = again (m + 1) high (c + 1)
+turn (met Equal) again low high m c = found m (c + 1)
+turn (met Greater) again low high m c = again low m (c + 1)
 
 -- at most as many turns as the first number says
 unfoldable pub halving : (ℕ → Met) → ℕ → ℕ → ℕ → ℕ → Looked

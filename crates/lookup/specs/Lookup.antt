@@ -1,17 +1,16 @@
 -- The lookup of a name in a list of records, and the sorted listings it is meant for (docs/FORMAT.md, "Lookup"). Assumes nothing.
-use Rattle.std.specs.Prelude.{ℕ, ◌+◌, ◌<◌, max, ◌≡◌, Bool, true, false, List, eqb, length, get_or}
+use Rattle.std.specs.Prelude.{ℕ, ◌+◌, ◌<◌, max, ◌≡◌, Bool, true, false, List, eqb, length, get_or, Err, Ok, Result, ⊤}
 use Rattle.ground.specs.Basics.{pick}
 use Rattle.ground.specs.Verdict.{gate_of}
 use Rattle.ground.specs.Scan.{free_of}
-use Rattle.ground.specs.declared.Gate.{Gate}
-use Rattle.ground.specs.declared.Gate.TheVariants.{Open, Shut}
 use Rattle.order.specs.Order.{name_order}
-use Rattle.order.specs.declared.Order.{Order}
-use Rattle.order.specs.declared.Order.TheVariants.{Below}
 use Rattle.entry.specs.declared.EntryRecord.{EntryRecord}
 use Rattle.entry.specs.Record.{no_record, well_formed, name_of, folder_of}
 use Rattle.lookup.specs.declared.Looked.{Looked}
 use Rattle.lookup.specs.Halving.{Met, bad, met, declined, search_from}
+use Rattle.ground.specs.declared.Verdict.{Verdict}
+use Rattle.std.specs.declared.cmp.Ordering.{Ordering}
+use Rattle.std.specs.declared.cmp.Ordering.TheVariants.{Less}
 
 -- a record against the name and the sort sought
 unfoldable pub compare_entry : ℕ → List ℕ → List ℕ → Bool → EntryRecord → Met
@@ -27,9 +26,9 @@ abbrev pub compare_at : ℕ → List ℕ → List EntryRecord → List ℕ → B
 compare_at h object records name folder i = compare_entry h object name folder (nth records i)
 
 -- what the search answers where the gate is open, and the gate's refusal where it is shut
-abbrev pub behind : Gate → Looked → Looked
-behind Open r = r
-behind (Shut v) r = declined v
+abbrev pub behind : Result ⊤ Verdict → Looked → Looked
+behind (Ok tt) r = r
+behind (Err v) r = declined v
 
 -- the whole: refusals 1 and 2, then the halving between 0 and the number of records
 unfoldable pub lookup_in : ℕ → List ℕ → List EntryRecord → List ℕ → Bool → Looked
@@ -50,17 +49,17 @@ any_in h object records name =
 
 -- the lookup is within the bounds
 abbrev pub Allowed : ℕ → List ℕ → List EntryRecord → List ℕ → Type 0
-Allowed h object records name = gate_of h (max (length object) (length name)) (length records) ≡ Open
+Allowed h object records name = gate_of h (max (length object) (length name)) (length records) ≡ Ok tt
 
 -- how record i stands to record j
-abbrev pub standing : List ℕ → List EntryRecord → ℕ → ℕ → Order
+abbrev pub standing : List ℕ → List EntryRecord → ℕ → ℕ → Ordering
 standing object records i j =
     name_order (name_of object (nth records i)) (folder_of (nth records i)) (name_of object (nth records j)) (folder_of (nth records j))
 
 -- a sorted listing: the records are well formed, each is after the one before it, and no name has a slash
 pub record Sorted (h : ℕ) (object : List ℕ) (records : List EntryRecord) : Type 0 where
   pub good : (i : ℕ) → i < length records → well_formed h (length object) (nth records i) ≡ true
-  pub ascends : (i : ℕ) → i + 1 < length records → standing object records i (i + 1) ≡ Below
+  pub ascends : (i : ℕ) → i + 1 < length records → standing object records i (i + 1) ≡ Less
   pub slashless : (i : ℕ) → i < length records → free_of 47 (name_of object (nth records i)) ≡ true
 
 -- record i is there, and has the name and the sort

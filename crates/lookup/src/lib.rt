@@ -7,8 +7,8 @@ ghost use Rattle.lookup.specs.Halving.{most_comparisons, told_of};
 ghost use Rattle.lookup.specs.Lookup.{nth, lookup_in, any_in, Allowed};
 
 use entry::EntryRecord;
-use ground::{BAD_RECORD, FINE, Gate, NOT_THERE, Verdict};
-use order::Order;
+use ground::{BAD_RECORD, FINE, NOT_THERE, Verdict};
+use std::cmp::Ordering;
 
 // The answer of a lookup: the index of what was found, and how many records were compared.
 #[derive(Clone, Copy)]
@@ -60,14 +60,14 @@ fn searched(object: &[u8], h: usize, records: &[usize], name: &[u8], folder: boo
             let end = e.name_end;
             let tree = entry_record::is_folder(e);
             match compare::name_order(&object[first..end], tree, name, folder) {
-                Order::Below => {
+                Ordering::Less => {
                     low = middle + 1;
                     continue;
                 }
-                Order::Same => {
+                Ordering::Equal => {
                     return Ended::Found(middle, compared);
                 }
-                Order::Above => {
+                Ordering::Greater => {
                     high = middle;
                     continue;
                 }
@@ -114,8 +114,8 @@ pub fn bisect_entry(object: &[u8], h: usize, records: &[usize], name: &[u8], fol
 {
     let n = records.len() / entry_record::WIDTH;
     match ground::bounds(h, ground::longer(object.len(), name.len()), n) {
-        Gate::Open => told(searched(object, h, records, name, folder)),
-        Gate::Shut(v) => Looked {
+        Ok(()) => told(searched(object, h, records, name, folder)),
+        Err(v) => Looked {
             verdict: v,
             index: 0,
             compared: 0,
@@ -152,8 +152,8 @@ pub fn bisect_any(object: &[u8], h: usize, records: &[usize], name: &[u8]) -> Lo
 {
     let n = records.len() / entry_record::WIDTH;
     match ground::bounds(h, ground::longer(object.len(), name.len()), n) {
-        Gate::Open => searched_any(object, h, records, name),
-        Gate::Shut(v) => Looked {
+        Ok(()) => searched_any(object, h, records, name),
+        Err(v) => Looked {
             verdict: v,
             index: 0,
             compared: 0,

@@ -16,8 +16,6 @@ use Rattle.ground.specs.Basics.{pick}
 use Rattle.ground.specs.Verdict.{verdict, fine, counted, refused, gate_of, stored}
 use Rattle.ground.specs.declared.Verdict.{Verdict}
 use Rattle.ground.specs.declared.Answer.{Answer}
-use Rattle.ground.specs.declared.Gate.{Gate}
-use Rattle.ground.specs.declared.Gate.TheVariants.{Open, Shut}
 use Rattle.ground.proofs.Laws.{gate_shut, sets_append, sets_front, stored-done, stored_refused}
 use Rattle.output.proofs.Laws.{sets-none, sets-past, gated-shut, gated_open}
 use Rattle.entry.specs.Record.{records_of}
@@ -27,6 +25,7 @@ use Rattle.lookup.specs.Halving.{declined}
 use Rattle.lookup.specs.declared.Looked.{Looked}
 use Rattle.lookups.specs.Many.{width, many, no_sought, sought_of, well_sought, single, one_answer, first_bad, kept, all_kept, unless_bad, and_room, first_gate, many_answer}
 use Rattle.lookups.specs.declared.Sought.{Sought}
+use Rattle.std.specs.Prelude.{Err, Ok, Result, ⊤}
 
 -- ---- the sought names in flat numbers
 
@@ -245,52 +244,52 @@ module _ (h bytes records n room inner most : ℕ) (a : inner ≡ max n room) (b
   most-is : max records (max n room) ≡ most
   most-is = ap (max records) (sym a) ∙ sym b
 
-  pub first-shut : (v : Verdict) → gate_of h bytes most ≡ Shut v → first_gate h bytes records n room ≡ Shut v
+  pub first-shut : (v : Verdict) → gate_of h bytes most ≡ Err v → first_gate h bytes records n room ≡ Err v
   unfolding first_gate
   first-shut v g = rw (most-is, g)
 
-  module _ (g : gate_of h bytes most ≡ Open) where
-    pub first_short : room < n → first_gate h bytes records n room ≡ Shut (verdict 4 n)
+  module _ (g : gate_of h bytes most ≡ Ok tt) where
+    pub first_short : room < n → first_gate h bytes records n room ≡ Err (verdict 4 n)
     unfolding first_gate
     first_short p = rw (most-is, g) (simp (lt-leb n room p))
 
-    pub first_open : n ≤ room → first_gate h bytes records n room ≡ Open
+    pub first_open : n ≤ room → first_gate h bytes records n room ≡ Ok tt
     unfolding first_gate
     first_open p = rw (most-is, g) (simp (le-leb n room p))
 
 -- a call that may begin has room
-pub first-room : (h bytes records n room : ℕ) → first_gate h bytes records n room ≡ Open → (gate_of h bytes (max records (max n room)) ≡ Open) × (n ≤ room)
+pub first-room : (h bytes records n room : ℕ) → first_gate h bytes records n room ≡ Ok tt → (gate_of h bytes (max records (max n room)) ≡ Ok tt) × (n ≤ room)
 unfolding first_gate
 first-room h bytes records n room e = go (gate_of h bytes (max records (max n room))) refl e
   where
-    last : (v : Bool) → leb n room ≡ v → pick v Open (Shut (verdict 4 n)) ≡ Open → n ≤ room
+    last : (v : Bool) → leb n room ≡ v → pick {A = Result ⊤ Verdict} v (Ok tt) (Err (verdict 4 n)) ≡ Ok tt → n ≤ room
     last true q e = leb-true n room q
     last false q e = let z : ◌≡◌ {A = ℕ} 0 1 = cc in absurd (omega arith)
 
-    go : (g : Gate) → gate_of h bytes (max records (max n room)) ≡ g → and_room n room g ≡ Open → (gate_of h bytes (max records (max n room)) ≡ Open) × (n ≤ room)
-    go Open q e = (q, last (leb n room) refl e)
-    go (Shut v) q e = let z : ◌≡◌ {A = ℕ} 0 1 = cc in absurd (omega arith)
+    go : (g : Result ⊤ Verdict) → gate_of h bytes (max records (max n room)) ≡ g → and_room n room g ≡ Ok tt → (gate_of h bytes (max records (max n room)) ≡ Ok tt) × (n ≤ room)
+    go (Ok tt) q e = (q, last (leb n room) refl e)
+    go (Err v) q e = let z : ◌≡◌ {A = ℕ} 0 1 = cc in absurd (omega arith)
 
 -- a call that may not is refused 1, 2 or 4
-pub first-refuses : (h bytes records n room : ℕ) (v : Verdict) → first_gate h bytes records n room ≡ Shut v
+pub first-refuses : (h bytes records n room : ℕ) (v : Verdict) → first_gate h bytes records n room ≡ Err v
     → (v.number ≡ 1) ⊎ ((v.number ≡ 2) ⊎ (v.number ≡ 4))
 unfolding first_gate
 first-refuses h bytes records n room v e = go (gate_of h bytes (max records (max n room))) refl e
   where
-    number : {w : Verdict} → Shut w ≡ Shut v → w.number ≡ v.number
+    number : {w : Verdict} → ◌≡◌ {A = Result ⊤ Verdict} (Err w) (Err v) → w.number ≡ v.number
     number {w} q = let e : w ≡ v = cc in ap (λ (x : Verdict). x.number) e
 
-    last : (t : Bool) → pick t Open (Shut (verdict 4 n)) ≡ Shut v → (v.number ≡ 1) ⊎ ((v.number ≡ 2) ⊎ (v.number ≡ 4))
+    last : (t : Bool) → pick {A = Result ⊤ Verdict} t (Ok tt) (Err (verdict 4 n)) ≡ Err v → (v.number ≡ 1) ⊎ ((v.number ≡ 2) ⊎ (v.number ≡ 4))
     last true q = let z : ◌≡◌ {A = ℕ} 0 1 = cc in absurd (omega arith)
     last false q = inr (inr (sym (number q)))
 
-    go : (g : Gate) → gate_of h bytes (max records (max n room)) ≡ g → and_room n room g ≡ Shut v → (v.number ≡ 1) ⊎ ((v.number ≡ 2) ⊎ (v.number ≡ 4))
-    go Open q e = last (leb n room) e
-    go (Shut w) q e =
+    go : (g : Result ⊤ Verdict) → gate_of h bytes (max records (max n room)) ≡ g → and_room n room g ≡ Err v → (v.number ≡ 1) ⊎ ((v.number ≡ 2) ⊎ (v.number ≡ 4))
+    go (Ok tt) q e = last (leb n room) e
+    go (Err w) q e =
         let s : w.number ≡ v.number = number e in
         ⊎_elim (λ k. inl (sym s ∙ ap (λ (x : Verdict). x.number) k)) (λ k. inr (inl (sym s ∙ ap (λ (x : Verdict). x.number) k))) (gate_shut _ _ _ w q)
 
-pub first-number : (h bytes records n room : ℕ) (v : Verdict) → first_gate h bytes records n room ≡ Shut v → v.number ≡ 0 → ⊥
+pub first-number : (h bytes records n room : ℕ) (v : Verdict) → first_gate h bytes records n room ≡ Err v → v.number ≡ 0 → ⊥
 first-number h bytes records n room v e z =
     ⊎_elim (λ q. omega arith) (λ r. ⊎_elim (λ q. omega arith) (λ q. omega arith) r) (first-refuses h bytes records n room v e)
 
@@ -315,17 +314,17 @@ module _ (h : ℕ) (object records names sought : List ℕ) (numbers bytes count
       ≡ first_gate h bytes count (many (length sought)) (many numbers)
   gate_is = rw (sym b, records-many records, sym c)
 
-  pub many-shut : (v : Verdict) → first_gate h bytes count (many (length sought)) (many numbers) ≡ Shut v → many_answer h object records names sought numbers ≡ refused v
+  pub many-shut : (v : Verdict) → first_gate h bytes count (many (length sought)) (many numbers) ≡ Err v → many_answer h object records names sought numbers ≡ refused v
   unfolding many_answer
   many-shut v g = gated-shut _ v _ (gate_is ∙ g)
 
-  many_open : first_gate h bytes count (many (length sought)) (many numbers) ≡ Open
+  many_open : first_gate h bytes count (many (length sought)) (many numbers) ≡ Ok tt
       → many_answer h object records names sought numbers ≡ unless_bad (first_bad (one_answer h object records names) 0 (sought_of sought)) (many (length sought))
   unfolding many_answer
   many_open g = gated_open _ _ (gate_is ∙ g)
 
   -- the call's answer and the list after it, from the verdict on the names
-  pub many_ran : first_gate h bytes count (many (length sought)) (many numbers) ≡ Open → (r : Answer)
+  pub many_ran : first_gate h bytes count (many (length sought)) (many numbers) ≡ Ok tt → (r : Answer)
       → r ≡ unless_bad (first_bad (one_answer h object records names) 0 (sought_of sought)) (many (length sought)) → (l out after : List ℕ) → after ≡ stored r.verdict l out
       → (r ≡ many_answer h object records names sought numbers) × (after ≡ stored (many_answer h object records names sought numbers).verdict l out)
   many_ran g r p l out after s =

@@ -13,8 +13,6 @@ use Rattle.ground.specs.Basics.{pick, part}
 use Rattle.ground.specs.Verdict.{verdict, counted, refused, most_bytes, most_records}
 use Rattle.ground.specs.declared.Verdict.{Verdict}
 use Rattle.ground.specs.declared.Answer.{Answer}
-use Rattle.ground.specs.declared.Gate.{Gate}
-use Rattle.ground.specs.declared.Gate.TheVariants.{Open, Shut}
 use Rattle.ground.proofs.Laws.{gate_open, gate_fine, stored-done, stored_refused}
 use Rattle.output.specs.Output.{gated}
 use Rattle.entry.specs.Record.{records_of}
@@ -27,6 +25,7 @@ use Rattle.lookups.specs.Many.{width, many, no_sought, sought_of, well_sought, s
 use Rattle.lookups.specs.Demand.{name_at, EachSingle, FirstMet}
 use Rattle.lookups.specs.declared.Sought.{Sought}
 use Rattle.lookups.proofs.Laws.{sought-many, first-room, first-refuses}
+use Rattle.std.specs.Prelude.{Err, Ok, Result, ⊤}
 
 -- ---- the first pass
 
@@ -143,20 +142,20 @@ module _ (h : ℕ) (object records names sought : List ℕ) (numbers : ℕ) wher
   abbrev qs : List Sought
   qs = sought_of sought
 
-  abbrev begun-by : Gate
+  abbrev begun-by : Result ⊤ Verdict
   begun-by = first_gate h (max (length object) (length names)) (length (records_of records)) (many (length sought)) (many numbers)
 
   -- a call that was not refused 1, 2 or 4 began
   begun : (a : Answer) → many_answer h object records names sought numbers ≡ a
       → (a.verdict.number ≡ 1 → ⊥) → (a.verdict.number ≡ 2 → ⊥) → (a.verdict.number ≡ 4 → ⊥)
-      → (begun-by ≡ Open) × (unless_bad (first_bad f 0 qs) (many (length sought)) ≡ a)
+      → (begun-by ≡ Ok tt) × (unless_bad (first_bad f 0 qs) (many (length sought)) ≡ a)
   unfolding many_answer gated
   begun a e x y w = go begun-by refl e
     where
-      go : (g : Gate) → begun-by ≡ g → gated g (unless_bad (first_bad f 0 qs) (many (length sought))) ≡ a
-          → (begun-by ≡ Open) × (unless_bad (first_bad f 0 qs) (many (length sought)) ≡ a)
-      go Open p e = (p, e)
-      go (Shut v) p e =
+      go : (g : Result ⊤ Verdict) → begun-by ≡ g → gated g (unless_bad (first_bad f 0 qs) (many (length sought))) ≡ a
+          → (begun-by ≡ Ok tt) × (unless_bad (first_bad f 0 qs) (many (length sought)) ≡ a)
+      go (Ok tt) p e = (p, e)
+      go (Err v) p e =
           let z : a.verdict.number ≡ v.number = sym (ap (λ (b : Answer). b.verdict.number) e) in
           absurd (⊎_elim (λ q. x (z ∙ q)) (λ r. ⊎_elim (λ q. y (z ∙ q)) (λ q. w (z ∙ q)) r) (first-refuses h _ _ _ _ v p))
 

@@ -1,11 +1,9 @@
 -- Many lookups in one call: the single call's answers in a row (docs/FORMAT.md, "Many lookups"). Assumes nothing.
-use Rattle.std.specs.Prelude.{ℕ, ◌+◌, ◌/◌, max, Bool, ◌&&◌, List, [], ◌∷◌, ◌++◌, eqb, leb, length}
+use Rattle.std.specs.Prelude.{ℕ, ◌+◌, ◌/◌, max, Bool, ◌&&◌, List, [], ◌∷◌, ◌++◌, eqb, leb, length, Err, Ok, Result, ⊤}
 use Rattle.ground.specs.Basics.{pick, part}
 use Rattle.ground.specs.Verdict.{verdict, fine, counted, refused, gate_of, stored}
 use Rattle.ground.specs.declared.Verdict.{Verdict}
 use Rattle.ground.specs.declared.Answer.{Answer}
-use Rattle.ground.specs.declared.Gate.{Gate}
-use Rattle.ground.specs.declared.Gate.TheVariants.{Open, Shut}
 use Rattle.output.specs.Output.{gated}
 use Rattle.entry.specs.Record.{records_of}
 use Rattle.lookup.specs.Halving.{declined}
@@ -63,12 +61,12 @@ abbrev pub unless_bad : Verdict → ℕ → Answer
 unless_bad v n = pick (eqb v.number 0) (counted n) (refused v)
 
 -- where a call may begin, 4 with the number of names if there is room for fewer answers
-abbrev pub and_room : ℕ → ℕ → Gate → Gate
-and_room n room Open = pick (leb n room) Open (Shut (verdict 4 n))
-and_room n room (Shut v) = Shut v
+abbrev pub and_room : ℕ → ℕ → Result ⊤ Verdict → Result ⊤ Verdict
+and_room n room (Ok tt) = pick (leb n room) (Ok tt) (Err (verdict 4 n))
+and_room n room (Err v) = Err v
 
 -- 1, 2 for the longest bytes and the longest of three lists, then 4
-unfoldable pub first_gate : ℕ → ℕ → ℕ → ℕ → ℕ → Gate
+unfoldable pub first_gate : ℕ → ℕ → ℕ → ℕ → ℕ → Result ⊤ Verdict
 first_gate h bytes records n room = and_room n room (gate_of h bytes (max records (max n room)))
 
 -- the whole: 1, 2, 4, then 10

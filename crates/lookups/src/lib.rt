@@ -9,7 +9,7 @@ ghost use Rattle.ground.specs.Verdict.{stored};
 ghost use Rattle.lookups.specs.Many.{width, many, no_sought, sought_of, well_sought, one_answer, first_bad, kept, all_kept, first_gate, unless_bad, many_answer, answers_after};
 
 use entry_record::WIDTH;
-use ground::{Answer, BAD_RECORD, DONE, FEW_RECORDS, FINE, Gate, Verdict, bounds, longer};
+use ground::{Answer, BAD_RECORD, DONE, FEW_RECORDS, FINE, Verdict, bounds, longer};
 use lookup::{Looked, bisect_entry};
 
 // The numbers of a sought name, and those of a stored answer.
@@ -52,10 +52,7 @@ fn sought_at(sought: &[usize], i: usize) -> Sought
 fn well_sought(q: Sought, len: usize) -> bool
     ensures { result ≡ well_sought len q }
 {
-    if q.end < q.start {
-        return false;
-    }
-    if len < q.end {
+    if q.end < q.start || len < q.end {
         return false;
     }
     q.mark <= 1
@@ -102,8 +99,7 @@ fn each(
     ensures answers_after { result.number ≡ 0 → answers.new ≡ sets answers.old (from * width) (all_kept (one_answer h object.now records.now names.now) (drop from (sought_of sought.now))) }
 {
     let n = sought.len() / EACH;
-    let mut i = from;
-    while i < n {
+    for i in from..n {
         let q = sought_at(sought, i);
         let a = look(object, h, records, names, q);
         if a.verdict.number == BAD_RECORD {
@@ -114,7 +110,6 @@ fn each(
             };
         }
         put_answer(answers, i, a);
-        i += 1;
     }
     FINE
 }
@@ -124,14 +119,8 @@ fn copy(answers: &mut [usize], own: &[usize], count: usize)
     requires { count ≤ length answers.old }
     ensures { answers.new ≡ sets answers.old 0 (take count own.now) }
 {
-    let mut i = 0;
-    while i < count {
-        if own.len() <= i {
-            return;
-        }
-        answers[i] = own[i];
-        i += 1;
-    }
+    let n = count.min(own.len());
+    answers[..n].copy_from_slice(&own[..n]);
 }
 
 // Every name looked up, and where none is refused every answer stored, for which there is room, and their number answered.
@@ -166,20 +155,20 @@ fn look_all(
 }
 
 // Refusals 1, 2 and 4, by the lengths of what is lent: the longest bytes, the records, the names and the answers.
-fn begins(h: usize, bytes: usize, records: usize, n: usize, room: usize) -> Gate
+fn begins(h: usize, bytes: usize, records: usize, n: usize, room: usize) -> Result<(), Verdict>
     ensures { result ≡ first_gate h bytes records n room }
 {
     match bounds(h, bytes, longer(records, longer(n, room))) {
-        Gate::Shut(v) => Gate::Shut(v),
-        Gate::Open => {
+        Err(v) => Err(v),
+        Ok(()) => {
             if room < n {
-                return Gate::Shut(Verdict {
+                return Err(Verdict {
                     number: FEW_RECORDS,
                     place: n,
                     ..FINE
                 });
             }
-            Gate::Open
+            Ok(())
         }
     }
 }
@@ -204,10 +193,10 @@ pub fn bisect_entries(
         sought.len() / EACH,
         answers.len() / EACH,
     ) {
-        Gate::Shut(v) => Answer {
+        Err(v) => Answer {
             verdict: v,
             count: 0,
         },
-        Gate::Open => look_all(object, h, records, names, sought, answers),
+        Ok(()) => look_all(object, h, records, names, sought, answers),
     }
 }

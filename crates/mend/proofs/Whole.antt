@@ -13,14 +13,11 @@ use Rattle.ground.specs.Basics.{pick}
 use Rattle.ground.specs.Verdict.{verdict, fine, counted, refused, most_bytes, most_records, gate_of, stored}
 use Rattle.ground.specs.declared.Verdict.{Verdict}
 use Rattle.ground.specs.declared.Answer.{Answer}
-use Rattle.ground.specs.declared.Gate.TheVariants.{Open, Shut}
 use Rattle.ground.proofs.Laws.{sets_front, stored-done, stored_refused, gate_open, gate_fine, gate_shut, id_small}
 use Rattle.entry.specs.declared.EntryRecord.{EntryRecord}
 use Rattle.reading.specs.Listing.{listing, tally, records_in}
 use Rattle.reading.specs.Whole.{answer_of}
 use Rattle.reading.specs.Whole as reading
-use Rattle.reading.specs.declared.Counted.{Counted}
-use Rattle.reading.specs.declared.Counted.TheVariants.{Total, Stopped}
 use Rattle.reading.proofs.Laws.{tally-length, tally_stops, plain_stops, plain-refuses, Stops, Refusal, answer-counted}
 use Rattle.keys.specs.Key.{key_at, below_by}
 use Rattle.sorting.specs.Sort.{sort_by}
@@ -30,6 +27,7 @@ use Rattle.mend_kept.specs.Code.{chosen, element_of, elements, Known, code_fates
 use Rattle.mend.specs.declared.Mended.{Mended}
 use Rattle.mend_kept.proofs.Fates.{reads_all, sorted-known, fates_are, kept-elements}
 use Rattle.mend_kept.proofs.Sorts.{mended-is, mended-length, size-kept, sized_of}
+use Rattle.std.specs.Prelude.{Err, Ok, Result}
 
 -- ---- lengths
 
@@ -68,7 +66,7 @@ module _ (below : ℕ → ℕ → Bool) (list c : List ℕ) (few : length c ≤ 
 
 -- ---- a mending with room enough for elements
 
-module _ (h : ℕ) (s : List ℕ) (long : 20 ≤ h) (count : ℕ) (t : tally 0 (listing h s) ≡ Total count) (fates : List ℕ) where
+module _ (h : ℕ) (s : List ℕ) (long : 20 ≤ h) (count : ℕ) (t : tally 0 (listing h s) ≡ Ok count) (fates : List ℕ) where
   many_are : count ≡ length (records_in (listing h s))
   many_are = omega (arith, tally-length 0 (listing h s) count t)
 
@@ -157,15 +155,15 @@ module _ (h : ℕ) (s : List ℕ) (count need : ℕ) (fates out : List ℕ) (n :
   )
 
 module _ (h : ℕ) (s : List ℕ) (list room : ℕ) where
-  pub counted_stopped : (v : Verdict) → tally 0 (listing h s) ≡ Stopped v → counted_answer h s list room (tally 0 (listing h s)) ≡ not_mended v
+  pub counted_stopped : (v : Verdict) → tally 0 (listing h s) ≡ Err v → counted_answer h s list room (tally 0 (listing h s)) ≡ not_mended v
   unfolding counted_answer
   counted_stopped v q = rw q refl
 
-  pub counted-short : (n : ℕ) → tally 0 (listing h s) ≡ Total n → list < n → counted_answer h s list room (tally 0 (listing h s)) ≡ not_mended (verdict 4 n)
+  pub counted-short : (n : ℕ) → tally 0 (listing h s) ≡ Ok n → list < n → counted_answer h s list room (tally 0 (listing h s)) ≡ not_mended (verdict 4 n)
   unfolding counted_answer
   counted-short n q p = rw (q, lt-leb n list p) refl
 
-  pub counted-fine : (n : ℕ) → tally 0 (listing h s) ≡ Total n → n ≤ list
+  pub counted-fine : (n : ℕ) → tally 0 (listing h s) ≡ Ok n → n ≤ list
       → counted_answer h s list room (tally 0 (listing h s)) ≡ in_room room (length (mended h s)) n
   unfolding counted_answer
   counted-fine n q p = rw (q, le-leb n list p) refl
@@ -175,46 +173,46 @@ module _ (h : ℕ) (s : List ℕ) (a : Answer) (q : a ≡ reading.in_room 0 (tal
   four : Stops (λ (v : Verdict). v.number ≡ 4 → ⊥) (listing h s)
   four = plain_stops (λ (v : Verdict). v.number ≡ 4 → ⊥) (λ e. omega arith) (λ at k p e. omega arith) h most_records 0 s
 
-  stops : (v : Verdict) → tally 0 (listing h s) ≡ Stopped v → (v.number ≡ 0 → ⊥) × (v.number ≡ 4 → ⊥)
+  stops : (v : Verdict) → tally 0 (listing h s) ≡ Err v → (v.number ≡ 0 → ⊥) × (v.number ≡ 4 → ⊥)
   stops v t = (tally_stops Refusal 0 (listing h s) v (plain-refuses h s) t, tally_stops (λ (v : Verdict). v.number ≡ 4 → ⊥) 0 (listing h s) v four t)
 
-  pub read_none : a.verdict.number ≡ 0 → tally 0 (listing h s) ≡ Total 0
+  pub read_none : a.verdict.number ≡ 0 → tally 0 (listing h s) ≡ Ok 0
   read_none z = go (tally 0 (listing h s)) refl q
     where
       last : (n : ℕ) (b : Bool) → leb n 0 ≡ b → a ≡ pick b (counted n) (refused (verdict 4 n)) → n ≡ 0
       last n true l e = omega (arith, leb-true n 0 l)
       last n false l e = let y : ◌≡◌ {A = ℕ} 4 0 = ap (λ (x : Answer). x.verdict.number) (sym e) ∙ z in absurd (omega arith)
 
-      go : (k : Counted) → tally 0 (listing h s) ≡ k → a ≡ reading.in_room 0 k → k ≡ Total 0
-      go (Total n) t e = ap Total (last n (leb n 0) refl e)
-      go (Stopped v) t e = absurd ((stops v t).0 (ap (λ (x : Answer). x.verdict.number) (sym e) ∙ z))
+      go : (k : Result ℕ Verdict) → tally 0 (listing h s) ≡ k → a ≡ reading.in_room 0 k → k ≡ Ok 0
+      go (Ok n) t e = ap Ok (last n (leb n 0) refl e)
+      go (Err v) t e = absurd ((stops v t).0 (ap (λ (x : Answer). x.verdict.number) (sym e) ∙ z))
 
-  pub read-many : a.verdict.number ≡ 4 → (a.verdict ≡ verdict 4 a.verdict.place) × (tally 0 (listing h s) ≡ Total a.verdict.place)
+  pub read-many : a.verdict.number ≡ 4 → (a.verdict ≡ verdict 4 a.verdict.place) × (tally 0 (listing h s) ≡ Ok a.verdict.place)
   read-many z = go (tally 0 (listing h s)) refl q
     where
       last : (n : ℕ) (b : Bool) → a ≡ pick b (counted n) (refused (verdict 4 n)) → (a.verdict ≡ verdict 4 a.verdict.place) × (n ≡ a.verdict.place)
       last n true e = let y : ◌≡◌ {A = ℕ} 0 4 = ap (λ (x : Answer). x.verdict.number) (sym e) ∙ z in absurd (omega arith)
       last n false e = (rw e refl, rw e refl)
 
-      go : (k : Counted) → tally 0 (listing h s) ≡ k → a ≡ reading.in_room 0 k → (a.verdict ≡ verdict 4 a.verdict.place) × (k ≡ Total a.verdict.place)
-      go (Total n) t e = let w = last n (leb n 0) e in (w.0, ap Total w.1)
-      go (Stopped v) t e = absurd ((stops v t).1 (ap (λ (x : Answer). x.verdict.number) (sym e) ∙ z))
+      go : (k : Result ℕ Verdict) → tally 0 (listing h s) ≡ k → a ≡ reading.in_room 0 k → (a.verdict ≡ verdict 4 a.verdict.place) × (k ≡ Ok a.verdict.place)
+      go (Ok n) t e = let w = last n (leb n 0) e in (w.0, ap Ok w.1)
+      go (Err v) t e = absurd ((stops v t).1 (ap (λ (x : Answer). x.verdict.number) (sym e) ∙ z))
 
-  pub read_stopped : (a.verdict.number ≡ 0 → ⊥) → (a.verdict.number ≡ 4 → ⊥) → tally 0 (listing h s) ≡ Stopped a.verdict
+  pub read_stopped : (a.verdict.number ≡ 0 → ⊥) → (a.verdict.number ≡ 4 → ⊥) → tally 0 (listing h s) ≡ Err a.verdict
   read_stopped y z = go (tally 0 (listing h s)) q
     where
-      last : (n : ℕ) (b : Bool) → a ≡ pick b (counted n) (refused (verdict 4 n)) → Total n ≡ Stopped a.verdict
+      last : (n : ℕ) (b : Bool) → a ≡ pick b (counted n) (refused (verdict 4 n)) → Ok n ≡ Err a.verdict
       last n true e = absurd (y (ap (λ (x : Answer). x.verdict.number) e))
       last n false e = absurd (z (ap (λ (x : Answer). x.verdict.number) e))
 
-      go : (k : Counted) → a ≡ reading.in_room 0 k → k ≡ Stopped a.verdict
-      go (Total n) e = last n (leb n 0) e
-      go (Stopped v) e = ap Stopped (sym (ap (λ (x : Answer). x.verdict) e))
+      go : (k : Result ℕ Verdict) → a ≡ reading.in_room 0 k → k ≡ Err a.verdict
+      go (Ok n) e = last n (leb n 0) e
+      go (Err v) e = ap Err (sym (ap (λ (x : Answer). x.verdict) e))
 
 -- ---- the gate
 
 module _ (h : ℕ) (s : List ℕ) (list room longest : ℕ) (l : longest ≡ max (length s) room) where
-  pub gate_refuses : (v : Verdict) → gate_of h longest list ≡ Shut v → (mend_answer h s list room ≡ not_mended v) × (v.number ≡ 0 → ⊥)
+  pub gate_refuses : (v : Verdict) → gate_of h longest list ≡ Err v → (mend_answer h s list room ≡ not_mended v) × (v.number ≡ 0 → ⊥)
   unfolding mend_answer answer_by
   gate_refuses v g = (
     rw (← l, g) refl,
@@ -222,7 +220,7 @@ module _ (h : ℕ) (s : List ℕ) (list room longest : ℕ) (l : longest ≡ max
         (λ q e. let z : ◌≡◌ {A = ℕ} 2 0 = ap (λ (x : Verdict). x.number) (sym q) ∙ e in omega arith) (gate_shut h longest list v g),
   )
 
-  module _ (g : gate_of h longest list ≡ Open) where
+  module _ (g : gate_of h longest list ≡ Ok tt) where
     pub gate_sizes : (length s ≤ most_bytes) × (20 ≤ h) × (h ≤ 32) × (list ≤ most_records)
     gate_sizes =
         let w = gate_open h longest list g in
@@ -236,7 +234,7 @@ module _ (h : ℕ) (s : List ℕ) (list room longest : ℕ) (l : longest ≡ max
     pub gate_read : (a : Answer) → a ≡ answer_of (gate_of h (length s) 0) (listing h s) 0 → a ≡ reading.in_room 0 (tally 0 (listing h s))
     gate_read a q =
         let w = gate_open h longest list g in
-        let o : gate_of h (length s) 0 ≡ Open = gate_fine h (length s) 0 w.0 (omega (arith, w.1)) (omega arith) in
+        let o : gate_of h (length s) 0 ≡ Ok tt = gate_fine h (length s) 0 w.0 (omega (arith, w.1)) (omega arith) in
         q ∙ answer-counted (listing h s) (gate_of h (length s) 0) 0 o refl
 
 -- ---- equations handed on

@@ -1,13 +1,9 @@
 -- A tree mended: what is done to each of its entries, and the new object (docs/FORMAT.md, "Mending"). Assumes nothing.
-use Rattle.std.specs.Prelude.{ℕ, max, List, leb, length}
+use Rattle.std.specs.Prelude.{ℕ, max, List, leb, length, Err, Ok, Result, ⊤}
 use Rattle.ground.specs.Basics.{pick}
 use Rattle.ground.specs.Verdict.{verdict, fine, gate_of}
 use Rattle.ground.specs.declared.Verdict.{Verdict}
-use Rattle.ground.specs.declared.Gate.{Gate}
-use Rattle.ground.specs.declared.Gate.TheVariants.{Open, Shut}
 use Rattle.reading.specs.Listing.{listing, tally}
-use Rattle.reading.specs.declared.Counted.{Counted}
-use Rattle.reading.specs.declared.Counted.TheVariants.{Total, Stopped}
 use Rattle.mend.specs.declared.Mended.{Mended}
 unfoldable pub use Rattle.mend_kept.specs.Kept.{among, fate_in, names_after, fates_from, kept_from, mended_entry, mended}
 pub use Rattle.mend_kept.specs.Kept.{is_kept, fates_of, kept_of}
@@ -23,13 +19,13 @@ unfoldable pub in_room : ℕ → ℕ → ℕ → Mended
 in_room room need entries = pick (leb need room) (record { verdict = fine; count = need; entries = entries }) (not_mended (verdict 8 need))
 
 -- an object that was counted: 4 with its entries where the list has room for fewer
-unfoldable pub counted_answer : ℕ → List ℕ → ℕ → ℕ → Counted → Mended
-counted_answer h s list room (Stopped v) = not_mended v
-counted_answer h s list room (Total n) = pick (leb n list) (in_room room (length (mended h s)) n) (not_mended (verdict 4 n))
+unfoldable pub counted_answer : ℕ → List ℕ → ℕ → ℕ → Result ℕ Verdict → Mended
+counted_answer h s list room (Err v) = not_mended v
+counted_answer h s list room (Ok n) = pick (leb n list) (in_room room (length (mended h s)) n) (not_mended (verdict 4 n))
 
-unfoldable pub answer_by : Gate → Mended → Mended
-answer_by Open a = a
-answer_by (Shut v) a = not_mended v
+unfoldable pub answer_by : Result ⊤ Verdict → Mended → Mended
+answer_by (Ok tt) a = a
+answer_by (Err v) a = not_mended v
 
 -- the answer, with room for so many numbers and bytes: 1, 2, what the plain reader refuses, 4, 8
 unfoldable pub mend_answer : ℕ → List ℕ → ℕ → ℕ → Mended

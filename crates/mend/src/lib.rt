@@ -3,7 +3,7 @@
 // then by Git's order to write those that are kept.
 #![tactic(auto)]
 
-ghost use Rattle.std.specs.Prelude.{◌≡◌, true, false, [], ◌∷◌, ◌++◌, ◌+◌, ◌*◌, ◌/◌, ◌≤◌, ◌<◌, length, take, drop, set};
+ghost use Rattle.std.specs.Prelude.{◌≡◌, Ok, true, false, [], ◌∷◌, ◌++◌, ◌+◌, ◌*◌, ◌/◌, ◌≤◌, ◌<◌, length, take, drop, set};
 ghost use Rattle.std.proofs.lemmas.List.Edits.{sets};
 ghost use Rattle.ground.specs.Basics.{pick};
 ghost use Rattle.ground.specs.Verdict.{verdict, most_bytes, most_records, stored};
@@ -11,18 +11,17 @@ ghost use Rattle.entry.specs.Record.{name_of};
 ghost use Rattle.entry.specs.Decode.{decode};
 ghost use Rattle.reading.specs.Listing.{listing, tally, records_in};
 ghost use Rattle.reading.specs.Whole.{in_room as noRoom};
-ghost use Rattle.reading.specs.declared.Counted.TheVariants.{Total};
 ghost use Rattle.keys.specs.Key.{key_at, below_by};
 ghost use Rattle.sorting.specs.Sort.{Ascends, sort_by};
 ghost use Rattle.fate.specs.Fate.{own_text};
 ghost use Rattle.mend.specs.Mend.{fates_of, mended, not_mended, in_room, counted_answer, mend_answer};
 ghost use Rattle.mend_kept.specs.Code.{Inside, chosen, element_of, elements, Lowest, Known, has_name, earlier, code_fate, code_fates, kept_size, code_size, bytes_at, all_bytes};
 
-use entry::{Cursor, Decoded, EntryRecord};
+use entry::{Cursor, EntryRecord};
 use entry_record::is_folder;
 use fate::{fate_of, may_stay, own_text};
 use ground::{
-    Answer, DONE, FEW_RECORDS, FINE, Gate, MOST_RECORDS, SHORT_OUTPUT, Verdict, bounds, longer,
+    Answer, DONE, FEW_RECORDS, FINE, MOST_RECORDS, SHORT_OUTPUT, Verdict, bounds, longer,
 };
 use keys::below;
 use output::{put, put_ended};
@@ -44,10 +43,7 @@ fn choose(s: &[u8], fates: &[usize], second: bool, n: usize, e: EntryRecord) -> 
     ensures { result ≡ chosen second s.now fates.now n e }
 {
     if second {
-        if n < fates.len() {
-            return fates[n] < 2;
-        }
-        return false;
+        return n < fates.len() && fates[n] < 2;
     }
     let start = e.name_start;
     let end = e.name_end;
@@ -60,13 +56,19 @@ fn element(second: bool, e: EntryRecord) -> u32
     ensures { result ≡ element_of second e }
 {
     let twice = e.text_start * 2;
-    if second {
-        if is_folder(e) {
-            return (twice + 1) as u32;
-        }
-        return twice as u32;
+    if second && is_folder(e) {
+        return (twice + 1) as u32;
     }
     twice as u32
+}
+
+// Stores a value at a place of a list, where there is room.
+fn put_at<T: Copy>(list: &mut [T], n: usize, x: T)
+    ensures { list.new ≡ set list.old n x }
+{
+    if n < list.len() {
+        list[n] = x;
+    }
 }
 
 // Stores an element behind m others, if it is taken: how many there are then.
@@ -76,10 +78,7 @@ fn push(list: &mut [u32], m: usize, taken: bool, x: u32) -> usize
     ensures list_after { list.new ≡ pick taken (set list.old m x) list.old }
 {
     if taken {
-        if m < list.len() {
-            list[m] = x;
-            return m + 1;
-        }
+        put_at(list, m, x);
         return m + 1;
     }
     m
@@ -100,10 +99,10 @@ fn gather(s: &[u8], h: usize, fates: &[usize], second: bool, list: &mut [u32]) -
         }
         let c = Cursor { at };
         match c.decode(s, h) {
-            Decoded::Broken(_) => {
+            Err(_) => {
                 return m;
             }
-            Decoded::Whole(e, next) => {
+            Ok((e, next)) => {
                 let taken = choose(s, fates, second, n, e);
                 let x = element(second, e);
                 m = push(list, m, taken, x);
@@ -120,18 +119,7 @@ fn search(s: &[u8], list: &[u32], x: u32) -> usize
     requires { Ascends (below_by (key_at s.now 32 0)) list.now }
     ensures { Lowest (below_by (key_at s.now 32 0)) list.now x result }
 {
-    let mut low: usize = 0;
-    let mut high: usize = list.len();
-    while low < high {
-        let mid = low + (high - low) / 2;
-        let y = list[mid];
-        if below(s, b' ', 0, y, x) {
-            low = mid + 1;
-        } else {
-            high = mid;
-        }
-    }
-    low
+    list.partition_point(|y| below(s, b' ', 0, *y, x))
 }
 
 // Whether the entry of an element has a name.
@@ -140,8 +128,8 @@ fn same_name(s: &[u8], h: usize, y: u32, name: &[u8]) -> bool
 {
     let c = Cursor { at: y as usize / 2 };
     match c.decode(s, h) {
-        Decoded::Broken(_) => false,
-        Decoded::Whole(e, _) => {
+        Err(_) => false,
+        Ok((e, _)) => {
             let start = e.name_start;
             let end = e.name_end;
             same_bytes(&s[start..end], name)
@@ -194,15 +182,6 @@ fn kept_size(fate: usize, h: usize, e: EntryRecord) -> usize
     0
 }
 
-// Stores what is done to entry n, where there is room.
-fn put_fate(fates: &mut [usize], n: usize, fate: usize)
-    ensures { fates.new ≡ set fates.old n fate }
-{
-    if n < fates.len() {
-        fates[n] = fate;
-    }
-}
-
 // What is done to each entry, as far as there is room: the size of the new object.
 fn settle(s: &[u8], h: usize, list: &[u32], fates: &mut [usize]) -> usize
     requires s_len_bound { length s.now ≤ most_bytes }
@@ -220,12 +199,12 @@ fn settle(s: &[u8], h: usize, list: &[u32], fates: &mut [usize]) -> usize
         }
         let c = Cursor { at };
         match c.decode(s, h) {
-            Decoded::Broken(_) => {
+            Err(_) => {
                 return size;
             }
-            Decoded::Whole(e, next) => {
+            Ok((e, next)) => {
                 let fate = entry_fate(s, h, list, e);
-                put_fate(fates, n, fate);
+                put_at(fates, n, fate);
                 size += kept_size(fate, h, e);
                 at = next.at;
                 n += 1;
@@ -257,8 +236,8 @@ fn write_one(out: &mut [u8], at: usize, s: &[u8], h: usize, x: u32) -> usize
 {
     let c = Cursor { at: x as usize / 2 };
     match c.decode(s, h) {
-        Decoded::Broken(_) => at,
-        Decoded::Whole(e, next) => {
+        Err(_) => at,
+        Ok((e, next)) => {
             let name = put_own(out, at, e.mode);
             let start = e.name_start;
             let end = next.at;
@@ -274,12 +253,9 @@ fn write_all(out: &mut [u8], s: &[u8], h: usize, list: &[u32])
     requires list_len_bound { length list.now ≤ most_records }
     ensures { out.new ≡ sets out.old 0 (all_bytes h s.now list.now) }
 {
-    let mut i: usize = 0;
     let mut at: usize = 0;
-    while i < list.len() {
-        let x = list[i];
-        at = write_one(out, at, s, h, x);
-        i += 1;
+    for x in list {
+        at = write_one(out, at, s, h, *x);
     }
 }
 
@@ -335,7 +311,7 @@ fn mend_with(
     list: &mut [u32],
 ) -> Mended
     requires s_len_bound { (length s.now ≤ most_bytes) × (20 ≤ h) × (h ≤ 32) }
-    requires s_value { tally 0 (listing h s.now) ≡ Total count }
+    requires s_value { tally 0 (listing h s.now) ≡ Ok count }
     requires count_in_bounds { (count ≤ length fates.old) × (count ≤ length list.old) × (length list.old ≤ most_records) }
     ensures answer { result ≡ in_room (length out.old) (length (mended h s.now)) count }
     ensures fates { fates.new ≡ stored result.verdict (fates_of h s.now) fates.old }
@@ -355,43 +331,30 @@ fn mend_with(
     }
 }
 
-// With room for few entries.
-fn mend_small(s: &[u8], h: usize, count: usize, fates: &mut [usize], out: &mut [u8]) -> Mended
-    requires s_len_bound { (length s.now ≤ most_bytes) × (20 ≤ h) × (h ≤ 32) }
-    requires s_value { tally 0 (listing h s.now) ≡ Total count }
-    requires count_in_bounds { (count ≤ length fates.old) × (count ≤ 1024) }
-    ensures answer { result ≡ in_room (length out.old) (length (mended h s.now)) count }
-    ensures fates { fates.new ≡ stored result.verdict (fates_of h s.now) fates.old }
-    ensures out { out.new ≡ stored result.verdict (mended h s.now) out.old }
-{
-    let mut list = [0u32; 1024];
-    mend_with(s, h, count, fates, out, &mut list)
-}
-
-// With room for all, in a list that is lent: its length is known from its type, so no proof computes so long a list.
-fn mend_lent(
+// With room for N entries in a list of its own. N is a parameter, so no proof computes so long a list.
+fn mend_own<const N: usize>(
     s: &[u8],
     h: usize,
     count: usize,
     fates: &mut [usize],
     out: &mut [u8],
-    list: &mut [u32; 1048576],
 ) -> Mended
     requires s_len_bound { (length s.now ≤ most_bytes) × (20 ≤ h) × (h ≤ 32) }
-    requires s_value { tally 0 (listing h s.now) ≡ Total count }
-    requires count_in_bounds { (count ≤ length fates.old) × (count ≤ most_records) }
+    requires s_value { tally 0 (listing h s.now) ≡ Ok count }
+    requires count_in_bounds { (count ≤ length fates.old) × (count ≤ N) × (N ≤ most_records) }
     ensures answer { result ≡ in_room (length out.old) (length (mended h s.now)) count }
     ensures fates { fates.new ≡ stored result.verdict (fates_of h s.now) fates.old }
     ensures out { out.new ≡ stored result.verdict (mended h s.now) out.old }
 {
-    mend_with(s, h, count, fates, out, list)
+    let mut list = [0u32; N];
+    mend_with(s, h, count, fates, out, &mut list)
 }
 
-// The same with room for all: four mebibytes of the stack. The call of itself is never reached. It is there because the compiler
+// With room for all: four mebibytes of the stack. The call of itself is never reached. It is there because the compiler
 // lays no function that calls itself into its callers: only such an object takes this one's stack.
 fn mend_large(s: &[u8], h: usize, count: usize, fates: &mut [usize], out: &mut [u8]) -> Mended
     requires s_len_bound { (length s.now ≤ most_bytes) × (20 ≤ h) × (h ≤ 32) }
-    requires s_value { tally 0 (listing h s.now) ≡ Total count }
+    requires s_value { tally 0 (listing h s.now) ≡ Ok count }
     requires count_in_bounds { (count ≤ length fates.old) × (count ≤ most_records) }
     ensures answer { result ≡ in_room (length out.old) (length (mended h s.now)) count }
     ensures fates { fates.new ≡ stored result.verdict (fates_of h s.now) fates.old }
@@ -400,8 +363,7 @@ fn mend_large(s: &[u8], h: usize, count: usize, fates: &mut [usize], out: &mut [
     if MOST_RECORDS < count {
         return mend_large(s, h, count, fates, out);
     }
-    let mut list = [0u32; 1048576];
-    mend_lent(s, h, count, fates, out, &mut list)
+    mend_own::<1048576>(s, h, count, fates, out)
 }
 
 // Refused: nothing is written.
@@ -425,7 +387,7 @@ fn mend_read(s: &[u8], h: usize, a: Answer, fates: &mut [usize], out: &mut [u8])
 {
     let number = a.verdict.number;
     if number == DONE {
-        return mend_small(s, h, 0, fates, out);
+        return mend_own::<1024>(s, h, 0, fates, out);
     }
     if number != FEW_RECORDS {
         return no_mending(a.verdict);
@@ -435,7 +397,7 @@ fn mend_read(s: &[u8], h: usize, a: Answer, fates: &mut [usize], out: &mut [u8])
         return no_mending(a.verdict);
     }
     if n <= 1024 {
-        return mend_small(s, h, n, fates, out);
+        return mend_own::<1024>(s, h, n, fates, out);
     }
     mend_large(s, h, n, fates, out)
 }
@@ -448,8 +410,8 @@ pub fn mend_tree(bytes: &[u8], h: usize, fates: &mut [usize], out: &mut [u8]) ->
     ensures out { out.new ≡ stored (mend_answer h bytes.now (length fates.old) (length out.old)).verdict (mended h bytes.now) out.old }
 {
     match bounds(h, longer(bytes.len(), out.len()), fates.len()) {
-        Gate::Shut(v) => no_mending(v),
-        Gate::Open => {
+        Err(v) => no_mending(v),
+        Ok(()) => {
             let mut none = [0usize; 1];
             let a = read_tree(bytes, h, &mut none);
             mend_read(bytes, h, a, fates, out)

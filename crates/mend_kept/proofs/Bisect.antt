@@ -6,21 +6,18 @@ use mathlib.Core.Path.{◌≡◌, refl, ap, sym, ◌∙◌}
 use mathlib.Core.Bool.{Bool, true, false, false≢true, ◌&&◌, ◌||◌}
 use mathlib.Core.List.{List, [], ◌∷◌}
 use lib.Dec.{ltb}
+use Rattle.std.specs.List.Sorted.{IsPartitionPoint, IsPartitionedBy}
 use lib.ListN.{length, get_or, take, drop}
 use borrow.Author.Tests.{lt-ltb, ltb-true}
 use Rattle.ground.specs.Scan.{same_bytes}
 use Rattle.ground.proofs.Laws.{and_left, and_right, same_test, same_true, same_refl}
 use Rattle.order.specs.Order.{name_order}
-use Rattle.order.specs.declared.Order.{Order}
-use Rattle.order.specs.declared.Order.TheVariants.{Same}
 use Rattle.order.proofs.Laws.{order_self}
 use Rattle.entry.specs.Record.{name_of}
 use Rattle.entry.specs.Decode.{decode}
 use Rattle.entry.specs.declared.EntryRecord.{EntryRecord}
 use Rattle.entry.specs.declared.Cursor.{Cursor}
 use Rattle.ground.specs.declared.Verdict.{Verdict}
-use Rattle.entry.specs.declared.Decoded.{Decoded}
-use Rattle.entry.specs.declared.Decoded.TheVariants.{Whole, Broken}
 use Rattle.keys.specs.Key.{decide, key_at, below_by}
 use Rattle.keys.specs.Strict.{Strict}
 use Rattle.keys.proofs.Keys.{key_strict}
@@ -28,47 +25,19 @@ use Rattle.sorting.specs.Sort.{Ascends}
 use Rattle.sorting.proofs.Sorted.{ascends_pair, up-below, up-then-below}
 use Rattle.sorting.proofs.Repeats.{same-below, between}
 use Rattle.mend_kept.specs.Code.{Lowest, Known, has_name, earlier}
+use Rattle.std.specs.Prelude.{Err, Ok, Result}
+use Rattle.std.specs.declared.cmp.Ordering.{Ordering}
+use Rattle.std.specs.declared.cmp.Ordering.TheVariants.{Equal}
 
 -- ---- the search
 
-pub record Searching (below : ℕ → ℕ → Bool) (l : List ℕ) (x low high : ℕ) : Type 0 where
-  pub order : low ≤ high
-  pub inside : high ≤ length l
-  pub under : (j : ℕ) → j < low → below (get_or l j 0) x ≡ true
-  pub over : (j : ℕ) → high ≤ j → j < length l → below (get_or l j 0) x ≡ false
-
 module _ (below : ℕ → ℕ → Bool) (l : List ℕ) (x : ℕ) where
-  pub search-start : Searching below l x 0 (length l)
-  search-start = record { order = omega arith; inside = omega arith; under = λ j p. absurd (omega arith); over = λ j p q. absurd (omega arith) }
+  -- what is below x stands before what is not
+  pub parted : Strict below → Ascends below l → IsPartitionedBy (λ y. below y x) l
+  parted strict up i j d p q t = up-then-below below strict (get_or l i d) (get_or l j d) x (ascends_pair below strict d l up i j p q) t
 
-  pub search-end : (low high : ℕ) → Searching below l x low high → high ≤ low → Lowest below l x low
-  search-end low high g p =
-      record { inside = omega (arith, g.order, g.inside); under = g.under; over = λ j q r. g.over j (omega (arith, g.order)) r }
-
-  module _ (strict : Strict below) (up : Ascends below l) (low high mid : ℕ) (g : Searching below l x low high) (p : low ≤ mid) (q : mid < high) where
-    pub search_up : below (get_or l mid 0) x ≡ true → Searching below l x (mid + 1) high
-    search_up t =
-        record {
-          order = omega arith;
-          inside = g.inside;
-          under = λ j r. up-then-below below strict (get_or l j 0) (get_or l mid 0) x
-              (ascends_pair below strict 0 l up j mid (omega arith) (omega (arith, g.inside))) t;
-          over = g.over;
-        }
-
-    pub search_down : below (get_or l mid 0) x ≡ false → Searching below l x low mid
-    search_down t =
-        record {
-          order = p;
-          inside = omega (arith, g.inside);
-          under = g.under;
-          over = λ j r k. go j r k (below (get_or l j 0) x) refl;
-        }
-      where
-        go : (j : ℕ) → mid ≤ j → j < length l → (b : Bool) → below (get_or l j 0) x ≡ b → b ≡ false
-        go j r k true e =
-            absurd (false≢true (sym t ∙ up-then-below below strict (get_or l mid 0) (get_or l j 0) x (ascends_pair below strict 0 l up mid j r k) e))
-        go j r k false e = refl
+  pub lowest : (r : ℕ) → r ≤ length l → IsPartitionPoint (λ y. below y x ≡ true) (λ y. below y x ≡ false) l r → Lowest below l x r
+  lowest r p w = record { inside = p; under = λ j q. w.0 j 0 (omega arith) q; over = λ j q k. w.1 j 0 q k }
 
 -- ---- a smaller element of the same key
 
@@ -103,8 +72,8 @@ module _ (key : ℕ → List ℕ) (x : ℕ) where
   below_less : (y : ℕ) → key y ≡ key x → below_by key y x ≡ true → y < x
   unfolding below_by
   below_less y e b =
-      let z : name_order (key y) false (key x) false ≡ Same = rw e (order_self (key x) false) in
-      ltb-true y x (ap (λ (o : Order). decide o (ltb y x)) (sym z) ∙ b)
+      let z : name_order (key y) false (key x) false ≡ Equal = rw e (order_self (key x) false) in
+      ltb-true y x (ap (λ (o : Ordering). decide o (ltb y x)) (sym z) ∙ b)
 
   module _ (l : List ℕ) (up : Ascends (below_by key) l) where
     pub earlier-none : Lowest (below_by key) l x 0 → false ≡ earlier key l x
@@ -148,11 +117,11 @@ repeated-last h s list name x k known e g =
     a ∙ rw (← w.3, ← e) (earlier-last (key_at s 32 0) x list known.up k g)
 
 -- whether an entry that was decoded has a name
-pub has-broken : (s name : List ℕ) (d : Decoded) (v : Verdict) → d ≡ Broken v → false ≡ has_name s name d
+pub has-broken : (s name : List ℕ) (d : Result (EntryRecord × Cursor) Verdict) (v : Verdict) → d ≡ Err v → false ≡ has_name s name d
 unfolding has_name
 has-broken s name d v q = sym (ap (has_name s name) q)
 
-pub has-whole : (s name : List ℕ) (d : Decoded) (e : EntryRecord) (next : Cursor) → d ≡ Whole e next
+pub has-whole : (s name : List ℕ) (d : Result (EntryRecord × Cursor) Verdict) (e : EntryRecord) (next : Cursor) → d ≡ Ok (e, next)
     → same_bytes (take (e.name_end - e.name_start) (drop e.name_start s)) name ≡ has_name s name d
 unfolding has_name name_of
 has-whole s name d e next q = sym (ap (has_name s name) q)

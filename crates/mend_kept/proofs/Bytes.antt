@@ -21,14 +21,13 @@ use Rattle.entry.specs.Entry.{entry_bytes}
 use Rattle.entry.specs.Decode.{decode}
 use Rattle.entry.specs.declared.EntryRecord.{EntryRecord}
 use Rattle.entry.specs.declared.Cursor.{Cursor}
-use Rattle.entry.specs.declared.Decoded.{Decoded}
-use Rattle.entry.specs.declared.Decoded.TheVariants.{Whole, Broken}
 use Rattle.entry.proofs.Laws.{decode-inside, decode-parts}
 use Rattle.strict.proofs.Strictly.{decoded_within}
 use Rattle.fate.specs.Fate.{own_mode, own_text}
 use Rattle.fate.proofs.Laws.{own-few}
 use Rattle.mend_kept.specs.Kept.{mended_entry}
 use Rattle.mend_kept.specs.Code.{kept_bytes, bytes_at, all_bytes}
+use Rattle.std.specs.Prelude.{Err, Ok, Result}
 
 pub own-most : (m : ℕ) → length (own_text m) ≤ 6
 unfolding own_text
@@ -39,14 +38,14 @@ own-most m =
 -- ---- one entry stored
 
 module _ (h : ℕ) (s : List ℕ) (x at : ℕ) (out : List ℕ) where
-  pub one-broken : (v : Verdict) → decode h (x / 2) (drop (x / 2) s) ≡ Broken v
+  pub one-broken : (v : Verdict) → decode h (x / 2) (drop (x / 2) s) ≡ Err v
       → (at ≡ at + length (bytes_at h s x)) × (out ≡ sets out at (bytes_at h s x))
   unfolding kept_bytes
   one-broken v d =
       let z : bytes_at h s x ≡ [] = ap (kept_bytes s) d in
       (omega (arith, ap length z), sym (ap (sets out at) z))
 
-  pub one-whole : (e : EntryRecord) (next : Cursor) → decode h (x / 2) (drop (x / 2) s) ≡ Whole e next → (text : List ℕ) → text ≡ own_text e.mode
+  pub one-whole : (e : EntryRecord) (next : Cursor) → decode h (x / 2) (drop (x / 2) s) ≡ Ok (e, next) → (text : List ℕ) → text ≡ own_text e.mode
       → (first after : List ℕ) (name r : ℕ) → first ≡ sets out at (text ++ 32 ∷ []) → name ≡ at + length text + 1
       → after ≡ sets first name (part e.name_start next.at s) → r ≡ name + (next.at - e.name_start)
       → (r ≡ at + length (bytes_at h s x)) × (after ≡ sets out at (bytes_at h s x))
@@ -69,8 +68,8 @@ pub bytes_le : (h : ℕ) (s : List ℕ) (x : ℕ) → length (bytes_at h s x) �
 unfolding kept_bytes
 bytes_le h s x = go (decode h (x / 2) (drop (x / 2) s))
   where
-    go : (d : Decoded) → length (kept_bytes s d) ≤ length s + 7
-    go (Whole e next) =
+    go : (d : Result (EntryRecord × Cursor) Verdict) → length (kept_bytes s d) ≤ length s + 7
+    go (Ok (e, next)) =
         omega (
           arith,
           length-append (own_text e.mode) (32 ∷ part e.name_start next.at s),
@@ -78,7 +77,7 @@ bytes_le h s x = go (decode h (x / 2) (drop (x / 2) s))
           length-take (next.at - e.name_start) (drop e.name_start s),
           length-drop e.name_start s,
         )
-    go (Broken v) = omega arith
+    go (Err v) = omega arith
 
 -- ---- all of them
 
@@ -122,7 +121,7 @@ pub own-text : (m : ℕ) → own_text m ≡ write_mode (own_mode m)
 unfolding own_text own_mode
 own-text m = own-written (kind_of m)
 
-module _ (h : ℕ) (s : List ℕ) (at : ℕ) (e : EntryRecord) (next : Cursor) (d : decode h at (drop at s) ≡ Whole e next) where
+module _ (h : ℕ) (s : List ℕ) (at : ℕ) (e : EntryRecord) (next : Cursor) (d : decode h at (drop at s) ≡ Ok (e, next)) where
   -- from its name on an entry has its name, NUL and its id
   name-then-id : part e.name_start next.at s ≡ name_of s e ++ 0 ∷ id_of h s e
   unfolding name_of id_of
@@ -155,7 +154,7 @@ module _ (h : ℕ) (s : List ℕ) (at : ℕ) (e : EntryRecord) (next : Cursor) (
   bytes-size =
       let w = decoded_within h s at e next d in
       let i = decode-inside h s at e next d in
-      let z : kept_bytes s (Whole e next) ≡ entry_bytes (mended_entry h s e) = ap (kept_bytes s) (sym d) ∙ kept-bytes in
+      let z : kept_bytes s (Ok (e, next)) ≡ entry_bytes (mended_entry h s e) = ap (kept_bytes s) (sym d) ∙ kept-bytes in
       omega (
         arith,
         ap length z,

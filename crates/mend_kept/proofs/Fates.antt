@@ -18,8 +18,6 @@ use Rattle.entry.specs.Record.{name_of}
 use Rattle.entry.specs.Decode.{decode}
 use Rattle.entry.specs.declared.EntryRecord.{EntryRecord}
 use Rattle.entry.specs.declared.Cursor.{Cursor}
-use Rattle.entry.specs.declared.Decoded.{Decoded}
-use Rattle.entry.specs.declared.Decoded.TheVariants.{Whole, Broken}
 use Rattle.entry.proofs.Laws.{decode-inside}
 use Rattle.rules.specs.Rules.{name_number, bare_number}
 use Rattle.rules.proofs.Laws.{number_free}
@@ -36,21 +34,23 @@ use Rattle.fate.specs.Fate.{stays_mode, own_text, fate_of}
 use Rattle.mend_kept.specs.Kept.{among, fate_in, is_kept, names_after, fates_from, kept_from, fates_of}
 use Rattle.mend_kept.specs.Code.{chosen, element_of, elements, Known, earlier, code_fate, code_fates}
 use Rattle.mend_kept.proofs.Walk.{here-whole, decoded_place, element_key, element_whole}
+use Rattle.ground.specs.declared.Verdict.{Verdict}
+use Rattle.std.specs.Prelude.{Err, Ok, Result}
 
 -- ---- the records of an object, read one after the other
 
 abbrev pub Reads : ℕ → List ℕ → ℕ → List EntryRecord → Type 0
 Reads h s at [] = Unit {0}
-Reads h s at (e ∷ es) = (next : Cursor) × (decode h at (drop at s) ≡ Whole e next) × Reads h s next.at es
+Reads h s at (e ∷ es) = (next : Cursor) × (decode h at (drop at s) ≡ Ok (e, next)) × Reads h s next.at es
 
 pub reads-rest : (h : ℕ) (s : List ℕ) (left at n : ℕ) → left + n ≡ most_records → Reads h s at (records_in (rest_at h s at n))
 reads-rest h s zero at n q = let z = none_full h s at n (omega arith) in rw z tt
 reads-rest h s (suc left) at n q = go (λ a p. reads-rest h s left a (n + 1) p) (decode h at (drop at s)) refl
   where
-    go : ((a : ℕ) → left + (n + 1) ≡ most_records → Reads h s a (records_in (rest_at h s a (n + 1)))) → (d : Decoded) → decode h at (drop at s) ≡ d
+    go : ((a : ℕ) → left + (n + 1) ≡ most_records → Reads h s a (records_in (rest_at h s a (n + 1)))) → (d : Result (EntryRecord × Cursor) Verdict) → decode h at (drop at s) ≡ d
         → Reads h s at (records_in (rest_at h s at n))
-    go ih (Whole e next) d = let z = here-whole h s at n (omega arith) e next d in rw z (next, d, ih next.at (omega arith))
-    go ih (Broken v) d = let z = none_left h s at n (omega arith) d in rw z tt
+    go ih (Ok (e, next)) d = let z = here-whole h s at n (omega arith) e next d in rw z (next, d, ih next.at (omega arith))
+    go ih (Err v) d = let z = none_left h s at n (omega arith) d in rw z tt
 
 pub reads_all : (h : ℕ) (s : List ℕ) → Reads h s 0 (records_in (listing h s))
 reads_all h s = reads-rest h s most_records 0 0 (omega arith)
@@ -68,13 +68,13 @@ all_mem P (y ∷ l) x a m = ⊎_elim (λ e. rw e a.0) (λ k. all_mem P l x a.1 k
 
 -- an element whose key is the name of the entry at its place
 abbrev pub Good : ℕ → List ℕ → ℕ → Type 0
-Good h s y = (e : EntryRecord) × (next : Cursor) × (decode h (y / 2) (drop (y / 2) s) ≡ Whole e next) × (key_at s 32 0 y ≡ name_of s e)
+Good h s y = (e : EntryRecord) × (next : Cursor) × (decode h (y / 2) (drop (y / 2) s) ≡ Ok (e, next)) × (key_at s 32 0 y ≡ name_of s e)
 
 module _ (h : ℕ) (s : List ℕ) (long : 20 ≤ h) where
-  pub plain_key : (at : ℕ) (e : EntryRecord) (next : Cursor) → decode h at (drop at s) ≡ Whole e next → key_at s 32 0 (element_of false e) ≡ name_of s e
+  pub plain_key : (at : ℕ) (e : EntryRecord) (next : Cursor) → decode h at (drop at s) ≡ Ok (e, next) → key_at s 32 0 (element_of false e) ≡ name_of s e
   plain_key at e next d = element_key h s at e next d long false ∙ append-nil (name_of s e)
 
-  plain-place : (at : ℕ) (e : EntryRecord) (next : Cursor) → decode h at (drop at s) ≡ Whole e next → element_of false e ≡ at * 2
+  plain-place : (at : ℕ) (e : EntryRecord) (next : Cursor) → decode h at (drop at s) ≡ Ok (e, next) → element_of false e ≡ at * 2
   unfolding element_of
   plain-place at e next d = omega (arith, (decode-inside h s at e next d).5)
 

@@ -16,15 +16,12 @@ use Rattle.mode.specs.Mode.{value_of, sort_of, executes, kind_of, is_tree}
 use Rattle.mode.specs.Table.{rows, row_at, written_of}
 use Rattle.mode_table.specs.declared.EntryKind.TheVariants.{Tree, Blob, BlobExecutable, Link, Commit}
 use Rattle.order.specs.Order.{is_below, name_order}
-use Rattle.order.specs.declared.Order.{Order}
-use Rattle.order.specs.declared.Order.TheVariants.{Below, Same, Above}
 use Rattle.order.proofs.Laws.{order_same}
 use Rattle.entry.specs.Record.{name_of, folder_of}
 use Rattle.entry.specs.Entry.{Entry, entry_bytes, as_written}
 use Rattle.entry.specs.Decode.{decode}
 use Rattle.entry.specs.declared.EntryRecord.{EntryRecord}
 use Rattle.entry.specs.declared.Cursor.{Cursor}
-use Rattle.entry.specs.declared.Decoded.TheVariants.{Whole}
 use Rattle.entry.proofs.Laws.{decode-inside}
 use Rattle.rules.specs.Rules.{name_number, stands_before, permitted, is_dot_git, or_else}
 use Rattle.rules.proofs.Laws.{permitted-parts}
@@ -41,6 +38,9 @@ use Rattle.mend_kept.specs.Code.{element_of, kept_size, code_size, code_fate, co
 use Rattle.mend_kept.proofs.Walk.{element_key, element_whole}
 use Rattle.mend_kept.proofs.Bytes.{kept-bytes, bytes-size}
 use Rattle.mend_kept.proofs.Fates.{Reads, reads_all, All, all_mem, keeps}
+use Rattle.std.specs.Prelude.{Ok}
+use Rattle.std.specs.declared.cmp.Ordering.{Ordering}
+use Rattle.std.specs.declared.cmp.Ordering.TheVariants.{Equal, Greater, Less}
 
 -- ---- sorting by what elements stand for
 
@@ -86,7 +86,7 @@ all-of P (x ∷ l) f = (f x (Memᴰ.head refl), all-of P l (λ y m. f y (Memᴰ.
 
 -- an entry that was read, with a name that is permitted and a mode that stays
 abbrev pub Kept : ℕ → List ℕ → EntryRecord → Type 0
-Kept h s e = (next : Cursor) × (decode h e.text_start (drop e.text_start s) ≡ Whole e next) × (name_number (name_of s e) ≡ 0) × (stays_mode e.mode ≡ true)
+Kept h s e = (next : Cursor) × (decode h e.text_start (drop e.text_start s) ≡ Ok (e, next)) × (name_number (name_of s e) ≡ 0) × (stays_mode e.mode ≡ true)
 
 module _ (s : List ℕ) (names : List (List ℕ)) (e : EntryRecord) (k : is_kept (fate_in s names e) ≡ true) where
   three : ((eqb (name_number (name_of s e)) 0 && stays_mode e.mode) && not (among names (name_of s e))) ≡ true
@@ -221,14 +221,14 @@ module _ (h : ℕ) (s : List ℕ) (long : 20 ≤ h) where
       rw (ka, kb, key_names (name_of s a) (is_tree a.mode) (name_of s b) (is_tree b.mode) fa fb, own-tree a.mode, own-tree b.mode)
       (go (name_order (name_of s a) (is_tree a.mode) (name_of s b) (is_tree b.mode)) refl fa fb)
     where
-      go : (o : Order) → name_order (name_of s a) (is_tree a.mode) (name_of s b) (is_tree b.mode) ≡ o → free_of 47 (name_of s a) ≡ true
+      go : (o : Ordering) → name_order (name_of s a) (is_tree a.mode) (name_of s b) (is_tree b.mode) ≡ o → free_of 47 (name_of s a) ≡ true
           → free_of 47 (name_of s b) ≡ true → decide o (ltb (element_of true a) (element_of true b)) ≡ is_below o
-      go Below e fa fb = refl
-      go Same e fa fb =
+      go Less e fa fb = refl
+      go Equal e fa fb =
           let w = order_same (name_of s a) (is_tree a.mode) (name_of s b) (is_tree b.mode) fa fb e in
           let z : a ≡ b = one_name s l a b d p q w.0 in
           rw z (le-ltb (element_of true b) (element_of true b) (omega arith))
-      go Above e fa fb = refl
+      go Greater e fa fb = refl
 
   all-written : (l : List EntryRecord) → All (Kept h s) l → all_bytes h s (map (element_of true) l) ≡ as_written (map (mended_entry h s) l)
   unfolding all_bytes as_written

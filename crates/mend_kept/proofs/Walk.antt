@@ -18,7 +18,6 @@ use Rattle.entry.specs.Record.{name_of, folder_of}
 use Rattle.entry.specs.Decode.{decode}
 use Rattle.entry.specs.declared.EntryRecord.{EntryRecord}
 use Rattle.entry.specs.declared.Cursor.{Cursor}
-use Rattle.entry.specs.declared.Decoded.TheVariants.{Whole}
 use Rattle.entry.proofs.Laws.{Parts, decode-inside, decode-parts}
 use Rattle.reading.specs.Listing.{listing, records_in}
 use Rattle.reading.proofs.Laws.{rest_at, rest_end, whole_here}
@@ -28,6 +27,7 @@ use Rattle.keys.specs.Key.{past_mark, cut_to, name_at, folder, slash, key_at}
 use Rattle.rules.specs.Rules.{bare_number}
 use Rattle.fate.specs.Fate.{stays_mode, own_text, fate_of}
 use Rattle.mend_kept.specs.Code.{Inside, chosen, element_of, elements, earlier, code_fate, code_fates, kept_size, code_size}
+use Rattle.std.specs.Prelude.{Ok}
 
 get_d_out : (l : List ℕ) (n : ℕ) → length l ≤ n → get_or l n 2 ≡ 2
 get_d_out [] n p = refl
@@ -44,14 +44,14 @@ module _ (h : ℕ) (s : List ℕ) (at n : ℕ) where
   unfolding records_in
   here_end p = ap records_in (rest_end h s at n p)
 
-  pub here-whole : n < most_records → (e : EntryRecord) (next : Cursor) → decode h at (drop at s) ≡ Whole e next
+  pub here-whole : n < most_records → (e : EntryRecord) (next : Cursor) → decode h at (drop at s) ≡ Ok (e, next)
       → records_in (rest_at h s at n) ≡ e ∷ records_in (rest_at h s next.at (n + 1))
   unfolding records_in
   here-whole f e next d = ap records_in (whole_here h s at n f d)
 
 -- ---- a decoded entry
 
-module _ (h : ℕ) (s : List ℕ) (at : ℕ) (e : EntryRecord) (next : Cursor) (d : decode h at (drop at s) ≡ Whole e next) where
+module _ (h : ℕ) (s : List ℕ) (at : ℕ) (e : EntryRecord) (next : Cursor) (d : decode h at (drop at s) ≡ Ok (e, next)) where
   pub decoded_inside : Inside (length s) e
   decoded_inside =
       let w = decoded_within h s at e next d in
@@ -114,7 +114,7 @@ module _ (h : ℕ) (s : List ℕ) (at : ℕ) (e : EntryRecord) (next : Cursor) (
     unfolding key_at name_at past_mark cut_to
     element_key = rw (half, past, odd) (ap (λ (l : List ℕ). l ++ slash (second && folder_of e)) named)
 
-    pub element_whole : decode h (element_of second e / 2) (drop (element_of second e / 2) s) ≡ Whole e next
+    pub element_whole : decode h (element_of second e / 2) (drop (element_of second e / 2) s) ≡ Ok (e, next)
     element_whole = rw half d
 
 -- ---- the leaves
@@ -149,9 +149,6 @@ module _ (taken : Bool) (list : List ℕ) (m x : ℕ) where
   pub push_stored : taken ≡ true → (m + 1 ≡ pick taken (m + 1) m) × (set list m x ≡ pick taken (set list m x) list)
   push_stored q = (rw q refl, rw q refl)
 
-  pub push_over : taken ≡ true → length list ≤ m → (m + 1 ≡ pick taken (m + 1) m) × (list ≡ pick taken (set list m x) list)
-  push_over q p = (rw q refl, rw q (sym (set_out list m x p)))
-
   pub push_none : taken ≡ false → (m ≡ pick taken (m + 1) m) × (list ≡ pick taken (set list m x) list)
   push_none q = (rw q refl, rw q refl)
 
@@ -183,7 +180,7 @@ module _ (second : Bool) (h : ℕ) (s fates list₀ list : List ℕ) (at n m : �
       let t : length (elements second s fates n (records_in (rest_at h s at n))) ≡ 0 = ap (λ (l : List EntryRecord). length (elements second s fates n l)) q in
       (omega (arith, g.total), sym (g.same ∙ ap (λ (l : List EntryRecord). sets list m (elements second s fates n l)) q))
 
-  pub gathering_turn : (e : EntryRecord) (next : Cursor) → n < most_records → decode h at (drop at s) ≡ Whole e next
+  pub gathering_turn : (e : EntryRecord) (next : Cursor) → n < most_records → decode h at (drop at s) ≡ Ok (e, next)
       → (taken : Bool) → taken ≡ chosen second s fates n e → (x : ℕ) → x ≡ element_of second e → (k : ℕ) → k ≡ pick taken (m + 1) m
       → (after : List ℕ) → after ≡ pick taken (set list m x) list → Gathering second h s fates list₀ after next.at (n + 1) k
   unfolding elements
@@ -243,7 +240,7 @@ module _ (h : ℕ) (s list fates₀ fates : List ℕ) (at n size : ℕ) (g : Set
       let t : code_size h s list (records_in (rest_at h s at n)) ≡ 0 = ap (code_size h s list) q in
       (omega (arith, g.total), sym (g.same ∙ ap (λ (l : List EntryRecord). sets fates n (code_fates s list l)) q))
 
-  module _ (e : EntryRecord) (next : Cursor) (f : n < most_records) (d : decode h at (drop at s) ≡ Whole e next) (fate : ℕ) (t : fate ≡ code_fate s list e)
+  module _ (e : EntryRecord) (next : Cursor) (f : n < most_records) (d : decode h at (drop at s) ≡ Ok (e, next)) (fate : ℕ) (t : fate ≡ code_fate s list e)
       (o : length (own_text e.mode) ≤ 6) where
     pub settling_room : size + kept_size h fate e ≤ next.at + (n + 1) * 7
     settling_room =

@@ -1,18 +1,17 @@
 -- What the private functions of mending say, by elements of the crate `sorting`: places of entries in the object. Assumes nothing.
-use Rattle.std.specs.Prelude.{ℕ, ◌+◌, ◌-◌, ◌*◌, ◌/◌, ◌≤◌, ◌<◌, ◌≡◌, Bool, true, false, ◌&&◌, ◌||◌, List, [], ◌∷◌, ◌++◌, eqb, ltb, length, get_or, drop}
+use Rattle.std.specs.Prelude.{ℕ, ◌+◌, ◌-◌, ◌*◌, ◌/◌, ◌≤◌, ◌<◌, ◌≡◌, Bool, true, false, ◌&&◌, ◌||◌, List, [], ◌∷◌, ◌++◌, eqb, ltb, length, get_or, drop, Err, Ok, Result}
 use Rattle.ground.specs.Basics.{pick, part}
 use Rattle.ground.specs.Scan.{same_bytes}
 use Rattle.entry.specs.Record.{name_of, folder_of}
 use Rattle.entry.specs.Decode.{decode}
 use Rattle.entry.specs.declared.EntryRecord.{EntryRecord}
 use Rattle.entry.specs.declared.Cursor.{Cursor}
-use Rattle.entry.specs.declared.Decoded.{Decoded}
-use Rattle.entry.specs.declared.Decoded.TheVariants.{Whole, Broken}
 use Rattle.rules.specs.Rules.{bare_number}
 use Rattle.strict.specs.Strict.{text_of}
 use Rattle.keys.specs.Key.{key_at, below_by}
 use Rattle.sorting.specs.Sort.{Ascends}
 use Rattle.fate.specs.Fate.{stays_mode, own_text, fate_of}
+use Rattle.ground.specs.declared.Verdict.{Verdict}
 
 -- a record's mode text and name lie inside so many bytes
 abbrev pub Inside : ℕ → EntryRecord → Type 0
@@ -40,14 +39,14 @@ pub record Lowest (below : ℕ → ℕ → Bool) (l : List ℕ) (x r : ℕ) : Ty
   pub over : (j : ℕ) → r ≤ j → j < length l → below (get_or l j 0) x ≡ false
 
 -- a decoded entry has a name
-unfoldable pub has_name : List ℕ → List ℕ → Decoded → Bool
-has_name s name (Whole e next) = same_bytes (name_of s e) name
-has_name s name (Broken v) = false
+unfoldable pub has_name : List ℕ → List ℕ → Result (EntryRecord × Cursor) Verdict → Bool
+has_name s name (Ok (e, next)) = same_bytes (name_of s e) name
+has_name s name (Err v) = false
 
 -- the elements ascend by their keys, and each key is the name of the entry that can be read at its place
 pub record Known (h : ℕ) (s list : List ℕ) : Type 0 where
   pub up : Ascends (below_by (key_at s 32 0)) list
-  pub whole : (j : ℕ) → j < length list → (e : EntryRecord) × (next : Cursor) × (decode h (get_or list j 0 / 2) (drop (get_or list j 0 / 2) s) ≡ Whole e next) × (key_at s 32 0 (get_or list j 0) ≡ name_of s e)
+  pub whole : (j : ℕ) → j < length list → (e : EntryRecord) × (next : Cursor) × (decode h (get_or list j 0 / 2) (drop (get_or list j 0 / 2) s) ≡ Ok (e, next)) × (key_at s 32 0 (get_or list j 0) ≡ name_of s e)
 
 -- a smaller element of the list has the same key
 unfoldable pub earlier : (ℕ → List ℕ) → List ℕ → ℕ → Bool
@@ -71,9 +70,9 @@ code_size h s list [] = 0
 code_size h s list (e ∷ es) = kept_size h (code_fate s list e) e + code_size h s list es
 
 -- the bytes of a decoded entry that is kept
-unfoldable pub kept_bytes : List ℕ → Decoded → List ℕ
-kept_bytes s (Whole e next) = own_text e.mode ++ 32 ∷ part e.name_start next.at s
-kept_bytes s (Broken v) = []
+unfoldable pub kept_bytes : List ℕ → Result (EntryRecord × Cursor) Verdict → List ℕ
+kept_bytes s (Ok (e, next)) = own_text e.mode ++ 32 ∷ part e.name_start next.at s
+kept_bytes s (Err v) = []
 
 -- those of an element, and of elements in turn
 abbrev pub bytes_at : ℕ → List ℕ → ℕ → List ℕ

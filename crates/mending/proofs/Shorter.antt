@@ -14,20 +14,20 @@ use Rattle.mode.specs.Mode.{top_bits, value_of, sort_of, kind_of, is_tree}
 use Rattle.mode.specs.Read.{octal_from, text_len, settle, rest_at, mode_of, read_mode}
 use Rattle.mode.specs.Table.{rows, row_at, written_of, shown}
 use Rattle.mode_table.specs.declared.EntryKind.TheVariants.{Tree}
-use Rattle.mode.specs.declared.ModeRead.TheVariants.{Mode}
 use Rattle.mode.specs.declared.EntryMode.{EntryMode}
 use Rattle.mode.proofs.Laws.{read-parts, read-text, rest_more, text_le}
 use Rattle.entry.specs.Entry.{entry_bytes, as_written}
 use Rattle.entry.specs.Decode.{decode}
 use Rattle.entry.specs.declared.EntryRecord.{EntryRecord}
 use Rattle.entry.specs.declared.Cursor.{Cursor}
-use Rattle.entry.specs.declared.Decoded.TheVariants.{Whole}
 use Rattle.entry.proofs.Laws.{decode-inside, decode-parts}
 use Rattle.fate.specs.Fate.{stays_mode, own_text}
 use Rattle.mend.specs.Mend.{fate_in, is_kept, names_after, kept_from, mended_entry}
 use Rattle.mend_kept.proofs.Bytes.{own-most, bytes-size}
 use Rattle.mend_kept.proofs.Fates.{Reads}
 use Rattle.mend_kept.proofs.Sorts.{kept-mode}
+use Rattle.std.specs.Prelude.{Ok, Some}
+use Rattle.ground.proofs.Pairs.{some_parts}
 
 -- ---- few digits say a small number
 
@@ -36,15 +36,14 @@ top zero b = b
 top (suc n) b = top n (b * 8 + 7)
 
 module _ (first rest m n : ℕ) where
-  digits-most : (ds : List ℕ) (sum b : ℕ) → sum ≤ b → mode_of first rest (octal_from sum ds) ≡ Mode (record { internal = m }) n
+  digits-most : (ds : List ℕ) (sum b : ℕ) → sum ≤ b → mode_of first rest (octal_from sum ds) ≡ Some (record { internal = m }, n)
       → (v : ℕ) × (v ≤ top (length ds) b) × (settle v first ≡ m)
   unfolding octal_from
   digits-most [] sum b p e =
-      let j : ◌≡◌ {A = EntryMode} (record { internal = settle sum first }) (record { internal = m }) = cc in
-      (sum, p, ap (λ (y : EntryMode). y.internal) j)
+      (sum, p, ap (λ (y : EntryMode). y.internal) (some_parts e).0)
   digits-most (d ∷ ds) sum b p e = go (λ x q r. digits-most ds x (b * 8 + 7) q r) (leb 48 d) refl (leb d 55) refl
     where
-      go : ((x : ℕ) → x ≤ b * 8 + 7 → mode_of first rest (octal_from x ds) ≡ Mode (record { internal = m }) n → (v : ℕ) × (v ≤ top (length ds) (b * 8 + 7)) × (settle v first ≡ m))
+      go : ((x : ℕ) → x ≤ b * 8 + 7 → mode_of first rest (octal_from x ds) ≡ Some (record { internal = m }, n) → (v : ℕ) × (v ≤ top (length ds) (b * 8 + 7)) × (settle v first ≡ m))
           → (t : Bool) → leb 48 d ≡ t → (u : Bool) → leb d 55 ≡ u → (v : ℕ) × (v ≤ top (length ds) (b * 8 + 7)) × (settle v first ≡ m)
       go ih true q true r = ih ((sum * 8 + (d - 48)) % 0o200000) (omega (arith, leb-true d 55 r)) (rw (q, r) at e)
       go ih true q false r = let f = rw (q, r) at e in let z : ◌≡◌ {A = ℕ} 0 1 = cc in absurd (omega arith)
@@ -115,7 +114,7 @@ unfolding is_tree sort_of value_of
 padded = refl
 
 -- a mode that stays was read from a text as long as its kind's own at least
-text_enough : (b : List ℕ) (m n : ℕ) → read_mode b ≡ Mode (record { internal = m }) n → stays_mode m ≡ true → length (own_text m) ≤ text_len b
+text_enough : (b : List ℕ) (m n : ℕ) → read_mode b ≡ Some (record { internal = m }, n) → stays_mode m ≡ true → length (own_text m) ≤ text_len b
 text_enough b m n e q =
     let p = read-parts b m n e in
     let l : length (take (text_len b) b) ≡ text_len b = omega (arith, length-take (text_len b) b, text_le b) in
@@ -138,7 +137,7 @@ text_enough b m n e q =
 
 -- ---- an entry, and all of them
 
-entry-shorter : (h : ℕ) (s : List ℕ) (at : ℕ) (e : EntryRecord) (next : Cursor) → 20 ≤ h → decode h at (drop at s) ≡ Whole e next → stays_mode e.mode ≡ true
+entry-shorter : (h : ℕ) (s : List ℕ) (at : ℕ) (e : EntryRecord) (next : Cursor) → 20 ≤ h → decode h at (drop at s) ≡ Ok (e, next) → stays_mode e.mode ≡ true
     → length (entry_bytes (mended_entry h s e)) + at ≤ next.at
 entry-shorter h s at e next long d q =
     let p = decode-parts h at (drop at s) e next d in

@@ -16,8 +16,6 @@ use Rattle.mode.specs.Table.{rows, row_at, written_of}
 use Rattle.mode_table.specs.declared.EntryKind.{EntryKind}
 use Rattle.mode_table.specs.declared.EntryKind.TheVariants.{Tree, Blob, BlobExecutable, Link, Commit}
 use Rattle.order.specs.Order.{is_below, name_order, opposite}
-use Rattle.order.specs.declared.Order.{Order}
-use Rattle.order.specs.declared.Order.TheVariants.{Below, Same, Above}
 use Rattle.order.proofs.Laws.{order_same, order_flip}
 use Rattle.entry.specs.Record.{name_of, id_of}
 use Rattle.entry.specs.Entry.{Entry}
@@ -39,6 +37,8 @@ use Rattle.mend_kept.specs.Code.{element_of}
 use Rattle.mend_kept.proofs.Fates.{All, all_mem}
 use Rattle.mend_kept.proofs.Sorts.{sort-map, sort-same, all-of, Kept, kept_are, Distinct, kept_distinct, one_name, name_free, below-stands}
 use Rattle.mending.specs.Mending.{mended_listing}
+use Rattle.std.specs.declared.cmp.Ordering.{Ordering}
+use Rattle.std.specs.declared.cmp.Ordering.TheVariants.{Equal, Greater, Less}
 
 -- ---- one entry
 
@@ -104,15 +104,15 @@ module _ (h : ℕ) (s : List ℕ) (long : 20 ≤ h) (ks : List EntryRecord) (k :
   unfolding mended_entry stands_before
   before a b p q n u = go (name_order (name_of s a) (is_tree (own_mode a.mode)) (name_of s b) (is_tree (own_mode b.mode))) refl
     where
-      go : (o : Order) → name_order (name_of s a) (is_tree (own_mode a.mode)) (name_of s b) (is_tree (own_mode b.mode)) ≡ o → o ≡ Below
-      go Below e = refl
-      go Same e =
+      go : (o : Ordering) → name_order (name_of s a) (is_tree (own_mode a.mode)) (name_of s b) (is_tree (own_mode b.mode)) ≡ o → o ≡ Less
+      go Less e = refl
+      go Equal e =
           let ka = all_mem (Kept h s) ks a k p in
           let kb = all_mem (Kept h s) ks b k q in
           let w = order_same (name_of s a) (is_tree (own_mode a.mode)) (name_of s b) (is_tree (own_mode b.mode)) (name_free (name_of s a) ka.2).1 (name_free (name_of s b) kb.2).1 e in
           absurd (n (one_name s ks a b d p q w.0))
-      go Above e =
-          let f : name_order (name_of s b) (is_tree (own_mode b.mode)) (name_of s a) (is_tree (own_mode a.mode)) ≡ Below =
+      go Greater e =
+          let f : name_order (name_of s b) (is_tree (own_mode b.mode)) (name_of s a) (is_tree (own_mode a.mode)) ≡ Less =
           order_flip (name_of s a) (is_tree (own_mode a.mode)) (name_of s b) (is_tree (own_mode b.mode)) ∙ ap opposite e in
           absurd (false≢true (sym u ∙ below-stands h s long ks k d b a q p ∙ ap is_below f))
 

@@ -11,16 +11,12 @@ use lib.ListN.{length}
 use borrow.Author.Tests.{leb-true}
 use Rattle.ground.specs.Basics.{pick}
 use Rattle.ground.specs.Verdict.{verdict, fine, most_bytes, most_records, gate_of}
-use Rattle.ground.specs.declared.Gate.{Gate}
-use Rattle.ground.specs.declared.Gate.TheVariants.{Open, Shut}
 use Rattle.ground.proofs.Laws.{gate_open, id_small}
 use Rattle.entry.specs.Record.{many, name_of, id_of}
 use Rattle.entry.specs.Entry.{Entry, as_written}
 use Rattle.entry.specs.declared.EntryRecord.{EntryRecord}
 use Rattle.rules.specs.Rules.{git_rules, stands_before}
 use Rattle.reading.specs.Listing.{listing, tally, records_in, flats}
-use Rattle.reading.specs.declared.Counted.{Counted}
-use Rattle.reading.specs.declared.Counted.TheVariants.{Total, Stopped}
 use Rattle.reading.proofs.Laws.{tally-length, tally_stops, plain-refuses, Refusal, gate_refuses, flats-length}
 use Rattle.one_listing.specs.Demand.{Accepts}
 use Rattle.one_listing.proofs.Present.{git_ok, plainly, git_one-listing}
@@ -37,11 +33,13 @@ use Rattle.mending.specs.Mending.{mended_listing, Done, AllKept, Mending}
 use Rattle.mending.proofs.Shorter.{kept-shorter}
 use Rattle.mending.proofs.Sound.{mem-map, listing-sound}
 use Rattle.mending.proofs.Unchanged.{Zero, same_object}
+use Rattle.ground.specs.declared.Verdict.{Verdict}
+use Rattle.std.specs.Prelude.{Err, Ok, Result, ⊤}
 
 -- a call that was done: the object was read to its end, within the bounds
 pub record Parts (h : ℕ) (s : List ℕ) (list room : ℕ) : Type 0 where
   pub count : ℕ
-  pub total : tally 0 (listing h s) ≡ Total count
+  pub total : tally 0 (listing h s) ≡ Ok count
   pub answer : mend_answer h s list room ≡ record { verdict = fine; count = length (mended h s); entries = count }
   pub id : (h ≡ 20) ⊎ (h ≡ 32)
   pub small : length s ≤ most_bytes
@@ -51,7 +49,7 @@ done-parts : (h : ℕ) (s : List ℕ) (list room : ℕ) → Done h s list room �
 unfolding mend_answer answer_by counted_answer in_room
 done-parts h s list room z = start (gate_of h (max (length s) room) list) refl z
   where
-    fits : (n : ℕ) → tally 0 (listing h s) ≡ Total n → gate_of h (max (length s) room) list ≡ Open → (b c : Bool) → leb n list ≡ b → leb (length (mended h s)) room ≡ c
+    fits : (n : ℕ) → tally 0 (listing h s) ≡ Ok n → gate_of h (max (length s) room) list ≡ Ok tt → (b c : Bool) → leb n list ≡ b → leb (length (mended h s)) room ≡ c
         → (pick b (pick c (record { verdict = fine; count = length (mended h s); entries = n }) (not_mended (verdict 8 (length (mended h s))))) (not_mended (verdict 4 n))).verdict.number ≡ 0
         → Parts h s list room
     fits n t g true true p q z =
@@ -60,13 +58,13 @@ done-parts h s list room z = start (gate_of h (max (length s) room) list) refl z
     fits n t g true false p q z = absurd (omega arith)
     fits n t g false c p q z = absurd (omega arith)
 
-    go : (k : Counted) → tally 0 (listing h s) ≡ k → gate_of h (max (length s) room) list ≡ Open → (counted_answer h s list room k).verdict.number ≡ 0 → Parts h s list room
-    go (Total n) t g z = fits n t g (leb n list) (leb (length (mended h s)) room) refl refl z
-    go (Stopped v) t g z = absurd (tally_stops Refusal 0 (listing h s) v (plain-refuses h s) t z)
+    go : (k : Result ℕ Verdict) → tally 0 (listing h s) ≡ k → gate_of h (max (length s) room) list ≡ Ok tt → (counted_answer h s list room k).verdict.number ≡ 0 → Parts h s list room
+    go (Ok n) t g z = fits n t g (leb n list) (leb (length (mended h s)) room) refl refl z
+    go (Err v) t g z = absurd (tally_stops Refusal 0 (listing h s) v (plain-refuses h s) t z)
 
-    start : (g : Gate) → gate_of h (max (length s) room) list ≡ g → (answer_by g (counted_answer h s list room (tally 0 (listing h s)))).verdict.number ≡ 0 → Parts h s list room
-    start Open g z = go (tally 0 (listing h s)) refl g z
-    start (Shut v) g z = absurd (gate_refuses h (max (length s) room) list v g z)
+    start : (g : Result ⊤ Verdict) → gate_of h (max (length s) room) list ≡ g → (answer_by g (counted_answer h s list room (tally 0 (listing h s)))).verdict.number ≡ 0 → Parts h s list room
+    start (Ok tt) g z = go (tally 0 (listing h s)) refl g z
+    start (Err v) g z = absurd (gate_refuses h (max (length s) room) list v g z)
 
 named : (h : ℕ) (s : List ℕ) (list room : ℕ) → Done h s list room
     → ((mend_answer h s list room).entries ≡ length (records_in (listing h s))) × (length (fates_of h s) ≡ length (records_in (listing h s)))

@@ -14,7 +14,6 @@ use Rattle.mode.specs.Mode.{value_of, sort_of, executes, kind_of, is_tree}
 use Rattle.mode.specs.Table.{rows, row_at, written_of}
 use Rattle.mode.specs.Write.{write_mode}
 use Rattle.order.specs.Order.{is_below, name_order, opposite}
-use Rattle.order.specs.declared.Order.TheVariants.{Above}
 use Rattle.order.proofs.Laws.{order_flip}
 use Rattle.entry.specs.Record.{name_of, id_of}
 use Rattle.entry.specs.Entry.{Entry, entry_bytes, as_written, entry_of}
@@ -37,6 +36,7 @@ use Rattle.fate.proofs.Laws.{fate_kept}
 use Rattle.mend.specs.Mend.{among, fate_in, names_after, fates_from, kept_from, fates_of, mended_entry, mended}
 use Rattle.mend_kept.proofs.Bytes.{own-text}
 use Rattle.mend_kept.proofs.Fates.{All}
+use Rattle.std.specs.declared.cmp.Ordering.TheVariants.{Greater}
 
 -- ---- one of the five modes is its kind's own
 
@@ -156,7 +156,7 @@ unfolding Ascends stands_before
 up [] a = tt
 up (x ∷ []) a = tt
 up (x ∷ y ∷ es) a =
-    let f : name_order y.name (is_tree y.mode) x.name (is_tree x.mode) ≡ Above =
+    let f : name_order y.name (is_tree y.mode) x.name (is_tree x.mode) ≡ Greater =
     order_flip x.name (is_tree x.mode) y.name (is_tree y.mode) ∙ ap opposite a.0 in
     (ap is_below f, up (y ∷ es) a.1)
 

@@ -1,28 +1,26 @@
 -- One step of the merge of two trees' entries, by positions in the bundle (docs/FORMAT.md, "Differences"). Assumes nothing.
-use Rattle.std.specs.Prelude.{ℕ, ◌+◌, ◌-◌, ◌≤◌, Bool, false, ◌≡◌, List, eqb, leb, length, drop}
+use Rattle.std.specs.Prelude.{ℕ, ◌+◌, ◌-◌, ◌≤◌, Bool, false, ◌≡◌, List, eqb, leb, length, drop, Err, None, Ok, Option, Result, Some}
 use Rattle.ground.specs.Basics.{pick, part}
 use Rattle.ground.specs.Scan.{same_bytes}
 use Rattle.order.specs.Order.{name_order}
-use Rattle.order.specs.declared.Order.{Order}
-use Rattle.order.specs.declared.Order.TheVariants.{Below, Same, Above}
 use Rattle.entry.specs.Record.{folder_of}
 use Rattle.entry.specs.Decode.{decode}
 use Rattle.entry.specs.declared.EntryRecord.{EntryRecord}
-use Rattle.entry.specs.declared.Decoded.{Decoded}
-use Rattle.entry.specs.declared.Decoded.TheVariants.{Whole, Broken}
 use Rattle.merge.specs.declared.Rest.{Rest}
-use Rattle.merge.specs.declared.Ahead.{Ahead}
-use Rattle.merge.specs.declared.Ahead.TheVariants.{End, Entry}
 use Rattle.merge.specs.declared.Side.{Side}
 use Rattle.merge.specs.declared.Change.{Change}
 use Rattle.merge.specs.declared.Step.{Step}
 use Rattle.merge.specs.declared.Step.TheVariants as step
+use Rattle.entry.specs.declared.Cursor.{Cursor}
+use Rattle.ground.specs.declared.Verdict.{Verdict}
+use Rattle.std.specs.declared.cmp.Ordering.{Ordering}
+use Rattle.std.specs.declared.cmp.Ordering.TheVariants.{Equal, Greater, Less}
 
 -- the first of three where an order is below, the second where it is the same, the third where it is above
-abbrev pub by_order : {A : Type 0} → Order → A → A → A → A
-by_order Below a b c = a
-by_order Same a b c = b
-by_order Above a b c = c
+abbrev pub by_order : {A : Type 0} → Ordering → A → A → A → A
+by_order Less a b c = a
+by_order Equal a b c = b
+by_order Greater a b c = c
 
 -- ---- what is left of a tree
 
@@ -45,24 +43,24 @@ moved start e = record {
 }
 
 -- an entry that was decoded, and what is left behind it
-unfoldable pub ahead_of : Rest → Decoded → Ahead
-ahead_of c (Broken v) = End
-ahead_of c (Whole e next) = Entry (moved c.start e) (record { start = c.start; end = c.end; at = next.at; left = c.left - 1 })
+unfoldable pub ahead_of : Rest → Result (EntryRecord × Cursor) Verdict → Option (EntryRecord × Rest)
+ahead_of c (Err v) = None
+ahead_of c (Ok (e, next)) = Some (moved c.start e, record { start = c.start; end = c.end; at = next.at; left = c.left - 1 })
 
 -- the next entry: none where none is left, or where the tree does not lie inside the bundle
-unfoldable pub ahead_at : ℕ → List ℕ → Rest → Ahead
+unfoldable pub ahead_at : ℕ → List ℕ → Rest → Option (EntryRecord × Rest)
 ahead_at h s c =
-    pick (eqb c.left 0) End
-    (pick (leb c.start c.end) (pick (leb c.end (length s)) (ahead_of c (decode h c.at (drop c.at (bytes_of s c)))) End) End)
+    pick (eqb c.left 0) None
+    (pick (leb c.start c.end) (pick (leb c.end (length s)) (ahead_of c (decode h c.at (drop c.at (bytes_of s c)))) None) None)
 
 -- an entry's name and id lie inside so many bytes
 abbrev pub EntryWithin : ℕ → ℕ → EntryRecord → Type 0
 EntryWithin h len e = (e.name_start ≤ e.name_end) × (e.name_end ≤ len) × (e.id_start + h ≤ len)
 
 -- so do those of the next entry, and one entry fewer is left behind it
-abbrev pub AheadWithin : ℕ → List ℕ → Rest → Ahead → Type 0
-AheadWithin h s c End = Unit {0}
-AheadWithin h s c (Entry e next) = EntryWithin h (length s) e × Within s next × (next.left + 1 ≡ c.left)
+abbrev pub AheadWithin : ℕ → List ℕ → Rest → Option (EntryRecord × Rest) → Type 0
+AheadWithin h s c None = Unit {0}
+AheadWithin h s c (Some (e, next)) = EntryWithin h (length s) e × Within s next × (next.left + 1 ≡ c.left)
 
 -- ---- a step
 
@@ -100,11 +98,11 @@ both_of h s a b l r =
     (step.Differs (change_of a (side_of h a) (side_of h b) (folder_of a)) l r)
 
 -- the lower of two entries in Git's order comes alone; entries of one name and sort come together
-unfoldable pub merge_step : ℕ → List ℕ → Rest → Rest → Ahead → Ahead → Step
-merge_step h s l r End End = step.Done
-merge_step h s l r End (Entry b next) = step.Differs (right_change h b) l next
-merge_step h s l r (Entry a next) End = step.Differs (left_change h a) next r
-merge_step h s l r (Entry a nextl) (Entry b nextr) =
+unfoldable pub merge_step : ℕ → List ℕ → Rest → Rest → Option (EntryRecord × Rest) → Option (EntryRecord × Rest) → Step
+merge_step h s l r None None = step.Done
+merge_step h s l r None (Some (b, next)) = step.Differs (right_change h b) l next
+merge_step h s l r (Some (a, next)) None = step.Differs (left_change h a) next r
+merge_step h s l r (Some (a, nextl)) (Some (b, nextr)) =
     by_order (name_order (name_in s a) (folder_of a) (name_in s b) (folder_of b))
     (step.Differs (left_change h a) nextl r)
     (both_of h s a b nextl nextr)

@@ -6,10 +6,11 @@ ghost use Rattle.entry.specs.Record.{folder_of};
 ghost use Rattle.order.specs.Order.{name_order};
 ghost use Rattle.merge.specs.Merge.{ahead_at, EntryWithin, name_in, no_side, side_of, left_change, right_change, both_of, step_at};
 
-use entry::{Cursor, Decoded, EntryRecord};
+use entry::{Cursor, EntryRecord};
 use entry_record::is_folder;
-use order::{Order, name_order};
+use order::name_order;
 use scan::same_bytes;
+use std::cmp::Ordering;
 
 // What is still to be read of a tree: where its bytes begin and end in the bundle, the place in it of the next entry, and how many are left.
 #[derive(Clone, Copy)]
@@ -18,13 +19,6 @@ pub struct Rest {
     pub end: usize,
     pub at: usize,
     pub left: usize,
-}
-
-// The next entry of a tree, its positions counted in the bundle, and what is left behind it.
-#[derive(Clone, Copy)]
-pub enum Ahead {
-    End,
-    Entry(EntryRecord, Rest),
 }
 
 // One side of a change: a mode and an id's range in the bundle. Where nothing is there, all are 0.
@@ -54,31 +48,31 @@ pub enum Step {
 }
 
 // The next entry of a tree that lies inside the bundle.
-fn next_entry(bundle: &[u8], h: usize, c: Rest) -> Ahead
+fn next_entry(bundle: &[u8], h: usize, c: Rest) -> Option<(EntryRecord, Rest)>
     ensures { result ≡ ahead_at h bundle.now c }
 {
     let left = c.left;
     if left == 0 {
-        return Ahead::End;
+        return None;
     }
     let start = c.start;
     let end = c.end;
     if end < start {
-        return Ahead::End;
+        return None;
     }
     if bundle.len() < end {
-        return Ahead::End;
+        return None;
     }
     let from = Cursor { at: c.at };
     match from.decode(&bundle[start..end], h) {
-        Decoded::Broken(_) => return Ahead::End,
-        Decoded::Whole(e, next) => {
+        Err(_) => return None,
+        Ok((e, next)) => {
             let name_start = start + e.name_start;
             let name_end = start + e.name_end;
             let id_start = start + e.id_start;
             let text_start = start + e.text_start;
             let fewer = left - 1;
-            return Ahead::Entry(
+            return Some((
                 EntryRecord {
                     mode: e.mode,
                     name_start,
@@ -92,7 +86,7 @@ fn next_entry(bundle: &[u8], h: usize, c: Rest) -> Ahead
                     at: next.at,
                     left: fewer,
                 },
-            );
+            ));
         }
     }
 }
@@ -198,7 +192,7 @@ fn only_right(h: usize, e: EntryRecord) -> Change
 }
 
 // Git's order of two entries, by name and sort.
-fn order_of(bundle: &[u8], a: EntryRecord, b: EntryRecord) -> Order
+fn order_of(bundle: &[u8], a: EntryRecord, b: EntryRecord) -> Ordering
     requires name_start_bound { (a.name_start ≤ a.name_end) × (a.name_end ≤ length bundle.now) }
     requires name_start_bound_2 { (b.name_start ≤ b.name_end) × (b.name_end ≤ length bundle.now) }
     ensures { result ≡ name_order (name_in bundle.now a) (folder_of a) (name_in bundle.now b) (folder_of b) }
@@ -222,16 +216,16 @@ pub fn merge_step(bundle: &[u8], h: usize, l: Rest, r: Rest) -> Step
     let x = next_entry(bundle, h, l);
     let y = next_entry(bundle, h, r);
     match x {
-        Ahead::End => match y {
-            Ahead::End => return Step::Done,
-            Ahead::Entry(b, next) => return Step::Differs(only_right(h, b), l, next),
+        None => match y {
+            None => return Step::Done,
+            Some((b, next)) => return Step::Differs(only_right(h, b), l, next),
         },
-        Ahead::Entry(a, next) => match y {
-            Ahead::End => return Step::Differs(only_left(h, a), next, r),
-            Ahead::Entry(b, other) => match order_of(bundle, a, b) {
-                Order::Below => return Step::Differs(only_left(h, a), next, r),
-                Order::Same => return in_both(bundle, h, a, b, next, other),
-                Order::Above => return Step::Differs(only_right(h, b), l, other),
+        Some((a, next)) => match y {
+            None => return Step::Differs(only_left(h, a), next, r),
+            Some((b, other)) => match order_of(bundle, a, b) {
+                Ordering::Less => return Step::Differs(only_left(h, a), next, r),
+                Ordering::Equal => return in_both(bundle, h, a, b, next, other),
+                Ordering::Greater => return Step::Differs(only_right(h, b), l, other),
             },
         },
     }

@@ -10,21 +10,17 @@ use lib.ListN.{length, get_or, take, drop}
 use borrow.Author.Tests.{eq-eqb, ne_eqb, eqb-true}
 use Rattle.ground.specs.Verdict.{verdict, size_gate}
 use Rattle.ground.specs.declared.Verdict.{Verdict}
-use Rattle.ground.specs.declared.Gate.TheVariants.{Open, Shut}
 use Rattle.ground.proofs.Laws.{same_test}
 use Rattle.mode_text.specs.Read.{octal_from, text_len, settle, rest_at, read_text, read_text_at}
 use Rattle.mode_text.specs.Read as reads
-use Rattle.mode_text.specs.declared.TextRead.{TextRead}
-use Rattle.mode_text.specs.declared.TextRead.TheVariants as text
-use Rattle.mode_text.specs.declared.Octal.TheVariants.{Number}
 use Rattle.mode_text.proofs.Laws as texts
 use Rattle.mode.specs.Mode.{top_bits, value_of, executes, accepted, rejected, from_number}
 use Rattle.mode.specs.Read.{made, mode_of, read_mode, moved, read_mode_at, alone, mode_alone}
 use Rattle.mode.specs.declared.EntryMode.{EntryMode}
-use Rattle.mode.specs.declared.ModeRead.{ModeRead}
-use Rattle.mode.specs.declared.ModeRead.TheVariants.{Mode, Bad}
 pub use Rattle.mode_text.proofs.Laws.{text_six, text-count, text_le, rest_more, rest_end, Parts, mode_le, text-is}
 pub use Rattle.mode_table.proofs.Laws.{row-text-is}
+use Rattle.std.specs.Prelude.{Err, None, Ok, Option, Some}
+use Rattle.ground.proofs.Pairs.{some_parts}
 
 -- ---- masks and tests
 
@@ -92,20 +88,19 @@ module _ (i : List ℕ) (some : length i ≡ 0 → ⊥) (k : ℕ) (e : k ≡ tex
   unfolding read_mode
   read-text = ap made (texts.read-text i some k e h)
 
-  pub read_number : (v : ℕ) → octal_from 0 (take k i) ≡ Number v → read_mode i ≡ Mode (record { internal = settle v (get_or i 0 0) }) (rest_at k (length i))
+  pub read_number : (v : ℕ) → octal_from 0 (take k i) ≡ Some v → read_mode i ≡ Some (record { internal = settle v (get_or i 0 0) }, rest_at k (length i))
   read_number v o = read-text ∙ ap (mode_of _ _) o
 
 -- a mode is made from its own bits alone
-made-from : (r : TextRead) (m n : ℕ) → made r ≡ Mode (record { internal = m }) n → r ≡ text.Bits m n
-made-from (text.Bits v k) m n e =
-    let j : ◌≡◌ {A = EntryMode} (record { internal = v }) (record { internal = m }) = cc in
-    let a : v ≡ m = ap (λ (y : EntryMode). y.internal) j in
-    let b : k ≡ n = cc in
-    rw (a, b)
-made-from text.Bad m n e = let z : ◌≡◌ {A = ℕ} 0 1 = cc in absurd (omega arith)
+made-from : (r : Option (ℕ × ℕ)) (m n : ℕ) → made r ≡ Some (record { internal = m }, n) → r ≡ Some (m, n)
+made-from (Some (v, k)) m n e =
+    let w = some_parts e in
+    let a : v ≡ m = ap (λ (y : EntryMode). y.internal) w.0 in
+    rw (a, w.1)
+made-from None m n e = let z : ◌≡◌ {A = ℕ} 0 1 = cc in absurd (omega arith)
 
-module _ (b : List ℕ) (m n : ℕ) (e : read_mode b ≡ Mode (record { internal = m }) n) where
-  bits : read_text b ≡ text.Bits m n
+module _ (b : List ℕ) (m n : ℕ) (e : read_mode b ≡ Some (record { internal = m }, n)) where
+  bits : read_text b ≡ Some (m, n)
   unfolding read_mode
   bits = made-from (read_text b) m n e
 
@@ -124,24 +119,24 @@ eight_decide i = ap made (texts.eight_decide i)
 
 -- ---- from a place on, and alone
 
-made-moved : (at : ℕ) (r : TextRead) → made (reads.moved at r) ≡ moved at (made r)
-made-moved at (text.Bits m n) = refl
-made-moved at text.Bad = refl
+made-moved : (at : ℕ) (r : Option (ℕ × ℕ)) → made (reads.moved at r) ≡ moved at (made r)
+made-moved at (Some (m, n)) = refl
+made-moved at None = refl
 
 -- the text from a place on makes the mode from there
 pub made_at : (s : List ℕ) (at : ℕ) → made (read_text_at s at) ≡ read_mode_at s at
 unfolding read_mode_at read_mode read_text_at
 made_at s at = made-moved at (read_text (drop at s))
 
-alone-moved : (at : ℕ) (r : ModeRead) → alone (moved at r) ≡ alone r
-alone-moved at (Mode m n) = refl
-alone-moved at Bad = refl
+alone-moved : (at : ℕ) (r : Option (EntryMode × ℕ)) → alone (moved at r) ≡ alone r
+alone-moved at (Some (m, n)) = refl
+alone-moved at None = refl
 
 module _ (i : List ℕ) where
-  pub alone_open : size_gate (length i) 0 ≡ Open → mode_alone i ≡ alone (read_mode_at i 0)
+  pub alone_open : size_gate (length i) 0 ≡ Ok tt → mode_alone i ≡ alone (read_mode_at i 0)
   unfolding mode_alone read_mode_at
   alone_open e = rw e (sym (alone-moved 0 (read_mode i)))
 
-  pub alone-shut : (v : Verdict) → size_gate (length i) 0 ≡ Shut v → mode_alone i ≡ rejected v
+  pub alone-shut : (v : Verdict) → size_gate (length i) 0 ≡ Err v → mode_alone i ≡ rejected v
   unfolding mode_alone
   alone-shut v e = rw e

@@ -8,21 +8,14 @@ ghost use Rattle.mode_table.specs.Kind.{is_executable, is_file_or_link};
 ghost use Rattle.mode.specs.Mode.{value_of, sort_of, kind_of, word_of, is_tree, from_number};
 ghost use Rattle.mode.specs.Read.{read_mode_at, mode_alone};
 
-use ground::{BROKEN_ENTRY, FINE, Gate, NO_MODE, NO_MODE_OR_KIND, Verdict, sizes};
+use ground::{BROKEN_ENTRY, FINE, NO_MODE, NO_MODE_OR_KIND, Verdict, sizes};
 use mode_table::{EntryKind, written_of};
-use mode_text::{ShortText, TextRead, read_at, text_of};
+use mode_text::{ShortText, read_at, text_of};
 
 // The 16 bits. 16384 from a text that begins with 0 is kept as 49152, so that the text can be written again.
 #[derive(Clone, Copy)]
 pub struct EntryMode {
     pub internal: u16,
-}
-
-// A mode at the front of some bytes with the place where the rest begins, or that none can be read there.
-#[derive(Clone, Copy)]
-pub enum ModeRead {
-    Mode(EntryMode, usize),
-    Bad,
 }
 
 // The answer of a call that makes a mode: number 0 in it on a refusal.
@@ -178,16 +171,16 @@ impl EntryMode {
         ensures { result ≡ mode_alone i.now }
     {
         match sizes(i.len(), 0) {
-            Gate::Open => match EntryMode::extract_at(i, 0) {
-                ModeRead::Mode(m, _) => {
+            Ok(()) => match EntryMode::extract_at(i, 0) {
+                Some((m, _)) => {
                     return ModeAnswer {
                         verdict: FINE,
                         mode: m,
                     };
                 }
-                ModeRead::Bad => return NO_TEXT,
+                None => return NO_TEXT,
             },
-            Gate::Shut(v) => {
+            Err(v) => {
                 return ModeAnswer {
                     verdict: v,
                     mode: EntryMode { internal: 0 },
@@ -197,12 +190,12 @@ impl EntryMode {
     }
 
     // The mode whose text begins at a place, and the place where the rest begins.
-    pub fn extract_at(s: &[u8], at: usize) -> ModeRead
+    pub fn extract_at(s: &[u8], at: usize) -> Option<(EntryMode, usize)>
         ensures { result ≡ read_mode_at s.now at }
     {
         match read_at(s, at) {
-            TextRead::Bits(m, next) => return ModeRead::Mode(EntryMode { internal: m }, next),
-            TextRead::Bad => return ModeRead::Bad,
+            Some((m, next)) => return Some((EntryMode { internal: m }, next)),
+            None => return None,
         }
     }
 }

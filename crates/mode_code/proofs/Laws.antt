@@ -18,8 +18,6 @@ use Rattle.mode_table.specs.Table.{rows, no_row, row_at}
 use Rattle.mode_text.specs.Write.{shown}
 use Rattle.mode_text.specs.Write.{write_mode, again}
 use Rattle.mode.specs.declared.EntryMode.{EntryMode}
-use Rattle.mode.specs.declared.ModeRead.{ModeRead}
-use Rattle.mode.specs.declared.ModeRead.TheVariants.{Mode, Bad}
 use Rattle.mode_table.specs.declared.Written.{Written}
 use Rattle.mode.proofs.Laws.{read-parts, read_next}
 use Rattle.mode_table.proofs.Laws.{row-text-is}
@@ -27,11 +25,13 @@ use Rattle.mode_text.proofs.Laws.{rest_more, rest_end, text-is}
 use Rattle.mode_round.proofs.Space.{read_small}
 use Rattle.mode_round.proofs.Again.{written_reads}
 use Rattle.mode_code.specs.Code.{coded, code_of, code_at, spaced, code_in, quick_at}
+use Rattle.std.specs.Prelude.{None, Option, Some}
+use Rattle.ground.proofs.Pairs.{some_parts}
 
 -- ---- what was read is known by its code
 
 -- the text of a mode that was read takes at most eight bytes with the space
-read_eight : (b : List ℕ) (m n : ℕ) → read_mode b ≡ Mode (record { internal = m }) n → n ≤ 8
+read_eight : (b : List ℕ) (m n : ℕ) → read_mode b ≡ Some (record { internal = m }, n) → n ≤ 8
 read_eight b m n e =
     let p = read-parts b m n e in
     elim (dec_lt (text_len b) (length b)) [
@@ -40,7 +40,7 @@ read_eight b m n e =
     ]
 
 -- a mode that was read, by its digits of base sixteen
-digits : (m n : ℕ) → n ≤ 8 → ◌≡◌ {A = ModeRead} (Mode (record { internal = m }) n) (Mode (record { internal = coded m n / 16 }) (coded m n % 16))
+digits : (m n : ℕ) → n ≤ 8 → ◌≡◌ {A = Option (EntryMode × ℕ)} (Some (record { internal = m }, n)) (Some (record { internal = coded m n / 16 }, coded m n % 16))
 digits m n h =
     let p : coded m n / 16 ≡ m = omega arith in
     let q : coded m n % 16 ≡ n = omega arith in
@@ -49,50 +49,51 @@ digits m n h =
 module _ (s : List ℕ) (at : ℕ) where
   -- ---- code 0: no mode can be read
 
-  pub code-bad : code_at s at ≡ 0 → read_mode_at s at ≡ Bad
+  pub code-bad : code_at s at ≡ 0 → read_mode_at s at ≡ None
   unfolding code_at read_mode_at
   code-bad e = go (read_mode (drop at s)) refl e
     where
-      go : (r : ModeRead) → read_mode (drop at s) ≡ r → code_of r ≡ 0 → moved at r ≡ Bad
-      go (Mode m n) p e = absurd (omega (arith, read_next (drop at s) m.internal n p))
-      go Bad p e = refl
+      go : (r : Option (EntryMode × ℕ)) → read_mode (drop at s) ≡ r → code_of r ≡ 0 → moved at r ≡ None
+      go (Some (m, n)) p e = absurd (omega (arith, read_next (drop at s) m.internal n p))
+      go None p e = refl
 
-  pub code_of_bad : read_mode_at s at ≡ Bad → code_at s at ≡ 0
+  pub code_of_bad : read_mode_at s at ≡ None → code_at s at ≡ 0
   unfolding code_at read_mode_at
   code_of_bad e = go (read_mode (drop at s)) e
     where
-      go : (r : ModeRead) → moved at r ≡ Bad → code_of r ≡ 0
-      go (Mode m n) e = cc
-      go Bad e = refl
+      go : (r : Option (EntryMode × ℕ)) → moved at r ≡ None → code_of r ≡ 0
+      go (Some (m, n)) e = cc
+      go None e = refl
 
   -- ---- any other: its mode and the length of its text are the digits
 
   -- the code of what is read, and the eight bytes that its text takes at most
-  pub code_of_mode : (m : EntryMode) (rest : ℕ) → read_mode_at s at ≡ Mode m rest
+  pub code_of_mode : (m : EntryMode) (rest : ℕ) → read_mode_at s at ≡ Some (m, rest)
       → (at < rest) × (rest ≤ at + 8) × (code_at s at ≡ coded m.internal (rest - at))
   unfolding code_at read_mode_at
   code_of_mode m rest e = go (read_mode (drop at s)) refl e
     where
-      go : (r : ModeRead) → read_mode (drop at s) ≡ r → moved at r ≡ Mode m rest
+      go : (r : Option (EntryMode × ℕ)) → read_mode (drop at s) ≡ r → moved at r ≡ Some (m, rest)
           → (at < rest) × (rest ≤ at + 8) × (code_of r ≡ coded m.internal (rest - at))
-      go (Mode k n) p e =
-          let i : k.internal ≡ m.internal = ap (λ (x : EntryMode). x.internal) (cc) in
-          let z : at + n ≡ rest = cc in
+      go (Some (k, n)) p e =
+          let w = some_parts e in
+          let i : k.internal ≡ m.internal = ap (λ (x : EntryMode). x.internal) w.0 in
+          let z : at + n ≡ rest = w.1 in
           let q = read_next (drop at s) k.internal n p in
           let h = read_eight (drop at s) k.internal n p in
           (omega arith, omega arith, omega arith)
-      go Bad p e = let z : ◌≡◌ {A = ℕ} 0 1 = cc in absurd (omega arith)
+      go None p e = let z : ◌≡◌ {A = ℕ} 0 1 = cc in absurd (omega arith)
 
   module _ (some : code_at s at ≡ 0 → ⊥) where
-    code_reads : read_mode (drop at s) ≡ Mode (record { internal = code_at s at / 16 }) (code_at s at % 16)
+    code_reads : read_mode (drop at s) ≡ Some (record { internal = code_at s at / 16 }, code_at s at % 16)
     unfolding code_at
     code_reads = go (read_mode (drop at s)) refl some
       where
-        go : (r : ModeRead) → read_mode (drop at s) ≡ r → (code_of r ≡ 0 → ⊥) → r ≡ Mode (record { internal = code_of r / 16 }) (code_of r % 16)
-        go (Mode m n) p e = digits m.internal n (read_eight (drop at s) m.internal n p)
-        go Bad p e = absurd (e refl)
+        go : (r : Option (EntryMode × ℕ)) → read_mode (drop at s) ≡ r → (code_of r ≡ 0 → ⊥) → r ≡ Some (record { internal = code_of r / 16 }, code_of r % 16)
+        go (Some (m, n)) p e = digits m.internal n (read_eight (drop at s) m.internal n p)
+        go None p e = absurd (e refl)
 
-    pub code-mode : read_mode_at s at ≡ Mode (record { internal = code_at s at / 16 }) (at + code_at s at % 16)
+    pub code-mode : read_mode_at s at ≡ Some (record { internal = code_at s at / 16 }, at + code_at s at % 16)
     unfolding read_mode_at
     code-mode = ap (moved at) code_reads
 
@@ -108,7 +109,7 @@ module _ (s : List ℕ) (at : ℕ) where
 
 -- what a row promises: its text and space, with anything behind them, read as its mode
 abbrev Reads : Written → Type 0
-Reads r = (t : List ℕ) → read_mode (spaced r ++ t) ≡ Mode (record { internal = r.mode }) (length (spaced r))
+Reads r = (t : List ℕ) → read_mode (spaced r ++ t) ≡ Some (record { internal = r.mode }, length (spaced r))
 
 -- each row of the table keeps it: its text is the one written for its mode, and such a text reads back
 module _ (i : ℕ) (h : i < 5) where

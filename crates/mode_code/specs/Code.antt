@@ -1,22 +1,21 @@
 -- The mode at the front of an entry, and the length of its text, as one number. Assumes nothing.
-use Rattle.std.specs.Prelude.{ℕ, ◌+◌, ◌*◌, List, [], ◌∷◌, ◌++◌, length, take, drop, leb}
+use Rattle.std.specs.Prelude.{ℕ, ◌+◌, ◌*◌, List, [], ◌∷◌, ◌++◌, length, take, drop, leb, None, Option, Some}
 use Rattle.ground.specs.Basics.{pick}
 use Rattle.ground.specs.Scan.{same_bytes}
 use Rattle.mode.specs.Read.{read_mode}
 use Rattle.mode_table.specs.Table.{rows}
 use Rattle.mode_text.specs.Write.{shown}
-use Rattle.mode.specs.declared.ModeRead.{ModeRead}
-use Rattle.mode.specs.declared.ModeRead.TheVariants.{Mode, Bad}
 use Rattle.mode_table.specs.declared.Written.{Written}
+use Rattle.mode.specs.declared.EntryMode.{EntryMode}
 
 -- a mode and how many bytes its text takes with the space, as one number
 abbrev pub coded : ℕ → ℕ → ℕ
 coded m n = m * 16 + n
 
 -- what was read as such a number: 0 where no mode can be read
-abbrev pub code_of : ModeRead → ℕ
-code_of (Mode m n) = coded m.internal n
-code_of Bad = 0
+abbrev pub code_of : Option (EntryMode × ℕ) → ℕ
+code_of (Some (m, n)) = coded m.internal n
+code_of None = 0
 
 -- the code of the mode at a place: past the end there is none
 unfoldable pub code_at : List ℕ → ℕ → ℕ

@@ -6,7 +6,7 @@ ghost use Rattle.std.specs.Prelude.{◌≡◌, ◌+◌, ◌<◌, ◌≤◌, leng
 ghost use Rattle.mode_code.specs.Code.{code_at, quick_at};
 ghost use Rattle.mode_code.specs.Quad.{quad_at, six_of};
 
-use mode::{EntryMode, ModeRead};
+use mode::EntryMode;
 
 // The codes of the five written modes.
 const TREE: usize = 0o40000 * 16 + 6;
@@ -24,11 +24,11 @@ pub fn code_at(s: &[u8], at: usize) -> usize
     ensures { result ≡ code_at s.now at }
 {
     match EntryMode::extract_at(s, at) {
-        ModeRead::Mode(m, rest) => {
+        Some((m, rest)) => {
             let n = rest - at;
             m.internal as usize * 16 + n
         }
-        ModeRead::Bad => 0,
+        None => 0,
     }
 }
 

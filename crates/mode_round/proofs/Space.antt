@@ -12,19 +12,18 @@ use Rattle.ground.specs.Basics.{pick}
 use Rattle.ground.specs.Scan.{count_to}
 use Rattle.ground.proofs.Laws.{and_left, count-is, count_at, count-take}
 use Rattle.mode.specs.Read.{octal_from, text_len, has_six, settle, read_mode}
-use Rattle.mode.specs.declared.ModeRead.TheVariants.{Mode}
-use Rattle.mode_text.specs.declared.Octal.TheVariants.{Number, Other}
 use Rattle.mode.proofs.Laws.{text_six, text-count, rest_more, read-parts}
+use Rattle.std.specs.Prelude.{None, Some}
 
 -- ---- digits that say a number: it has 16 bits, and none of them is a space
 
-octal-parts : (sum : ℕ) (bs : List ℕ) (v : ℕ) → sum < 0o200000 → octal_from sum bs ≡ Number v → (v < 0o200000) × (count_to 32 bs ≡ length bs)
+octal-parts : (sum : ℕ) (bs : List ℕ) (v : ℕ) → sum < 0o200000 → octal_from sum bs ≡ Some v → (v < 0o200000) × (count_to 32 bs ≡ length bs)
 unfolding octal_from
 octal-parts sum [] v p e = let z : sum ≡ v = cc in (omega arith, refl)
 octal-parts sum (b ∷ bs) v p e = go (octal-parts ((sum * 8 + (b - 48)) % 0o200000) bs v (omega arith)) (leb 48 b) refl (leb b 55) e
   where
-    go : (octal_from ((sum * 8 + (b - 48)) % 0o200000) bs ≡ Number v → (v < 0o200000) × (count_to 32 bs ≡ length bs))
-        → (t : Bool) → leb 48 b ≡ t → (u : Bool) → pick (t && u) (octal_from ((sum * 8 + (b - 48)) % 0o200000) bs) Other ≡ Number v
+    go : (octal_from ((sum * 8 + (b - 48)) % 0o200000) bs ≡ Some v → (v < 0o200000) × (count_to 32 bs ≡ length bs))
+        → (t : Bool) → leb 48 b ≡ t → (u : Bool) → pick (t && u) (octal_from ((sum * 8 + (b - 48)) % 0o200000) bs) None ≡ Some v
         → (v < 0o200000) × (count_to 32 (b ∷ bs) ≡ suc (length bs))
     go ih true q true e = ((ih e).0, simp (ne_eqb b 32 (λ z. omega (arith, leb-true 48 b q))) (ap suc (ih e).1))
     go ih true q false e = let z : ◌≡◌ {A = ℕ} 0 1 = cc in absurd (omega arith)
@@ -45,7 +44,7 @@ unfolding has_six
 text-space b p true e = rw (text_six b e) (eqb-true _ _ (and_left (eqb (get_or b 6 0) 32) _ e))
 text-space b p false e = rw (text-count b e) (count-is 32 b (rw (text-count b e) at p))
 
-module _ (b : List ℕ) (m n : ℕ) (e : read_mode b ≡ Mode (record { internal = m }) n) where
+module _ (b : List ℕ) (m n : ℕ) (e : read_mode b ≡ Some (record { internal = m }, n)) where
   -- A mode that was read has 16 bits.
   pub read_small : m < 0o200000
   read_small =

@@ -14,8 +14,8 @@ use Rattle.mode_text.proofs.Laws.{text-is}
 use Rattle.mode_table.specs.Table.{place_of, rows, no_row, row_at, find_text}
 use Rattle.mode_table.specs.declared.EntryKind.{EntryKind}
 use Rattle.mode_table.specs.declared.EntryKind.TheVariants.{Tree, Blob, BlobExecutable, Link, Commit}
-use Rattle.mode_table.specs.declared.ModeFound.TheVariants.{Mode, None}
 use Rattle.mode_table.specs.declared.Written.{Written}
+use Rattle.std.specs.Prelude.{None, Some}
 
 pub place_lt : (k : EntryKind) → place_of k < 5
 place_lt Tree = omega arith
@@ -44,7 +44,7 @@ module _ (t : List ℕ) (i : ℕ) where
     unfolding row_at
     row_cons = rw (e, add-one i) (drop-cons rows i no_row (rw rows-length h))
 
-    pub find-here : same_bytes t (shown r.text) ≡ true → find_text t (drop i rows) ≡ Mode r.mode
+    pub find-here : same_bytes t (shown r.text) ≡ true → find_text t (drop i rows) ≡ Some r.mode
     find-here q = rw row_cons (simp q)
 
     pub find_more : same_bytes t (shown r.text) ≡ false → find_text t (drop i rows) ≡ find_text t (drop (i + 1) rows)

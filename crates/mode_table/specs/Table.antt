@@ -1,12 +1,10 @@
 -- The table of the five written modes (docs/FORMAT.md, "Modes"). Assumes nothing.
-use Rattle.std.specs.Prelude.{ℕ, List, [], ◌∷◌, get_or}
+use Rattle.std.specs.Prelude.{ℕ, List, [], ◌∷◌, get_or, None, Option, Some}
 use Rattle.ground.specs.Basics.{pick, ascii}
 use Rattle.ground.specs.Scan.{same_bytes}
 use Rattle.mode_text.specs.Write.{short, shown}
 use Rattle.mode_table.specs.declared.EntryKind.{EntryKind}
 use Rattle.mode_table.specs.declared.EntryKind.TheVariants.{Tree, Blob, BlobExecutable, Link, Commit}
-use Rattle.mode_table.specs.declared.ModeFound.{ModeFound}
-use Rattle.mode_table.specs.declared.ModeFound.TheVariants.{Mode, None}
 use Rattle.mode_table.specs.declared.Written.{Written}
 
 -- the five modes: number, kind, octal text, and the kind's word
@@ -40,10 +38,10 @@ unfoldable pub written_of : EntryKind → Written
 written_of k = row_at (place_of k)
 
 -- the mode of the first of some rows whose text is t
-abbrev pub find_text : List ℕ → List Written → ModeFound
+abbrev pub find_text : List ℕ → List Written → Option ℕ
 find_text t [] = None
-find_text t (r ∷ rs) = pick (same_bytes t (shown r.text)) (Mode r.mode) (find_text t rs)
+find_text t (r ∷ rs) = pick (same_bytes t (shown r.text)) (Some r.mode) (find_text t rs)
 
 -- the mode that the table gives a text
-unfoldable pub written_mode : List ℕ → ModeFound
+unfoldable pub written_mode : List ℕ → Option ℕ
 written_mode t = find_text t rows

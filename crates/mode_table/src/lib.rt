@@ -18,13 +18,6 @@ pub enum EntryKind {
     Commit,
 }
 
-// A mode of the table, or that there is none.
-#[derive(Clone, Copy)]
-pub enum ModeFound {
-    Mode(u16),
-    None,
-}
-
 // A row of the table: a mode, its kind, its octal text and its kind's word.
 #[derive(Clone, Copy)]
 pub struct Written {
@@ -127,7 +120,7 @@ pub fn written_of(k: EntryKind) -> Written
 }
 
 // The mode whose row has exactly this text.
-pub fn written_mode(t: &[u8]) -> ModeFound
+pub fn written_mode(t: &[u8]) -> Option<u16>
     ensures { result ≡ written_mode t.now }
 {
     let mut i: usize = 0;
@@ -137,11 +130,11 @@ pub fn written_mode(t: &[u8]) -> ModeFound
         let bytes = text.bytes;
         let n = text.len;
         if same_bytes(t, &bytes[..n]) {
-            return ModeFound::Mode(row.mode);
+            return Some(row.mode);
         }
         i += 1;
     }
-    ModeFound::None
+    None
 }
 
 impl EntryKind {

@@ -16,10 +16,9 @@ use Rattle.ground.specs.Scan.{count_to}
 use Rattle.ground.proofs.Laws.{count-le, count-take}
 use Rattle.mode_text.specs.Read.{octal_from, has_six, text_len, settle, rest_at, text_of, read_text, moved, read_text_at}
 use Rattle.mode_text.specs.Write.{six_digits, trimmed, write_mode, short, shown, mode_text}
-use Rattle.mode_text.specs.declared.TextRead.TheVariants.{Bits, Bad}
-use Rattle.mode_text.specs.declared.Octal.{Octal}
-use Rattle.mode_text.specs.declared.Octal.TheVariants.{Number, Other}
 use Rattle.mode_text.specs.declared.ShortText.{ShortText}
+use Rattle.std.specs.Prelude.{None, Option, Some}
+use Rattle.ground.proofs.Pairs.{some_parts}
 
 -- ---- octal digits from a place on: a digit, a byte below the digits, one above them, the end
 
@@ -33,15 +32,15 @@ module _ (t : List ℕ) (sum n : ℕ) where
         (simp (le-leb 48 (get_or t n 0) lo, le-leb (get_or t n 0) 55 hi)
         (ap (λ (v : ℕ). octal_from v (drop (suc n) t)) (omega arith)))
 
-    pub octal-low : get_or t n 0 < 48 → octal_from sum (drop n t) ≡ Other
+    pub octal-low : get_or t n 0 < 48 → octal_from sum (drop n t) ≡ None
     unfolding octal_from
     octal-low lo = rw (drop-cons t n 0 h) (simp (lt-leb 48 (get_or t n 0) lo))
 
-    pub octal-high : 55 < get_or t n 0 → octal_from sum (drop n t) ≡ Other
+    pub octal-high : 55 < get_or t n 0 → octal_from sum (drop n t) ≡ None
     unfolding octal_from
     octal-high hi = rw (drop-cons t n 0 h) (simp (le-leb 48 (get_or t n 0) (omega arith), lt-leb (get_or t n 0) 55 hi))
 
-  pub octal_end : length t ≤ n → octal_from sum (drop n t) ≡ Number sum
+  pub octal_end : length t ≤ n → octal_from sum (drop n t) ≡ Some sum
   unfolding octal_from
   octal_end e = rw (drop_of_length-le t {i = n} e)
 
@@ -70,12 +69,12 @@ module _ (i : List ℕ) where
 -- ---- reading: no bytes, too long a text, a byte that is no digit, a number
 
 module _ (i : List ℕ) where
-  pub read_none : length i ≡ 0 → read_text i ≡ Bad
+  pub read_none : length i ≡ 0 → read_text i ≡ None
   unfolding read_text
   read_none e = simp (le-ltb 0 (length i) (omega arith))
 
   module _ (some : length i ≡ 0 → ⊥) (k : ℕ) (e : k ≡ text_len i) where
-    pub read-long : 7 < k → read_text i ≡ Bad
+    pub read-long : 7 < k → read_text i ≡ None
     unfolding read_text
     read-long h = simp (lt-ltb 0 (length i) (omega arith), lt-leb (text_len i) 7 (omega arith))
 
@@ -84,15 +83,15 @@ module _ (i : List ℕ) where
       unfolding read_text
       read-text = rw e (simp (lt-ltb 0 (length i) (omega arith), le-leb (text_len i) 7 (omega arith)))
 
-      pub read-other : octal_from 0 (take k i) ≡ Other → read_text i ≡ Bad
+      pub read-other : octal_from 0 (take k i) ≡ None → read_text i ≡ None
       read-other o = read-text ∙ ap (text_of _ _) o
 
-      read_number : (v : ℕ) → octal_from 0 (take k i) ≡ Number v → read_text i ≡ Bits (settle v (get_or i 0 0)) (rest_at k (length i))
+      read_number : (v : ℕ) → octal_from 0 (take k i) ≡ Some v → read_text i ≡ Some (settle v (get_or i 0 0), rest_at k (length i))
       read_number v o = read-text ∙ ap (text_of _ _) o
 
-      pub read_bits : (v : ℕ) → octal_from 0 (take k i) ≡ Number v → (m rest : ℕ) → m ≡ settle v (get_or i 0 0) → rest ≡ rest_at k (length i)
-          → Bits m rest ≡ read_text i
-      read_bits v o m rest e f = ap (λ (x : ℕ). Bits x rest) e ∙ ap (Bits (settle v (get_or i 0 0))) f ∙ sym (read_number v o)
+      pub read_bits : (v : ℕ) → octal_from 0 (take k i) ≡ Some v → (m rest : ℕ) → m ≡ settle v (get_or i 0 0) → rest ≡ rest_at k (length i)
+          → Some (m, rest) ≡ read_text i
+      read_bits v o m rest e f = ap (λ (x : ℕ). Some (x, rest)) e ∙ ap ((λ y. Some ((settle v (get_or i 0 0)), y))) f ∙ sym (read_number v o)
 
 -- ---- where the rest begins
 
@@ -112,24 +111,24 @@ pub record Parts (b : List ℕ) (m n : ℕ) : Type 0 where
   pub some : 0 < length b
   pub few : text_len b ≤ 7
   pub sum : ℕ
-  pub digits : octal_from 0 (take (text_len b) b) ≡ Number sum
+  pub digits : octal_from 0 (take (text_len b) b) ≡ Some sum
   pub made : settle sum (get_or b 0 0) ≡ m
   pub rest : n ≡ rest_at (text_len b) (length b)
 
-pub read-parts : (b : List ℕ) (m n : ℕ) → read_text b ≡ Bits m n → Parts b m n
+pub read-parts : (b : List ℕ) (m n : ℕ) → read_text b ≡ Some (m, n) → Parts b m n
 unfolding read_text
 read-parts b m n e = go (ltb 0 (length b)) refl (leb (text_len b) 7) refl (octal_from 0 (take (text_len b) b)) refl e
   where
-    go : (u : Bool) → ltb 0 (length b) ≡ u → (v : Bool) → leb (text_len b) 7 ≡ v → (o : Octal) → octal_from 0 (take (text_len b) b) ≡ o
-        → pick (u && v) (text_of (get_or b 0 0) (rest_at (text_len b) (length b)) o) Bad ≡ Bits m n → Parts b m n
-    go true p true q (Number x) r e =
-        record { some = ltb-true _ _ p; few = leb-true _ _ q; sum = x; digits = r; made = cc; rest = cc }
-    go true p true q Other r e = let z : ◌≡◌ {A = ℕ} 0 1 = cc in absurd (omega arith)
+    go : (u : Bool) → ltb 0 (length b) ≡ u → (v : Bool) → leb (text_len b) 7 ≡ v → (o : Option ℕ) → octal_from 0 (take (text_len b) b) ≡ o
+        → pick (u && v) (text_of (get_or b 0 0) (rest_at (text_len b) (length b)) o) None ≡ Some (m, n) → Parts b m n
+    go true p true q (Some x) r e =
+        let w = some_parts e in record { some = ltb-true _ _ p; few = leb-true _ _ q; sum = x; digits = r; made = w.0; rest = sym w.1 }
+    go true p true q None r e = let z : ◌≡◌ {A = ℕ} 0 1 = cc in absurd (omega arith)
     go true p false q o r e = let z : ◌≡◌ {A = ℕ} 0 1 = cc in absurd (omega arith)
     go false p v q o r e = let z : ◌≡◌ {A = ℕ} 0 1 = cc in absurd (omega arith)
 
 -- The rest begins behind the first byte and not behind the end.
-pub read_next : (b : List ℕ) (m n : ℕ) → read_text b ≡ Bits m n → (0 < n) × (n ≤ length b)
+pub read_next : (b : List ℕ) (m n : ℕ) → read_text b ≡ Some (m, n) → (0 < n) × (n ≤ length b)
 read_next b m n e =
     let p = read-parts b m n e in
     elim (dec_lt (text_len b) (length b)) [
@@ -184,7 +183,7 @@ eight_decide i = first-decide 8 i (omega arith)
 -- ---- from a place on
 
 module _ (s : List ℕ) (at : ℕ) where
-  pub past-reads : length s < at → read_text_at s at ≡ Bad
+  pub past-reads : length s < at → read_text_at s at ≡ None
   unfolding read_text_at
   past-reads h = ap (moved at) (read_none (drop at s) (simp length-drop (omega arith)))
 

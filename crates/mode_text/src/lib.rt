@@ -7,20 +7,6 @@ ghost use Rattle.mode_text.specs.Write.{trimmed, short, mode_text};
 
 use scan::count_to;
 
-// The 16 bits that a text at the front of some bytes says with the place where the rest begins, or that none can be read there.
-#[derive(Clone, Copy)]
-pub enum TextRead {
-    Bits(u16, usize),
-    Bad,
-}
-
-// A run of octal digits as a number's low 16 bits, or that a byte is no digit.
-#[derive(Clone, Copy)]
-pub enum Octal {
-    Number(u16),
-    Other,
-}
-
 // At most six bytes: the first len are the text, the others are 0.
 #[derive(Clone, Copy)]
 pub struct ShortText {
@@ -78,35 +64,35 @@ fn trimmed(a: u8, b: u8, c: u8, d: u8, e: u8, f: u8) -> ShortText
 }
 
 // The text that begins at a place, and the place where the rest begins. Eight bytes decide it.
-pub fn read_at(s: &[u8], at: usize) -> TextRead
+pub fn read_at(s: &[u8], at: usize) -> Option<(u16, usize)>
     ensures { result ≡ read_text_at s.now at }
 {
     if s.len() < at {
-        return TextRead::Bad;
+        return None;
     }
     let end = eight_on(at, s.len());
     match read(&s[at..end]) {
-        TextRead::Bits(m, n) => TextRead::Bits(m, at + n),
-        TextRead::Bad => TextRead::Bad,
+        Some((m, n)) => Some((m, at + n)),
+        None => None,
     }
 }
 
 // The text that stands at the front.
-fn read(i: &[u8]) -> TextRead
+fn read(i: &[u8]) -> Option<(u16, usize)>
     ensures { result ≡ read_text i.now }
 {
     if i.len() == 0 {
-        return TextRead::Bad;
+        return None;
     }
     let n = text_len(i);
     if 7 < n {
-        return TextRead::Bad;
+        return None;
     }
     let first = i[0];
     let next = rest_at(n, i.len());
     match octal_of(&i[..n]) {
-        Octal::Number(v) => TextRead::Bits(settled(v, first), next),
-        Octal::Other => TextRead::Bad,
+        Some(v) => Some((settled(v, first), next)),
+        None => None,
     }
 }
 
@@ -119,7 +105,7 @@ fn eight_on(at: usize, len: usize) -> usize
 }
 
 // The low 16 bits of a number in octal digits.
-fn octal_of(t: &[u8]) -> Octal
+fn octal_of(t: &[u8]) -> Option<u16>
     ensures { result ≡ octal_from 0 t.now }
 {
     let mut sum: u16 = 0;
@@ -127,15 +113,15 @@ fn octal_of(t: &[u8]) -> Octal
     while n < t.len() {
         let b = t[n];
         if b < b'0' {
-            return Octal::Other;
+            return None;
         }
         if b'7' < b {
-            return Octal::Other;
+            return None;
         }
         sum = sum % 0o20000 * 8 + (b - b'0') as u16;
         n += 1;
     }
-    Octal::Number(sum)
+    Some(sum)
 }
 
 // Byte 6 is a space and byte 5 is none.

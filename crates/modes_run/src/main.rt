@@ -2,7 +2,7 @@
 // A line for each of the 16 sorts: the sort in octal, and the sum over its 4,096 modes.
 #![tactic(auto)]
 
-use mode::{EntryMode, ModeAnswer, ModeRead};
+use mode::{EntryMode, ModeAnswer};
 use mode_text::ShortText;
 use std::io;
 
@@ -22,19 +22,19 @@ fn take_text(sum: u32, t: ShortText) -> u32 {
     t.bytes.iter().fold(sum, |all, b| take(all, u32::from(*b)))
 }
 
-fn take_read(sum: u32, r: ModeRead) -> u32 {
+fn take_read(sum: u32, r: Option<(EntryMode, usize)>) -> u32 {
     match r {
-        ModeRead::Mode(m, n) => take(take(sum, u32::from(m.internal)), (n % 4294967296) as u32),
-        ModeRead::Bad => take(take(sum, 65536), 0),
+        Some((m, n)) => take(take(sum, u32::from(m.internal)), (n % 4294967296) as u32),
+        None => take(take(sum, 65536), 0),
     }
 }
 
 // A text, a space and the letter a, read.
-fn read_back(t: ShortText) -> ModeRead {
+fn read_back(t: ShortText) -> Option<(EntryMode, usize)> {
     let b = t.bytes;
     let n = t.len;
     if 6 < n {
-        return ModeRead::Bad;
+        return None;
     }
     let mut line = [b[0], b[1], b[2], b[3], b[4], b[5], 0, 0];
     line[n] = 32;
@@ -74,10 +74,10 @@ fn answered(rt: &impl Print, a: ModeAnswer, rest: usize) -> io::Result<()> {
     rt.write_all(b"\n")
 }
 
-fn rest_of(r: ModeRead) -> usize {
+fn rest_of(r: Option<(EntryMode, usize)>) -> usize {
     match r {
-        ModeRead::Mode(_, n) => n,
-        ModeRead::Bad => 0,
+        Some((_, n)) => n,
+        None => 0,
     }
 }
 

@@ -1,15 +1,18 @@
 -- Laws of what is said of a name: each way through its tests. Assumes nothing.
-use Prim.Native.Nat.{ℕ, ◌+◌, ◌<◌, ◌≤◌}
+use Prim.Native.Nat.{ℕ}
 use native.Mathlib.Omega.{arith}
-use mathlib.Core.Path.{◌≡◌, refl, sym, ◌∙◌}
+use mathlib.Core.Path.{◌≡◌, refl, ap, sym}
 use mathlib.Core.Bool.{Bool, true, false, not, ◌&&◌, ◌||◌, false≢true}
 use mathlib.Core.List.{List, [], ◌∷◌, map}
-use lib.Dec.{eqb}
-use lib.ListN.{length, get_or, length-map}
-use borrow.Author.Tests.{le-leb, lt-leb, ne_eqb}
+use lib.ListN.{length, get_or}
+use borrow.Author.Tests.{le-leb, lt-leb}
 use Rattle.ground.specs.Basics.{ascii, pick}
 use Rattle.ground.specs.Scan.{same_bytes, free_of}
-use Rattle.ground.proofs.Laws.{is_false, and_left, and_right, same_length}
+use Rattle.ground.proofs.Laws.{is_false, and_left, and_right, same_length, same_refl, same_true}
+use Rattle.std.specs.Char.{to_ascii_lowercase}
+use Rattle.std.specs.Prelude.{IsTrue, ◌↔◌}
+use native.Mathlib.Decide.{dec_lt}
+use borrow.Author.Tests.{lt-ltb, le-ltb}
 use Rattle.names.specs.Names.{or_else, is_reserved, is_plain, lower, is_dot_git, reserved_number, bare_number}
 
 module _ (n : List ℕ) where
@@ -37,28 +40,19 @@ module _ (n : List ℕ) where
       none_right true b e = absurd (false≢true e)
       none_right false b e = e
 
-  no_bytes : eqb (length n) 0 ≡ same_bytes n []
-  no_bytes = go n
-    where
-      go : (l : List ℕ) → eqb (length l) 0 ≡ same_bytes l []
-      go [] = refl
-      go (x ∷ xs) = ne_eqb (length (x ∷ xs)) 0 (λ z. omega arith)
+  -- with another number of bytes it is none
+  pub reserved_length : (length n ≡ 0 → ⊥) → (length n ≡ 1 → ⊥) → (length n ≡ 2 → ⊥) → (length n ≡ 4 → ⊥) → is_reserved n ≡ false
+  reserved_length a b c d = rw (same_length n [] a, same_length n (ascii ".") b, same_length n (ascii "..") c, same_length n (ascii ".git") d) refl
 
-  -- a reserved name by its tests
-  pub reserved_is : (eqb (length n) 0 || ((same_bytes n (ascii ".") || same_bytes n (ascii "..")) || same_bytes n (ascii ".git"))) ≡ is_reserved n
-  reserved_is = rw (no_bytes, one_of (same_bytes n (ascii ".")) (same_bytes n (ascii "..")) (same_bytes n (ascii ".git")))
-    where
-      one_of : (a b c : Bool) → ((a || b) || c) ≡ (a || (b || c))
-      one_of true b c = refl
-      one_of false b c = refl
-
-  -- of more than four bytes it is none
-  other : (m : List ℕ) → length m ≤ 4 → 4 < length n → same_bytes n m ≡ false
-  other m k h = same_length n m (λ e. omega arith)
-
-  pub reserved_long : 4 < length n → is_reserved n ≡ false
-  reserved_long h =
-      rw (other [] (omega arith) h, other (ascii ".") (omega arith) h, other (ascii "..") (omega arith) h, other (ascii ".git") (omega arith) h)
+  -- four bytes whose second is no `g` are none
+  pub reserved_second : length n ≡ 4 → (get_or n 1 0 ≡ 103 → ⊥) → is_reserved n ≡ false
+  reserved_second e f =
+      rw (
+        same_length n [] (λ z. omega arith),
+        same_length n (ascii ".") (λ z. omega arith),
+        same_length n (ascii "..") (λ z. omega arith),
+        is_false (same_bytes n (ascii ".git")) (λ z. f (ap (λ (l : List ℕ). get_or l 1 0) (same_true n (ascii ".git") z))),
+      ) refl
 
   pub name-empty : length n ≡ 0 → is_plain n ≡ false
   name-empty e = is_false (is_plain n) (λ p. by n e (plain-parts p).0)
@@ -66,19 +60,6 @@ module _ (n : List ℕ) where
       by : (l : List ℕ) → length l ≡ 0 → not (same_bytes l []) ≡ true → ⊥
       by [] q r = absurd (false≢true r)
       by (x ∷ xs) q r = omega arith
-
-  -- the number of a name by those tests
-  pub number_reserved : is_reserved n ≡ true → reserved_number n ≡ 6
-  unfolding reserved_number
-  number_reserved p = rw p
-
-  pub number_git : is_reserved n ≡ false → is_dot_git n ≡ true → reserved_number n ≡ 18
-  unfolding reserved_number
-  number_git p g = rw (p, g)
-
-  pub number-fine : is_reserved n ≡ false → is_dot_git n ≡ false → reserved_number n ≡ 0
-  unfolding reserved_number
-  number-fine p g = rw (p, g)
 
   pub number-bad : is_plain n ≡ false → bare_number n ≡ 6
   unfolding bare_number
@@ -100,31 +81,27 @@ module _ (n : List ℕ) where
       go true = refl
       go false = refl
 
--- a byte that is no letter in upper case, and one that is
-pub lower-below : (b : ℕ) → b < 65 → lower b ≡ b
-lower-below b h = rw (lt-leb 65 b h)
+-- ---- `.git` in either case
 
-pub lower-above : (b : ℕ) → 90 < b → lower b ≡ b
-lower-above b h = rw (le-leb 65 b (omega arith), lt-leb b 90 h)
+lower-same : (b : ℕ) → to_ascii_lowercase b ≡ lower b
+lower-same b =
+    elim (dec_lt b 65) [
+      | yes p ↦ rw (lt-leb 65 b p, lt-ltb b 65 p) refl
+      | no p ↦ elim (dec_lt b 91) [
+        | yes q ↦ rw (le-leb 65 b (omega arith), le-leb b 90 (omega arith), le-ltb b 65 (omega arith), lt-ltb b 91 q) refl
+        | no q ↦ rw (le-leb 65 b (omega arith), lt-leb b 90 (omega arith), le-ltb b 65 (omega arith), le-ltb b 91 (omega arith)) refl
+      ]
+    ]
 
-pub lower-letter : (b : ℕ) → 65 ≤ b → b ≤ 90 → lower b ≡ b + 32
-lower-letter b h k = rw (le-leb 65 b h, le-leb b 90 k)
+lower_all : (n : List ℕ) → map to_ascii_lowercase n ≡ map lower n
+lower_all [] = refl
+lower_all (b ∷ bs) = rw (lower-same b, lower_all bs) refl
 
-pub git_length : (n : List ℕ) → (length n ≡ 4 → ⊥) → is_dot_git n ≡ false
+-- a test that is true exactly where two lists are the same
+same-told : (r : Bool) (a b : List ℕ) → (IsTrue r ↔ (a ≡ b)) → r ≡ same_bytes a b
+same-told true a b t = rw (← t.0 refl) (sym (same_refl a))
+same-told false a b t = sym (is_false (same_bytes a b) (λ e. false≢true (t.1 (same_true a b e))))
+
+pub git_told : (n : List ℕ) (r : Bool) → (IsTrue r ↔ (map to_ascii_lowercase n ≡ ascii ".git")) → r ≡ is_dot_git n
 unfolding is_dot_git
-git_length n f = same_length (map lower n) (ascii ".git") (λ e. f (sym (length-map n lower) ∙ e))
-
--- four bytes, in lower case
-pub git_four : (n : List ℕ) → length n ≡ 4
-    → (eqb (lower (get_or n 0 0)) 46 && (eqb (lower (get_or n 1 0)) 103 && (eqb (lower (get_or n 2 0)) 105 && eqb (lower (get_or n 3 0)) 116))) ≡ is_dot_git n
-unfolding is_dot_git
-git_four (a ∷ b ∷ c ∷ d ∷ []) e = go (eqb (lower a) 46) (eqb (lower b) 103) (eqb (lower c) 105) (eqb (lower d) 116)
-  where
-    go : (p q r s : Bool) → (p && (q && (r && s))) ≡ (p && (q && (r && (s && true))))
-    go p q r true = refl
-    go p q r false = refl
-git_four [] e = absurd (omega arith)
-git_four (a ∷ []) e = absurd (omega arith)
-git_four (a ∷ b ∷ []) e = absurd (omega arith)
-git_four (a ∷ b ∷ c ∷ []) e = absurd (omega arith)
-git_four (a ∷ b ∷ c ∷ d ∷ x ∷ xs) e = absurd (omega arith)
+git_told n r t = same-told r (map lower n) (ascii ".git") (rw (lower_all n) at t)

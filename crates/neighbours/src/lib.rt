@@ -26,14 +26,10 @@ pub fn neighbours(s: &[u8], h: usize, list: &[u32], n: usize) -> bool
     ensures { result ≡ touches (same_short s.now h) (take n list.now) }
 {
     let most = shorter(n, list.len());
-    let mut i = 1;
-    while i < most {
-        let x = list[i - 1];
-        let y = list[i];
-        if same_ids(s, h, x, y) {
+    for i in 1..most {
+        if same_ids(s, h, list[i - 1], list[i]) {
             return true;
         }
-        i += 1;
     }
     false
 }

@@ -17,10 +17,10 @@ use Rattle.entry.specs.Record.{name_of, id_of}
 use Rattle.entry.specs.Entry.{Entry, entry_bytes, as_written, entry_of, entries_of}
 use Rattle.entry.specs.Decode.{record_at, decode, decode_mode, decode_name}
 use Rattle.entry.specs.declared.EntryRecord.{EntryRecord}
-use Rattle.entry.specs.declared.Decoded.TheVariants.{Whole}
 use Rattle.reading.specs.Listing.{Listing, done, entry, follow, plain, records_in}
 use Rattle.reading.proofs.Laws.{plain-some, plain-none}
 use Rattle.one_listing.specs.Again.{again_entry}
+use Rattle.std.specs.Prelude.{Ok}
 
 -- an entry that can be written and read again: a mode of 16 bits that is not 0, no NUL in the name, an id of h bytes
 pub record Writable (h : ℕ) (e : Entry) : Type 0 where
@@ -62,7 +62,7 @@ module _ (h : ℕ) (e : Entry) (f : Writable h e) (r : List ℕ) where
   unfolding entry_bytes
   bytes-length = simp length-append (omega (arith, f.id))
 
-  pub bytes-decode : (at : ℕ) → decode h at (entry_bytes e ++ r) ≡ Whole (record_for at e) (record { at = at + length (entry_bytes e) })
+  pub bytes-decode : (at : ℕ) → decode h at (entry_bytes e ++ r) ≡ Ok (record_for at e, record { at = at + length (entry_bytes e) })
   unfolding decode decode_mode decode_name record_for
   bytes-decode at =
       let c : List ℕ = e.name ++ 0 ∷ (e.id ++ r) in

@@ -18,7 +18,6 @@ use Rattle.mode_text.specs.Write.{shown}
 use Rattle.mode_text.specs.Write.{write_mode, again}
 use Rattle.mode.specs.declared.EntryMode.{EntryMode}
 use Rattle.mode_table.specs.declared.Written.{Written}
-use Rattle.mode.specs.declared.ModeRead.TheVariants.{Mode}
 use Rattle.mode_round.proofs.Again.{written_reads}
 use Rattle.mode_round.proofs.Space.{mode-space}
 use Rattle.entry.specs.Record.{name_of, id_of}
@@ -26,18 +25,18 @@ use Rattle.entry.specs.Entry.{Entry, entry_bytes, as_written, entry_of, entries_
 use Rattle.entry.specs.Decode.{decode}
 use Rattle.entry.specs.declared.EntryRecord.{EntryRecord}
 use Rattle.entry.specs.declared.Cursor.{Cursor}
-use Rattle.entry.specs.declared.Decoded.{Decoded}
-use Rattle.entry.specs.declared.Decoded.TheVariants.{Whole, Broken}
 use Rattle.entry.proofs.Laws.{Parts, decode-parts}
 use Rattle.rules.specs.Rules.{Rules, or_else, is_text, judge}
 use Rattle.reading.specs.Listing.{Listing, stop, entry, follow, plain, records_in, tally}
-use Rattle.reading.specs.declared.Counted.TheVariants.{Total}
 use Rattle.strict.specs.Strict.{text_of, cut}
 use Rattle.strict.proofs.Laws.{cut-fine}
 use Rattle.one_listing.specs.Sound.{is_mode, Permitted, Sound}
 use Rattle.one_listing.specs.Lawful.{RowOk, RowsOk, RulesOk}
 use Rattle.one_listing.specs.Again.{again_entry}
 use Rattle.one_listing.proofs.Back.{Writable, AllWritable, record_for, listed, bytes_append, record_names}
+use Rattle.ground.specs.declared.Verdict.{Verdict}
+use Rattle.std.specs.Prelude.{Err, Ok, Result, Some}
+use Rattle.ground.proofs.Pairs.{some_parts}
 
 -- ---- modes and texts of the rows
 
@@ -180,7 +179,7 @@ rejoin h c p =
     rw (i, ← g) (take-append-drop t c)
 
 -- a permitted text in front of a space: the mode that was read is the one it is written for
-row_read : (rows : List Written) (b : List ℕ) (m n : ℕ) → RowsOk rows → read_mode b ≡ Mode (record { internal = m }) n → 7 < length b → is_text rows (take (n - 1) b) ≡ true
+row_read : (rows : List Written) (b : List ℕ) (m n : ℕ) → RowsOk rows → read_mode b ≡ Some (record { internal = m }, n) → 7 < length b → is_text rows (take (n - 1) b) ≡ true
     → (take n b ≡ write_mode m ++ 32 ∷ []) × (is_mode rows m ≡ true)
 row_read rows b m n ok e p t =
     let s = mode-space b m n e p in
@@ -192,11 +191,11 @@ row_read rows b m n ok e p t =
     let d : drop (n - 1) b ≡ 32 ∷ drop n b
     = drop-cons b (n - 1) 0 (omega (arith, s.0, s.1)) ∙ ap (λ (x : ℕ). x ∷ drop (suc (n - 1)) b) s.2 ∙ ap (λ (x : ℕ). 32 ∷ drop x b) (sym y) in
     let c : b ≡ w ++ 32 ∷ drop n b = sym (take-append-drop (n - 1) b) ∙ ap (λ (l : List ℕ). l ++ drop (n - 1) b) (sym row.1) ∙ ap (λ (l : List ℕ). w ++ l) d in
-    let f : read_mode b ≡ Mode (record { internal = again k }) (length w + 1) = ap read_mode c ∙ written_reads k (drop n b) o.some o.small in
-    let g : Mode (record { internal = m }) n ≡ Mode (record { internal = again k }) (length w + 1) = sym e ∙ f in
-    let j : ◌≡◌ {A = EntryMode} (record { internal = m }) (record { internal = again k }) = cc in
-    let i : m ≡ k = ap (λ (x : EntryMode). x.internal) j ∙ o.same in
-    let l : n ≡ length w + 1 = cc in
+    let f : read_mode b ≡ Some (record { internal = again k }, length w + 1) = ap read_mode c ∙ written_reads k (drop n b) o.some o.small in
+    let g : Some (record { internal = m }, n) ≡ Some (record { internal = again k }, length w + 1) = sym e ∙ f in
+    let parts = some_parts g in
+    let i : m ≡ k = ap (λ (x : EntryMode). x.internal) parts.0 ∙ o.same in
+    let l : n ≡ length w + 1 = parts.1 in
     let u : take n (w ++ 32 ∷ drop n b) ≡ w ++ 32 ∷ []
     = ap (take n) (sym (append_snoc w 32 (drop n b))) ∙ take_at (w ++ 32 ∷ []) (drop n b) n (simp length-append (omega arith)) in
     (ap (take n) c ∙ u ∙ ap (λ (x : ℕ). write_mode x ++ 32 ∷ []) (sym i), rw i o.known)
@@ -273,7 +272,7 @@ module _ (h : ℕ) (s : List ℕ) (at : ℕ) (b : List ℕ) (here-is : drop at s
       (record { known = w.1; named = z.1; placed = z.2; sized = id-sized }, bytes-are w.0)
 
 pub uncut_sound : (R : Rules) → RulesOk R → (h : ℕ) (s : List ℕ) → 6 < h → (k at m n : ℕ) (before : List Entry) (b : List ℕ) → drop at s ≡ b
-    → tally m (cut R h s before (plain h k at b)) ≡ Total n
+    → tally m (cut R h s before (plain h k at b)) ≡ Ok n
     → Sound R h before (entries_of h s (records_in (plain h k at b))) × (b ≡ as_written (entries_of h s (records_in (plain h k at b))))
 unfolding plain follow cut tally records_in as_written
 uncut_sound R ok h s o zero at m n before [] q t = (tt, refl)
@@ -285,8 +284,8 @@ uncut_sound R ok h s o (suc k) at m n before (x ∷ xs) q t = go (λ i p c. uncu
     Out p b l = Sound R h p (entries_of h s (records_in l)) × (b ≡ as_written (entries_of h s (records_in l)))
 
     turn : (b : List ℕ) → drop at s ≡ b → (e : EntryRecord) (next : Cursor) → Parts h at b e next → (v : Bool) → eqb (judge R before (text_of s at e) (entry_of h s e)) 0 ≡ v
-        → (l : Listing) → (tally (m + 1) (cut R h s (entry_of h s e ∷ before) l) ≡ Total n → Out (entry_of h s e ∷ before) (drop (next.at - at) b) l)
-        → tally m (pick v (entry at e (cut R h s (entry_of h s e ∷ before) l)) (stop (verdict (judge R before (text_of s at e) (entry_of h s e)) at))) ≡ Total n
+        → (l : Listing) → (tally (m + 1) (cut R h s (entry_of h s e ∷ before) l) ≡ Ok n → Out (entry_of h s e ∷ before) (drop (next.at - at) b) l)
+        → tally m (pick v (entry at e (cut R h s (entry_of h s e ∷ before) l)) (stop (verdict (judge R before (text_of s at e) (entry_of h s e)) at))) ≡ Ok n
         → Out before b (entry at e l)
     turn b q e next P true j l ih t =
         let w = entry-sound h s at b q e next P R ok o before (eqb-true _ 0 j) in
@@ -294,10 +293,10 @@ uncut_sound R ok h s o (suc k) at m n before (x ∷ xs) q t = go (λ i p c. uncu
         ((w.0, i.0), w.1 ∙ ap (λ (r : List ℕ). entry_bytes (entry_of h s e) ++ r) i.1)
     turn b q e next P false j l ih t = let z : ◌≡◌ {A = ℕ} 0 1 = cc in absurd (omega arith)
 
-    go : ((i : ℕ) (p : List Entry) (c : List ℕ) → drop i s ≡ c → tally (m + 1) (cut R h s p (plain h k i c)) ≡ Total n → Out p c (plain h k i c))
-        → (b : List ℕ) → drop at s ≡ b → (d : Decoded) → decode h at b ≡ d → tally m (cut R h s before (follow (plain h k) at b d)) ≡ Total n → Out before b (follow (plain h k) at b d)
-    go ih b q (Whole e next) d t =
+    go : ((i : ℕ) (p : List Entry) (c : List ℕ) → drop i s ≡ c → tally (m + 1) (cut R h s p (plain h k i c)) ≡ Ok n → Out p c (plain h k i c))
+        → (b : List ℕ) → drop at s ≡ b → (d : Result (EntryRecord × Cursor) Verdict) → decode h at b ≡ d → tally m (cut R h s before (follow (plain h k) at b d)) ≡ Ok n → Out before b (follow (plain h k) at b d)
+    go ih b q (Ok (e, next)) d t =
         let P = decode-parts h at b e next d in
         turn b q e next P (eqb (judge R before (text_of s at e) (entry_of h s e)) 0) refl (plain h k next.at (drop (next.at - at) b))
         (ih next.at (entry_of h s e ∷ before) (drop (next.at - at) b) (rest-there h s at b q e next P)) t
-    go ih b q (Broken v) d t = let z : ◌≡◌ {A = ℕ} 0 1 = cc in absurd (omega arith)
+    go ih b q (Err v) d t = let z : ◌≡◌ {A = ℕ} 0 1 = cc in absurd (omega arith)

@@ -15,7 +15,6 @@ use Rattle.entry.specs.declared.EntryRecord.{EntryRecord}
 use Rattle.rules.specs.Rules.{Rules}
 use Rattle.reading.specs.Listing.{Listing, listing, tally, records_in, flats}
 use Rattle.reading.specs.Whole.{in_room, read_answer, read_records}
-use Rattle.reading.specs.declared.Counted.TheVariants.{Total}
 use Rattle.reading.proofs.Laws.{answer-counted, room-fine, room-short, answer-done, tally-length}
 use Rattle.strict.specs.Strict.{cut, strictly}
 use Rattle.strict.proofs.Laws.{cut-refuses, strict-plain}
@@ -25,6 +24,7 @@ use Rattle.one_listing.specs.Demand.{Accepts, SameSet, SomeListing, OneListing, 
 use Rattle.one_listing.proofs.Back.{listed, read_written, names-listed, listed-length}
 use Rattle.one_listing.proofs.Cutting.{sound_writable, sound-again, sound_uncut, uncut_sound}
 use Rattle.one_listing.proofs.Settling.{set_settles}
+use Rattle.std.specs.Prelude.{Ok}
 
 -- the records that were stored are the records that are read back
 pub records-stored : (rs : List EntryRecord) (rest : List ℕ) → take (length rs) (records_of (flats rs ++ rest)) ≡ rs
@@ -37,7 +37,7 @@ pub stored-records : (l : Listing) (v : Verdict) (lent : List ℕ) (n : ℕ) →
 stored-records l v lent n z e = rw (e, stored-done v (flats (records_in l)) lent z) (records-stored (records_in l) (drop (length (flats (records_in l))) lent))
 
 -- a listing of what was written has as many entries
-pub listed_total : (at n : ℕ) (es : List Entry) → tally n (listed at es) ≡ Total (n + length es)
+pub listed_total : (at n : ℕ) (es : List Entry) → tally n (listed at es) ≡ Ok (n + length es)
 unfolding tally listed
 listed_total at n [] = let z : n + 0 ≡ n = omega arith in rw z
 listed_total at n (e ∷ es) = let z : n + length (e ∷ es) ≡ n + 1 + length es = omega arith in rw z (listed_total (at + length (entry_bytes e)) (n + 1) es)
@@ -67,10 +67,10 @@ module _ (R : Rules) (ok : RulesOk R) where
     read_is : strictly R h s ≡ listed 0 es
     read_is = rw bytes (sound-listed h es sound few).0
 
-    total-is : tally 0 (strictly R h s) ≡ Total (length es)
-    total-is = let z : 0 + length es ≡ length es = omega arith in ap (tally 0) read_is ∙ listed_total 0 0 es ∙ ap Total z
+    total-is : tally 0 (strictly R h s) ≡ Ok (length es)
+    total-is = let z : 0 + length es ≡ length es = omega arith in ap (tally 0) read_is ∙ listed_total 0 0 es ∙ ap Ok z
 
-    within : many (length lent) ≤ most_records → read_answer h s (strictly R h s) lent ≡ in_room (many (length lent)) (Total (length es))
+    within : many (length lent) ≤ most_records → read_answer h s (strictly R h s) lent ≡ in_room (many (length lent)) (Ok (length es))
     within l = answer-counted (strictly R h s) _ (many (length lent)) (gate_fine h (length s) (many (length lent)) i b l) total-is
 
     sound_accepts : length es ≤ many (length lent) → many (length lent) ≤ most_records → Accepts R h s lent es

@@ -6,9 +6,9 @@ use Rattle.ground.specs.Scan.{free_of}
 use Rattle.mode.specs.Mode.{is_tree}
 use Rattle.mode_table.specs.declared.Written.{Written}
 use Rattle.order.specs.Order.{name_order}
-use Rattle.order.specs.declared.Order.TheVariants.{Below}
 use Rattle.entry.specs.Entry.{Entry}
 use Rattle.rules.specs.Rules.{Rules, lower}
+use Rattle.std.specs.declared.cmp.Ordering.TheVariants.{Less}
 
 -- a mode of one of the rows
 unfoldable pub is_mode : List Written → ℕ → Bool
@@ -47,7 +47,7 @@ pub record SoundEntry (k h : ℕ) (e : Entry) : Type 0 where
 
 -- one entry stands strictly before another in Git's order
 abbrev pub Before : Entry → Entry → Type 0
-Before a b = name_order a.name (is_tree a.mode) b.name (is_tree b.mode) ≡ Below
+Before a b = name_order a.name (is_tree a.mode) b.name (is_tree b.mode) ≡ Less
 
 -- each entry stands strictly after the one before
 abbrev pub Ascending : List Entry → Type 0

@@ -12,14 +12,8 @@ use Rattle.ground.specs.Verdict.{verdict, most_bytes, most_records}
 use Rattle.ground.specs.declared.Verdict.{Verdict}
 use Rattle.frame.specs.declared.Header.{Header}
 use Rattle.frame.specs.declared.Frame.{Frame}
-use Rattle.frame.specs.declared.Placed.{Placed}
-use Rattle.frame.specs.declared.Placed.TheVariants.{At, Absent}
 use Rattle.entry.specs.Decode.{decode}
-use Rattle.entry.specs.declared.Decoded.{Decoded}
-use Rattle.entry.specs.declared.Decoded.TheVariants as decoded
 use Rattle.reading.specs.Listing.{entry, follow, plain, listing, tally}
-use Rattle.reading.specs.declared.Counted.{Counted}
-use Rattle.reading.specs.declared.Counted.TheVariants.{Total, Stopped}
 use Rattle.reading.proofs.Laws.{plain-none, tally-length}
 use Rattle.rules.specs.Rules.{git_rules}
 use Rattle.strict.specs.Strict.{strictly, strict_count}
@@ -27,26 +21,27 @@ use Rattle.strict.proofs.Laws.{strict-plain}
 use Rattle.seeking.specs.Index.{IsIndex, seek_in}
 use Rattle.merge.specs.declared.Rest.{Rest}
 use Rattle.opening.specs.Opening.{no_rest, open_counted, open_placed, open_by, open_at, open_in, open_level, pair_of, open_both, OpenWithin}
-use Rattle.opening.specs.declared.Opened.{Opened}
-use Rattle.opening.specs.declared.Pair.TheVariants.{Closed, Both}
-use Rattle.opening.specs.declared.Opened.TheVariants.{Shut, Entries}
 use Rattle.seeking.proofs.Indexed.{sought}
 use Rattle.seeking.proofs.Laws.{seek_inside}
+use Rattle.entry.specs.declared.Cursor.{Cursor}
+use Rattle.entry.specs.declared.EntryRecord.{EntryRecord}
+use Rattle.std.specs.Prelude.{Err, None, Ok, Option, Result, Some}
+use Rattle.ground.proofs.Pairs.{ok_parts}
 
 -- ---- a listing of n entries is read with n as its bound
 
-tally-exact : (h k at : ℕ) (b : List ℕ) (m n : ℕ) → tally m (plain h k at b) ≡ Total n → (plain h (n - m) at b ≡ plain h k at b) × (n ≤ m + k)
+tally-exact : (h k at : ℕ) (b : List ℕ) (m n : ℕ) → tally m (plain h k at b) ≡ Ok n → (plain h (n - m) at b ≡ plain h k at b) × (n ≤ m + k)
 unfolding plain follow tally
 tally-exact h zero at [] m n t = let e : m ≡ n = cc in (plain-none h (n - m) at, omega arith)
 tally-exact h (suc k) at [] m n t = let e : m ≡ n = cc in (plain-none h (n - m) at, omega arith)
 tally-exact h zero at (x ∷ xs) m n t = let z : ◌≡◌ {A = ℕ} 0 1 = cc in absurd (omega arith)
 tally-exact h (suc k) at (x ∷ xs) m n t = cases (λ to b u. tally-exact h k to b (m + 1) n u) (decode h at (x ∷ xs)) refl t
   where
-    cases : ((to : ℕ) (b : List ℕ) → tally (m + 1) (plain h k to b) ≡ Total n → (plain h (n - (m + 1)) to b ≡ plain h k to b) × (n ≤ m + 1 + k))
-        → (d : Decoded) → decode h at (x ∷ xs) ≡ d → tally m (follow (plain h k) at (x ∷ xs) d) ≡ Total n
+    cases : ((to : ℕ) (b : List ℕ) → tally (m + 1) (plain h k to b) ≡ Ok n → (plain h (n - (m + 1)) to b ≡ plain h k to b) × (n ≤ m + 1 + k))
+        → (d : Result (EntryRecord × Cursor) Verdict) → decode h at (x ∷ xs) ≡ d → tally m (follow (plain h k) at (x ∷ xs) d) ≡ Ok n
         → (plain h (n - m) at (x ∷ xs) ≡ follow (plain h k) at (x ∷ xs) d) × (n ≤ m + suc k)
-    cases rec (decoded.Broken v) q t = let z : ◌≡◌ {A = ℕ} 0 1 = cc in absurd (omega arith)
-    cases rec (decoded.Whole e next) q t =
+    cases rec (Err v) q t = let z : ◌≡◌ {A = ℕ} 0 1 = cc in absurd (omega arith)
+    cases rec (Ok (e, next)) q t =
         more (omega (arith, tally-length (m + 1) (plain h k next.at (drop (next.at - at) (x ∷ xs))) n t)) (rec next.at (drop (next.at - at) (x ∷ xs)) t)
       where
         more : m + 1 ≤ n → (plain h (n - (m + 1)) next.at (drop (next.at - at) (x ∷ xs)) ≡ plain h k next.at (drop (next.at - at) (x ∷ xs))) × (n ≤ m + 1 + k)
@@ -55,12 +50,12 @@ tally-exact h (suc k) at (x ∷ xs) m n t = cases (λ to b u. tally-exact h k to
             let u : n - m ≡ suc (n - (m + 1)) = omega arith in
             (rw (u, q, f.0), omega (arith, f.1))
 
-module _ (k h : ℕ) (b : List ℕ) (n : ℕ) (t : strict_count k h b ≡ Total n) where
-  tallied : tally 0 (strictly (git_rules k) h b) ≡ Total n
+module _ (k h : ℕ) (b : List ℕ) (n : ℕ) (t : strict_count k h b ≡ Ok n) where
+  tallied : tally 0 (strictly (git_rules k) h b) ≡ Ok n
   unfolding strict_count
   tallied = go (leb (length b) most_bytes) t
     where
-      go : (v : Bool) → pick v (tally 0 (strictly (git_rules k) h b)) (Stopped (verdict 2 0)) ≡ Total n → tally 0 (strictly (git_rules k) h b) ≡ Total n
+      go : (v : Bool) → pick v (tally 0 (strictly (git_rules k) h b)) (Err (verdict 2 0)) ≡ Ok n → tally 0 (strictly (git_rules k) h b) ≡ Ok n
       go true e = e
       go false e = let z : ◌≡◌ {A = ℕ} 0 1 = cc in absurd (omega arith)
 
@@ -82,37 +77,37 @@ module _ (k h : ℕ) (b : List ℕ) (n : ℕ) (t : strict_count k h b ≡ Total 
 -- ---- a tree that is opened
 
 module _ (k : Header) (s id : List ℕ) where
-  pub open_empty : (p : Placed) → length id ≡ 0 → Entries no_rest ≡ open_by k s id p
+  pub open_empty : (p : Option Frame) → length id ≡ 0 → Ok no_rest ≡ open_by k s id p
   unfolding open_by
   open_empty p e = rw (eq-eqb _ _ e)
 
-  module _ (e : length id ≡ 0 → ⊥) (p : Placed) {p' : Placed} (q : p ≡ p') where
+  module _ (e : length id ≡ 0 → ⊥) (p : Option Frame) {p' : Option Frame} (q : p ≡ p') where
     placed-is : open_placed k s p ≡ open_by k s id p'
     unfolding open_by
     placed-is = rw (ne_eqb _ _ e, q)
 
-    pub open_absent : p ≡ Absent → Shut (verdict 28 0) ≡ open_by k s id p'
+    pub open_absent : p ≡ None → Err (verdict 28 0) ≡ open_by k s id p'
     unfolding open_placed
     open_absent u = ap (open_placed k s) (sym u) ∙ placed-is
 
-    pub open_found : (f : Frame) → p ≡ At f → (x : Opened) → x ≡ open_placed k s (At f) → x ≡ open_by k s id p'
+    pub open_found : (f : Frame) → p ≡ Some f → (x : Result Rest Verdict) → x ≡ open_placed k s (Some f) → x ≡ open_by k s id p'
     open_found f u x v = v ∙ ap (open_placed k s) (sym u) ∙ placed-is
 
 module _ (k : Header) (s : List ℕ) (f : Frame) where
-  pub object_other : (f.kind ≡ 2 → ⊥) → Shut (verdict 28 0) ≡ open_placed k s (At f)
+  pub object_other : (f.kind ≡ 2 → ⊥) → Err (verdict 28 0) ≡ open_placed k s (Some f)
   unfolding open_placed
   object_other z = rw (ne_eqb _ _ z)
 
-  module _ (z : f.kind ≡ 2) (c : Counted) (t : c ≡ strict_count k.rules k.h (part f.start f.end s)) where
-    counted_is : open_counted f.start f.end c ≡ open_placed k s (At f)
+  module _ (z : f.kind ≡ 2) (c : Result ℕ Verdict) (t : c ≡ strict_count k.rules k.h (part f.start f.end s)) where
+    counted_is : open_counted f.start f.end c ≡ open_placed k s (Some f)
     unfolding open_placed
     counted_is = rw (eq-eqb _ _ z, t)
 
-    pub object_stopped : (v : Verdict) → c ≡ Stopped v → Shut v ≡ open_placed k s (At f)
+    pub object_stopped : (v : Verdict) → c ≡ Err v → Err v ≡ open_placed k s (Some f)
     unfolding open_counted
     object_stopped v w = ap (open_counted f.start f.end) (sym w) ∙ counted_is
 
-    pub object_total : (n : ℕ) → c ≡ Total n → Entries (record { start = f.start; end = f.end; at = 0; left = n }) ≡ open_placed k s (At f)
+    pub object_total : (n : ℕ) → c ≡ Ok n → Ok (record { start = f.start; end = f.end; at = 0; left = n }) ≡ open_placed k s (Some f)
     unfolding open_counted
     object_total n w = ap (open_counted f.start f.end) (sym w) ∙ counted_is
 
@@ -125,31 +120,31 @@ pub open-within : (k : Header) (s id index : List ℕ) → OpenWithin s (open_in
 unfolding open_by open_placed open_counted
 open-within k s id index = empty (eqb (length id) 0)
   where
-    counted : (f : Frame) → (f.start ≤ f.end) × (f.end ≤ length s) → (c : Counted) → strict_count k.rules k.h (part f.start f.end s) ≡ c
+    counted : (f : Frame) → (f.start ≤ f.end) × (f.end ≤ length s) → (c : Result ℕ Verdict) → strict_count k.rules k.h (part f.start f.end s) ≡ c
         → OpenWithin s (open_counted f.start f.end c)
-    counted f w (Stopped v) t = tt
-    counted f w (Total n) t = (w, strict-few k.rules k.h (part f.start f.end s) n t)
+    counted f w (Err v) t = tt
+    counted f w (Ok n) t = (w, strict-few k.rules k.h (part f.start f.end s) n t)
 
     kinds : (f : Frame) → (f.start ≤ f.end) × (f.end ≤ length s) → (t : Bool)
-        → OpenWithin s (pick t (open_counted f.start f.end (strict_count k.rules k.h (part f.start f.end s))) (Shut (verdict 28 0)))
+        → OpenWithin s (pick t (open_counted f.start f.end (strict_count k.rules k.h (part f.start f.end s))) (Err (verdict 28 0)))
     kinds f w true = counted f w (strict_count k.rules k.h (part f.start f.end s)) refl
     kinds f w false = tt
 
-    placed : (p : Placed) → p ≡ seek_in k.h s index id → OpenWithin s (open_placed k s p)
-    placed Absent e = tt
-    placed (At f) e = kinds f (seek_inside k.h s index id (At f) f e refl) (eqb f.kind 2)
+    placed : (p : Option Frame) → p ≡ seek_in k.h s index id → OpenWithin s (open_placed k s p)
+    placed None e = tt
+    placed (Some f) e = kinds f (seek_inside k.h s index id (Some f) f e refl) (eqb f.kind 2)
 
-    empty : (t : Bool) → OpenWithin s (pick t (Entries no_rest) (open_placed k s (seek_in k.h s index id)))
+    empty : (t : Bool) → OpenWithin s (pick t (Ok no_rest) (open_placed k s (seek_in k.h s index id)))
     empty true = ((omega arith, omega arith), omega arith)
     empty false = placed (seek_in k.h s index id) refl
 
 -- ---- two trees
 
 -- the depth is tested before either is opened
-pub level_none : (k : Header) (s id : List ℕ) (depth : ℕ) (index : List ℕ) → depth ≡ 0 → Shut (verdict 27 0) ≡ open_level k s id depth index
+pub level_none : (k : Header) (s id : List ℕ) (depth : ℕ) (index : List ℕ) → depth ≡ 0 → Err (verdict 27 0) ≡ open_level k s id depth index
 level_none k s id depth index e = rw (eq-eqb _ _ e)
 
-pub level_some : (k : Header) (s id : List ℕ) (depth : ℕ) (index : List ℕ) (x : Opened) → (depth ≡ 0 → ⊥) → x ≡ open_in k s id index → x ≡ open_level k s id depth index
+pub level_some : (k : Header) (s id : List ℕ) (depth : ℕ) (index : List ℕ) (x : Result Rest Verdict) → (depth ≡ 0 → ⊥) → x ≡ open_in k s id index → x ≡ open_level k s id depth index
 level_some k s id depth index x e q = q ∙ rw (ne_eqb _ _ e)
 
 module _ (k : Header) (s left right : List ℕ) (depth : ℕ) (index : List ℕ) where
@@ -157,43 +152,42 @@ module _ (k : Header) (s left right : List ℕ) (depth : ℕ) (index : List ℕ)
   unfolding open_both pair_of
   both_is = go (eqb depth 0)
     where
-      go : (t : Bool) → pair_of (pick t (Shut (verdict 27 0)) (open_in k s left index)) (pick t (Shut (verdict 27 0)) (open_in k s right index))
-          ≡ pick t (Closed (verdict 27 0)) (pair_of (open_in k s left index) (open_in k s right index))
+      go : (t : Bool) → pair_of (pick t (Err (verdict 27 0)) (open_in k s left index)) (pick t (Err (verdict 27 0)) (open_in k s right index))
+          ≡ pick t (Err (verdict 27 0)) (pair_of (open_in k s left index) (open_in k s right index))
       go true = refl
       go false = refl
 
-  module _ (x : Opened) (ex : x ≡ open_level k s left depth index) where
-    left_is : {c : Opened} → x ≡ c → pair_of c (open_level k s right depth index) ≡ open_both k s left right depth index
-    left_is {c} q = ap (λ (u : Opened). pair_of u (open_level k s right depth index)) (sym q ∙ ex) ∙ both_is
+  module _ (x : Result Rest Verdict) (ex : x ≡ open_level k s left depth index) where
+    left_is : {c : Result Rest Verdict} → x ≡ c → pair_of c (open_level k s right depth index) ≡ open_both k s left right depth index
+    left_is {c} q = ap (λ (u : Result Rest Verdict). pair_of u (open_level k s right depth index)) (sym q ∙ ex) ∙ both_is
 
-    pub both_left : (v : Verdict) → x ≡ Shut v → Closed v ≡ open_both k s left right depth index
+    pub both_left : (v : Verdict) → x ≡ Err v → Err v ≡ open_both k s left right depth index
     unfolding pair_of
     both_left v q = left_is q
 
-    module _ (l : Rest) (q : x ≡ Entries l) (y : Opened) (ey : y ≡ open_level k s right depth index) where
-      pub both_right : (w : Verdict) → y ≡ Shut w → Closed w ≡ open_both k s left right depth index
+    module _ (l : Rest) (q : x ≡ Ok l) (y : Result Rest Verdict) (ey : y ≡ open_level k s right depth index) where
+      pub both_right : (w : Verdict) → y ≡ Err w → Err w ≡ open_both k s left right depth index
       unfolding pair_of
-      both_right w p = ap (λ (u : Opened). pair_of (Entries l) u) (sym p ∙ ey) ∙ left_is q
+      both_right w p = ap (λ (u : Result Rest Verdict). pair_of (Ok l) u) (sym p ∙ ey) ∙ left_is q
 
-      pub both_open : (r : Rest) → y ≡ Entries r → Both l r ≡ open_both k s left right depth index
+      pub both_open : (r : Rest) → y ≡ Ok r → Ok (l, r) ≡ open_both k s left right depth index
       unfolding pair_of
-      both_open r p = ap (λ (u : Opened). pair_of (Entries l) u) (sym p ∙ ey) ∙ left_is q
+      both_open r p = ap (λ (u : Result Rest Verdict). pair_of (Ok l) u) (sym p ∙ ey) ∙ left_is q
 
   -- two trees that were opened lie inside
-  pub both-within : (l r : Rest) → open_both k s left right depth index ≡ Both l r → (depth ≡ 0 → ⊥) × OpenWithin s (Entries l) × OpenWithin s (Entries r)
+  pub both-within : (l r : Rest) → open_both k s left right depth index ≡ Ok (l, r) → (depth ≡ 0 → ⊥) × OpenWithin s (Ok l) × OpenWithin s (Ok r)
   unfolding open_both pair_of
   both-within l r q = go (eqb depth 0) refl q
     where
-      two : (a b : Opened) → OpenWithin s a → OpenWithin s b → pair_of a b ≡ Both l r → OpenWithin s (Entries l) × OpenWithin s (Entries r)
-      two (Shut v) b i j p = let z : ◌≡◌ {A = ℕ} 0 1 = cc in absurd (omega arith)
-      two (Entries c) (Shut w) i j p = let z : ◌≡◌ {A = ℕ} 0 1 = cc in absurd (omega arith)
-      two (Entries c) (Entries d) i j p =
-          let e : c ≡ l = cc in
-          let f : d ≡ r = cc in
-          (subst (λ (u : Rest). OpenWithin s (Entries u)) e i, subst (λ (u : Rest). OpenWithin s (Entries u)) f j)
+      two : (a b : Result Rest Verdict) → OpenWithin s a → OpenWithin s b → pair_of a b ≡ Ok (l, r) → OpenWithin s (Ok l) × OpenWithin s (Ok r)
+      two (Err v) b i j p = let z : ◌≡◌ {A = ℕ} 0 1 = cc in absurd (omega arith)
+      two (Ok c) (Err w) i j p = let z : ◌≡◌ {A = ℕ} 0 1 = cc in absurd (omega arith)
+      two (Ok c) (Ok d) i j p =
+          let w = ok_parts p in
+          (subst (λ (u : Rest). OpenWithin s (Ok u)) w.0 i, subst (λ (u : Rest). OpenWithin s (Ok u)) w.1 j)
 
-      go : (t : Bool) → eqb depth 0 ≡ t → pick t (Closed (verdict 27 0)) (pair_of (open_in k s left index) (open_in k s right index)) ≡ Both l r
-          → (depth ≡ 0 → ⊥) × OpenWithin s (Entries l) × OpenWithin s (Entries r)
+      go : (t : Bool) → eqb depth 0 ≡ t → pick t (Err (verdict 27 0)) (pair_of (open_in k s left index) (open_in k s right index)) ≡ Ok (l, r)
+          → (depth ≡ 0 → ⊥) × OpenWithin s (Ok l) × OpenWithin s (Ok r)
       go true n p = let z : ◌≡◌ {A = ℕ} 0 1 = cc in absurd (omega arith)
       go false n p =
           let w = two (open_in k s left index) (open_in k s right index) (open-within k s left index) (open-within k s right index) p in

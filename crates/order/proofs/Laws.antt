@@ -14,30 +14,30 @@ use lib.Seq.{drop-cons}
 use borrow.Author.Tests.{lt-ltb, le-ltb, eq-eqb}
 use Rattle.ground.specs.Scan.{common_start, free_of}
 use Rattle.ground.proofs.Laws.{common_same, common_differ, common_off, equal}
-use Rattle.order.specs.declared.Order.{Order}
-use Rattle.order.specs.declared.Order.TheVariants.{Below, Same, Above}
 use Rattle.order.specs.Order.{by_number, then_by, is_below, opposite, next, name_order, order_number}
+use Rattle.std.specs.declared.cmp.Ordering.{Ordering}
+use Rattle.std.specs.declared.cmp.Ordering.TheVariants.{Equal, Greater, Less}
 
-pub below-is : (o : Order) → is_below o ≡ true → o ≡ Below
-below-is Below e = refl
-below-is Same e = absurd (false≢true e)
-below-is Above e = absurd (false≢true e)
+pub below-is : (o : Ordering) → is_below o ≡ true → o ≡ Less
+below-is Less e = refl
+below-is Equal e = absurd (false≢true e)
+below-is Greater e = absurd (false≢true e)
 
 -- ---- two numbers
 
 -- the numbers compared are those that were meant
-pub by_both : (x y u v : ℕ) (o : Order) → o ≡ by_number x y → x ≡ u → y ≡ v → o ≡ by_number u v
+pub by_both : (x y u v : ℕ) (o : Ordering) → o ≡ by_number x y → x ≡ u → y ≡ v → o ≡ by_number u v
 by_both x y u v o e f g = e ∙ ap (λ (z : ℕ). by_number z y) f ∙ ap (by_number u) g
 
-pub by_lt : {x y : ℕ} → x < y → by_number x y ≡ Below
+pub by_lt : {x y : ℕ} → x < y → by_number x y ≡ Less
 unfolding by_number
 by_lt {x} {y} h = simp (lt-ltb x y h)
 
-pub by_gt : {x y : ℕ} → y < x → by_number x y ≡ Above
+pub by_gt : {x y : ℕ} → y < x → by_number x y ≡ Greater
 unfolding by_number
 by_gt {x} {y} h = let g : y ≤ x = omega arith in simp (le-ltb x y g, lt-ltb y x h)
 
-pub by-eq : {x y : ℕ} → x ≡ y → by_number x y ≡ Same
+pub by-eq : {x y : ℕ} → x ≡ y → by_number x y ≡ Equal
 unfolding by_number
 by-eq {x} {y} h =
     let g : y ≤ x = omega arith in
@@ -45,13 +45,13 @@ by-eq {x} {y} h =
     simp (le-ltb x y g, le-ltb y x k)
 
 -- no two of the three answers are one
-below≢same : {p : Order} → p ≡ Below → p ≡ Same → ⊥
+below≢same : {p : Ordering} → p ≡ Less → p ≡ Equal → ⊥
 below≢same e f = let z : ◌≡◌ {A = ℕ} 0 1 = cc in omega arith
 
-above≢below : {p : Order} → p ≡ Above → p ≡ Below → ⊥
+above≢below : {p : Ordering} → p ≡ Greater → p ≡ Less → ⊥
 above≢below e f = let z : ◌≡◌ {A = ℕ} 0 1 = cc in omega arith
 
-above≢same : {p : Order} → p ≡ Above → p ≡ Same → ⊥
+above≢same : {p : Ordering} → p ≡ Greater → p ≡ Equal → ⊥
 above≢same e f = let z : ◌≡◌ {A = ℕ} 0 1 = cc in omega arith
 
 -- of two numbers one is less, or they are equal
@@ -61,15 +61,15 @@ three x y = elim (dec_lt x y) [
   | no h ↦ elim (dec_lt y x) [ yes k ↦ inr (inr k) | no k ↦ inr (inl (omega arith)) ]
 ]
 
-pub by-below : {x y : ℕ} → by_number x y ≡ Below → x < y
+pub by-below : {x y : ℕ} → by_number x y ≡ Less → x < y
 by-below {x} {y} h =
     ⊎_elim (λ k. k) (⊎_elim (λ k. absurd (below≢same h (by-eq k))) (λ k. absurd (above≢below (by_gt k) h))) (three x y)
 
-pub by-same : {x y : ℕ} → by_number x y ≡ Same → x ≡ y
+pub by-same : {x y : ℕ} → by_number x y ≡ Equal → x ≡ y
 by-same {x} {y} h =
     ⊎_elim (λ k. absurd (below≢same (by_lt k) h)) (⊎_elim (λ k. k) (λ k. absurd (above≢same (by_gt k) h))) (three x y)
 
-pub by_above : {x y : ℕ} → by_number x y ≡ Above → y < x
+pub by_above : {x y : ℕ} → by_number x y ≡ Greater → y < x
 by_above {x} {y} h =
     ⊎_elim (λ k. absurd (above≢below h (by_lt k))) (⊎_elim (λ k. absurd (above≢same h (by-eq k))) (λ k. k)) (three x y)
 
@@ -90,7 +90,7 @@ pub next_past : (s : List ℕ) (i : ℕ) (folder : Bool) → length s ≤ i → 
 next_past s i folder h = rw drop_of_length-le
 
 -- first bytes that differ decide
-differ : (x y : ℕ) (rest : Order) → (x ≡ y → ⊥) → then_by (by_number x y) rest ≡ by_number (suc x) (suc y)
+differ : (x y : ℕ) (rest : Ordering) → (x ≡ y → ⊥) → then_by (by_number x y) rest ≡ by_number (suc x) (suc y)
 differ x y rest n =
     ⊎_elim (λ h. rw (by_lt {x = x} {y = y} h) (sym (by_lt (omega arith))))
     (⊎_elim (λ e. absurd (n e)) (λ h. rw (by_gt {x = x} {y = y} h) (sym (by_gt (omega arith)))))
@@ -117,30 +117,30 @@ module _ (a : List ℕ) (s : Bool) (b : List ℕ) (t : Bool) (i : ℕ) (e : i �
     by_bytes : name_order a s b t ≡ by_number (get_or a i 0 + 1) (get_or b i 0 + 1)
     by_bytes = decided_at ∙ rw (next-byte a i s h, next-byte b i t k)
 
-    pub byte-below : get_or a i 0 < get_or b i 0 → name_order a s b t ≡ Below
+    pub byte-below : get_or a i 0 < get_or b i 0 → name_order a s b t ≡ Less
     byte-below l = by_bytes ∙ by_lt (omega arith)
 
-    pub byte_above : get_or b i 0 ≤ get_or a i 0 → name_order a s b t ≡ Above
+    pub byte_above : get_or b i 0 ≤ get_or a i 0 → name_order a s b t ≡ Greater
     byte_above l =
         let d : get_or a i 0 ≡ get_or b i 0 → ⊥ = rw e (common_off a b (rw (sym e) h) (rw (sym e) k)) in
         by_bytes ∙ by_gt (⊎_elim (λ m. absurd (d m)) (λ n. omega arith) (equal (get_or a i 0) (get_or b i 0)))
 
 -- ---- it is an order, of all names
 
-else_flip : (p r : Order) → then_by (opposite p) (opposite r) ≡ opposite (then_by p r)
-else_flip Below r = refl
-else_flip Same r = refl
-else_flip Above r = refl
+else_flip : (p r : Ordering) → then_by (opposite p) (opposite r) ≡ opposite (then_by p r)
+else_flip Less r = refl
+else_flip Equal r = refl
+else_flip Greater r = refl
 
-else_same : (p r : Order) → then_by p r ≡ Same → (p ≡ Same) × (r ≡ Same)
-else_same Below r h = absurd (below≢same refl h)
-else_same Same r h = (refl, h)
-else_same Above r h = absurd (above≢same refl h)
+else_same : (p r : Ordering) → then_by p r ≡ Equal → (p ≡ Equal) × (r ≡ Equal)
+else_same Less r h = absurd (below≢same refl h)
+else_same Equal r h = (refl, h)
+else_same Greater r h = absurd (above≢same refl h)
 
-else_below : (p r : Order) → then_by p r ≡ Below → (p ≡ Below) ⊎ ((p ≡ Same) × (r ≡ Below))
-else_below Below r h = inl refl
-else_below Same r h = inr (refl, h)
-else_below Above r h = absurd (above≢below refl h)
+else_below : (p r : Ordering) → then_by p r ≡ Less → (p ≡ Less) ⊎ ((p ≡ Equal) × (r ≡ Less))
+else_below Less r h = inl refl
+else_below Equal r h = inr (refl, h)
+else_below Greater r h = absurd (above≢below refl h)
 
 -- exchanging the names turns the answer round
 pub order_flip : (a : List ℕ) (s : Bool) (b : List ℕ) (t : Bool) → name_order b t a s ≡ opposite (name_order a s b t)
@@ -151,46 +151,46 @@ order_flip (x ∷ a) s [] t = by-flip (next (x ∷ a) s) (next [] t)
 order_flip (x ∷ a) s (y ∷ b) t = rw (by-flip x y, order_flip a s b t) (else_flip (by_number x y) (name_order a s b t))
 
 -- a name against itself is Same
-pub order_self : (a : List ℕ) (s : Bool) → name_order a s a s ≡ Same
+pub order_self : (a : List ℕ) (s : Bool) → name_order a s a s ≡ Equal
 unfolding name_order
 order_self [] s = by-eq refl
 order_self (x ∷ a) s = rw (by-eq {x = x} refl, order_self a s)
 
 -- no name is below itself
-pub order_irreflexive : (a : List ℕ) (s : Bool) → name_order a s a s ≡ Below → ⊥
+pub order_irreflexive : (a : List ℕ) (s : Bool) → name_order a s a s ≡ Less → ⊥
 order_irreflexive a s h = below≢same h (order_self a s)
 
 -- the first bytes of two names, one of which is below the other
-pub first_le : (x : ℕ) (a : List ℕ) (s : Bool) (y : ℕ) (b : List ℕ) (t : Bool) → name_order (x ∷ a) s (y ∷ b) t ≡ Below → x ≤ y
+pub first_le : (x : ℕ) (a : List ℕ) (s : Bool) (y : ℕ) (b : List ℕ) (t : Bool) → name_order (x ∷ a) s (y ∷ b) t ≡ Less → x ≤ y
 unfolding name_order
 first_le x a s y b t h =
     ⊎_elim (λ w. omega (arith, by-below w)) (λ w. omega (arith, by-same w.0)) (else_below (by_number x y) (name_order a s b t) h)
 
 -- the rests of two names with one first byte
-pub below_rest : (x : ℕ) (a : List ℕ) (s : Bool) (y : ℕ) (b : List ℕ) (t : Bool) → x ≡ y → name_order (x ∷ a) s (y ∷ b) t ≡ Below → name_order a s b t ≡ Below
+pub below_rest : (x : ℕ) (a : List ℕ) (s : Bool) (y : ℕ) (b : List ℕ) (t : Bool) → x ≡ y → name_order (x ∷ a) s (y ∷ b) t ≡ Less → name_order a s b t ≡ Less
 unfolding name_order
 below_rest x a s y b t e h = rw (by-eq e) at h
 
-at-end : (x y z : ℕ) → by_number x y ≡ Below → by_number y z ≡ Below → by_number x z ≡ Below
+at-end : (x y z : ℕ) → by_number x y ≡ Less → by_number y z ≡ Less → by_number x z ≡ Less
 at-end x y z h k = by_lt (omega (arith, by-below h, by-below k))
 
-at_byte : (x y z : ℕ) (p q r : Order) → (p ≡ Below → q ≡ Below → r ≡ Below) → then_by (by_number x y) p ≡ Below → then_by (by_number y z) q ≡ Below
-    → then_by (by_number x z) r ≡ Below
+at_byte : (x y z : ℕ) (p q r : Ordering) → (p ≡ Less → q ≡ Less → r ≡ Less) → then_by (by_number x y) p ≡ Less → then_by (by_number y z) q ≡ Less
+    → then_by (by_number x z) r ≡ Less
 at_byte x y z p q r rest h k = go (else_below (by_number x y) p h) (else_below (by_number y z) q k)
   where
-    less : x < z → then_by (by_number x z) r ≡ Below
+    less : x < z → then_by (by_number x z) r ≡ Less
     less l = rw (by_lt l)
 
-    go : (by_number x y ≡ Below) ⊎ ((by_number x y ≡ Same) × (p ≡ Below)) → (by_number y z ≡ Below) ⊎ ((by_number y z ≡ Same) × (q ≡ Below))
-        → then_by (by_number x z) r ≡ Below
+    go : (by_number x y ≡ Less) ⊎ ((by_number x y ≡ Equal) × (p ≡ Less)) → (by_number y z ≡ Less) ⊎ ((by_number y z ≡ Equal) × (q ≡ Less))
+        → then_by (by_number x z) r ≡ Less
     go (inl f) (inl g) = less (omega (arith, by-below f, by-below g))
     go (inl f) (inr g) = less (omega (arith, by-below f, by-same g.0))
     go (inr f) (inl g) = less (omega (arith, by-same f.0, by-below g))
     go (inr f) (inr g) = rw (by-eq (by-same f.0 ∙ by-same g.0)) (rest f.1 g.1)
 
 -- what is below a name that is below a third is below the third
-pub order_trans : (a : List ℕ) (s : Bool) (b : List ℕ) (t : Bool) (c : List ℕ) (u : Bool) → name_order a s b t ≡ Below → name_order b t c u ≡ Below
-    → name_order a s c u ≡ Below
+pub order_trans : (a : List ℕ) (s : Bool) (b : List ℕ) (t : Bool) (c : List ℕ) (u : Bool) → name_order a s b t ≡ Less → name_order b t c u ≡ Less
+    → name_order a s c u ≡ Less
 unfolding name_order next
 order_trans [] s [] t [] u h k = at-end (next [] s) (next [] t) (next [] u) h k
 order_trans [] s [] t (z ∷ c) u h k = at-end (next [] s) (next [] t) (suc z) h k
@@ -212,7 +212,7 @@ free_first x a h = go (eqb x 47) refl h
     go false e h = ((λ q. false≢true (sym e ∙ eq-eqb x 47 q)), h)
 
 -- names without a slash are Same only where they are one name of one sort
-pub order_same : (a : List ℕ) (s : Bool) (b : List ℕ) (t : Bool) → free_of 47 a ≡ true → free_of 47 b ≡ true → name_order a s b t ≡ Same
+pub order_same : (a : List ℕ) (s : Bool) (b : List ℕ) (t : Bool) → free_of 47 a ≡ true → free_of 47 b ≡ true → name_order a s b t ≡ Equal
     → (a ≡ b) × (s ≡ t)
 unfolding name_order next
 order_same [] true [] true p q h = (refl, refl)
@@ -230,7 +230,7 @@ order_same (x ∷ a) s (y ∷ b) t p q h =
     (cc, i.1)
 
 -- what stands strictly between blob a and tree a begins with a and goes on with a byte below the slash
-pub order_between : (a c : List ℕ) (u : Bool) → name_order a false c u ≡ Below → name_order c u a true ≡ Below
+pub order_between : (a c : List ℕ) (u : Bool) → name_order a false c u ≡ Less → name_order c u a true ≡ Less
     → (y : ℕ) × (rest : List ℕ) × (c ≡ a ++ (y ∷ rest)) × (y < 47)
 unfolding name_order next
 order_between [] [] true h k = absurd (omega (arith, by-below k))
@@ -254,14 +254,14 @@ order_slash (x ∷ a) s (y ∷ b) rest t p = ap (then_by (by_number x y)) (order
 -- ---- the numbers
 
 -- no two answers have one number
-pub number-once : (o p : Order) → order_number o ≡ order_number p → o ≡ p
+pub number-once : (o p : Ordering) → order_number o ≡ order_number p → o ≡ p
 unfolding order_number
-number-once Below Below e = refl
-number-once Below Same e = absurd (pos-ne-negsuc 0 0 (sym e))
-number-once Below Above e = absurd (pos-ne-negsuc 1 0 (sym e))
-number-once Same Below e = absurd (pos-ne-negsuc 0 0 e)
-number-once Same Same e = refl
-number-once Same Above e = absurd (omega (arith, ap nat_abs e))
-number-once Above Below e = absurd (pos-ne-negsuc 1 0 e)
-number-once Above Same e = absurd (omega (arith, ap nat_abs e))
-number-once Above Above e = refl
+number-once Less Less e = refl
+number-once Less Equal e = absurd (pos-ne-negsuc 0 0 (sym e))
+number-once Less Greater e = absurd (pos-ne-negsuc 1 0 (sym e))
+number-once Equal Less e = absurd (pos-ne-negsuc 0 0 e)
+number-once Equal Equal e = refl
+number-once Equal Greater e = absurd (omega (arith, ap nat_abs e))
+number-once Greater Less e = absurd (pos-ne-negsuc 1 0 e)
+number-once Greater Equal e = absurd (omega (arith, ap nat_abs e))
+number-once Greater Greater e = refl

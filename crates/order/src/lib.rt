@@ -4,38 +4,30 @@
 ghost use Rattle.std.specs.Prelude.{◌≡◌, drop};
 ghost use Rattle.order.specs.Order.{name_order, by_number, next, order_number};
 
-// How a name stands to another.
-#[derive(Clone, Copy)]
-pub enum Order {
-    Below,
-    Same,
-    Above,
-}
+use std::cmp::Ordering;
 
-impl Order {
-    // The number that stands for the answer: -1, 0 or 1.
-    pub fn number(self) -> i8
-        ensures { result ≡ order_number self }
-    {
-        match self {
-            Order::Below => -1,
-            Order::Same => 0,
-            Order::Above => 1,
-        }
+// The number that stands for an order: -1, 0 or 1.
+pub fn order_number(o: Ordering) -> i8
+    ensures { result ≡ order_number o }
+{
+    match o {
+        Ordering::Less => -1,
+        Ordering::Equal => 0,
+        Ordering::Greater => 1,
     }
 }
 
 // Two positions compared as numbers.
-fn by_number(x: u16, y: u16) -> Order
+fn by_number(x: u16, y: u16) -> Ordering
     ensures { result ≡ by_number x y }
 {
     if x < y {
-        return Order::Below;
+        return Ordering::Less;
     }
     if y < x {
-        return Order::Above;
+        return Ordering::Greater;
     }
-    Order::Same
+    Ordering::Equal
 }
 
 // What stands at a position of a name: 0 where it has ended, 48 where it was a tree's, else 1 and the byte.
@@ -52,7 +44,7 @@ fn next_at(s: &[u8], at: usize, tree: bool) -> u16
 }
 
 // Two names by what stands at one position of them.
-pub fn by_next(a: &[u8], atree: bool, b: &[u8], btree: bool, i: usize) -> Order
+pub fn by_next(a: &[u8], atree: bool, b: &[u8], btree: bool, i: usize) -> Ordering
     ensures { result ≡ by_number (next (drop i a.now) atree) (next (drop i b.now) btree) }
 {
     let x = next_at(a, i, atree);
@@ -61,7 +53,7 @@ pub fn by_next(a: &[u8], atree: bool, b: &[u8], btree: bool, i: usize) -> Order
 }
 
 // Names of any length and with any bytes; each says whether it is a tree's.
-pub fn name_order(a: &[u8], atree: bool, b: &[u8], btree: bool) -> Order
+pub fn name_order(a: &[u8], atree: bool, b: &[u8], btree: bool) -> Ordering
     ensures { result ≡ name_order a.now atree b.now btree }
 {
     let i = scan::common_start(a, b);
@@ -72,7 +64,7 @@ pub fn name_order(a: &[u8], atree: bool, b: &[u8], btree: bool) -> Order
         return by_next(a, atree, b, btree, i);
     }
     if a[i] < b[i] {
-        return Order::Below;
+        return Ordering::Less;
     }
-    Order::Above
+    Ordering::Greater
 }

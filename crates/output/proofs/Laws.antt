@@ -9,16 +9,17 @@ use mathlib.Core.List.{List, [], ◌∷◌, ◌++◌}
 use mathlib.Core.Logic.{⊎_elim}
 use lib.Dec.{eqb, ltb}
 use lib.ListN.{length, get_or, take, drop, set, length-set, drop_of_length-le}
-use lib.Seq.{sets, drop-cons, length-sets, set_out, take_all}
+use lib.Seq.{sets, sets-eq, drop-cons, length-sets, length-take-le, set_out, take-take, take_all}
 use borrow.Author.Tests.{eq-eqb, ne_eqb, lt-ltb, le-ltb, eqb-false, ltb-false}
+use borrow.Rule.Slice.PartMut.{put_mid}
+use Rattle.std.proofs.lemmas.Slice.{put_mid-paste}
 use Rattle.ground.specs.Basics.{pick}
 use Rattle.ground.specs.Verdict.{verdict, refused, stored, gate_of}
 use Rattle.ground.proofs.Laws.{gate_shut, stored-done, stored_refused, sets_append, sets_front}
 use Rattle.ground.specs.declared.Verdict.{Verdict}
 use Rattle.ground.specs.declared.Answer.{Answer}
-use Rattle.ground.specs.declared.Gate.{Gate}
-use Rattle.ground.specs.declared.Gate.TheVariants.{Open, Shut}
 use Rattle.output.specs.Output.{fitted, gated}
+use Rattle.std.specs.Prelude.{Err, Ok, Result, ⊤}
 
 -- ---- a run of stores
 
@@ -54,6 +55,16 @@ sets_fitting l at p =
       | yes h ↦ ap (sets l at) (take_all (min (length p) (length l - at)) p (omega arith))
       | no h ↦ sets-cut l at (min (length p) (length l - at)) p (omega arith)
     ]
+
+-- so much of a piece copied to its place
+pub sets-copied : (l p ys : List ℕ) (at n k : ℕ) → at ≤ length l → n ≡ min (length p) (length l - at) → k ≡ n → ys ≡ take n p
+    → put_mid at k l ys ≡ sets l at p
+sets-copied l p ys at n k h m e y =
+    let len : length (take n p) ≡ n = length-take-le n p (omega arith) in
+    put_mid-paste at k l ys (take n p) n y (sym e) (sym len)
+    ∙ ap (λ (z : List ℕ). take at l ++ z ++ drop (at + n) l) (take-take n n p (omega arith))
+    ∙ sym (rw len at (sets-eq (take n p) l at (rw len (omega arith))))
+    ∙ rw m (sets_fitting l at p)
 
 -- the byte after a piece that leaves no room for it is not stored
 pub ended-past : (l : List ℕ) (at : ℕ) (p : List ℕ) (x : ℕ) → length l ≤ at + length p → sets l at (p ++ x ∷ []) ≡ sets l at p
@@ -106,23 +117,23 @@ fitted-both r m l out after e f z n s =
 -- ---- the gate
 
 -- a gate that is shut refuses
-pub shut-refuses : (h bytes records : ℕ) (v : Verdict) → gate_of h bytes records ≡ Shut v → v.number ≡ 0 → ⊥
+pub shut-refuses : (h bytes records : ℕ) (v : Verdict) → gate_of h bytes records ≡ Err v → v.number ≡ 0 → ⊥
 shut-refuses h bytes records v e z =
     ⊎_elim (λ q. omega (arith, ap (λ (x : Verdict). x.number) q)) (λ q. omega (arith, ap (λ (x : Verdict). x.number) q)) (gate_shut h bytes records v e)
 
-pub gated-shut : (g : Gate) (v : Verdict) (a : Answer) → g ≡ Shut v → gated g a ≡ refused v
+pub gated-shut : (g : Result ⊤ Verdict) (v : Verdict) (a : Answer) → g ≡ Err v → gated g a ≡ refused v
 unfolding gated
 gated-shut g v a e = rw e
 
-pub gated_open : (g : Gate) (a : Answer) → g ≡ Open → gated g a ≡ a
+pub gated_open : (g : Result ⊤ Verdict) (a : Answer) → g ≡ Ok tt → gated g a ≡ a
 unfolding gated
 gated_open g a e = rw e
 
 -- a call that is done began
-pub gated-done : (h bytes records : ℕ) (a : Answer) → (gated (gate_of h bytes records) a).verdict.number ≡ 0 → gate_of h bytes records ≡ Open
+pub gated-done : (h bytes records : ℕ) (a : Answer) → (gated (gate_of h bytes records) a).verdict.number ≡ 0 → gate_of h bytes records ≡ Ok tt
 unfolding gated
 gated-done h bytes records a = go (gate_of h bytes records) refl
   where
-    go : (g : Gate) → gate_of h bytes records ≡ g → (gated g a).verdict.number ≡ 0 → g ≡ Open
-    go Open e z = refl
-    go (Shut v) e z = absurd (shut-refuses h bytes records v e z)
+    go : (g : Result ⊤ Verdict) → gate_of h bytes records ≡ g → (gated g a).verdict.number ≡ 0 → g ≡ Ok tt
+    go (Ok tt) e z = refl
+    go (Err v) e z = absurd (shut-refuses h bytes records v e z)

@@ -5,19 +5,12 @@ use mathlib.Core.List.{List, [], ◌∷◌, ◌++◌}
 use lib.Dec.{eqb}
 use lib.ListN.{length}
 use Rattle.ground.specs.Verdict.{verdict}
-use Rattle.ground.specs.declared.Gate.{Gate}
 use Rattle.frame.specs.Frame.{head_of, frames_by, whole}
 use Rattle.frame.specs.Place.{place_of}
 use Rattle.frame.specs.declared.Header.{Header}
-use Rattle.frame.specs.declared.Head.{Head}
-use Rattle.frame.specs.declared.Head.TheVariants.{Good, Bad}
 use Rattle.frame.specs.declared.Frame.{Frame}
-use Rattle.frame.specs.declared.Placed.{Placed}
-use Rattle.frame.specs.declared.Placed.TheVariants.{At, Absent}
 use Rattle.twice.specs.Ids.{ids_in, repeats}
 use Rattle.bundle.specs.Bundle.{Bundle, good, bad, bundle_of, ids_of, open_by, open_from, open_of, own_length, told, check_of}
-use Rattle.bundle.specs.declared.Opening.{Opening}
-use Rattle.bundle.specs.declared.Opening.TheVariants.{Open, Shut}
 use Rattle.component.specs.Component.{components, is_path}
 use Rattle.component.specs.Named.{Found, there, nowhere}
 use Rattle.path.specs.Path.{walk_along, refused_with, answered, follow_along, follow_in, follow_from, follow}
@@ -30,6 +23,8 @@ use Rattle.paper.specs.Calls.{of_opening, of_checked, of_object, of_followed}
 use Rattle.paper.specs.Border.{said_in}
 use Rattle.paper.specs.Demand1.{OfBundles}
 use Rattle.call.proofs.Laws.{answers_once, Of, done, zero, keeps-reads, keeps-stores, each-pick, each-size}
+use Rattle.ground.specs.declared.Verdict.{Verdict}
+use Rattle.std.specs.Prelude.{Err, None, Ok, Option, Result, Some, ⊤}
 
 -- two lists one behind the other
 pub both-lists : {l m k n : List ℕ} → l ≡ m → k ≡ n → l ++ k ≡ m ++ n
@@ -37,18 +32,18 @@ both-lists p q = cc
 
 -- ---- a bundle opened: a header, 24, 25, 2
 
-module _ (Q : Opening → Type 0) (opens : (k : Header) → Q (Open k)) (ill : Q (Shut (verdict 24 0))) (repeated : Q (Shut (verdict 25 0)))
-    (over : Q (Shut (verdict 2 0))) where
-  each-by : (s : List ℕ) (n : ℕ) (d : Head) → Q (open_by s n d)
+module _ (Q : Result Header Verdict → Type 0) (opens : (k : Header) → Q (Ok k)) (ill : Q (Err (verdict 24 0))) (repeated : Q (Err (verdict 25 0)))
+    (over : Q (Err (verdict 2 0))) where
+  each-by : (s : List ℕ) (n : ℕ) (d : Option Header) → Q (open_by s n d)
   unfolding open_by
-  each-by s n (Good k) =
+  each-by s n (Some k) =
       each-pick Q (eqb n k.h) _ _
       (each-pick Q (whole (frames_by s k)) _ _ (each-pick Q (repeats (ids_in k.h s (frames_by s k))) _ _ repeated (opens k)) ill) ill
-  each-by s n Bad = ill
+  each-by s n None = ill
 
   pub each_opening : (s : List ℕ) (n : ℕ) → Q (open_of s n)
   unfolding open_from
-  each_opening s n = each-size (λ (g : Gate). Q (open_from s n g)) (each-by s n (head_of s)) over (length s) 0
+  each_opening s n = each-size (λ (g : Result ⊤ Verdict). Q (open_from s n g)) (each-by s n (head_of s)) over (length s) 0
 
 opened-fits : (s : List ℕ) (n : ℕ) → Fits (0 ∷ 2 ∷ 24 ∷ 25 ∷ []) (of_opening (open_of s n))
 opened-fits s n = each_opening (Of _ of_opening) (λ k. done refl refl) (zero refl refl) (zero refl refl) (zero refl refl) s n
@@ -56,25 +51,25 @@ opened-fits s n = each_opening (Of _ of_opening) (λ k. done refl refl) (zero re
 checked-fits : (s : List ℕ) → Fits (0 ∷ 2 ∷ 24 ∷ 25 ∷ []) (of_checked (check_of s))
 unfolding told
 checked-fits s =
-    each_opening (Of _ (λ (o : Opening). of_checked (told o))) (λ k. done refl refl) (zero refl refl) (zero refl refl) (zero refl refl) s (own_length (head_of s))
+    each_opening (Of _ (λ (o : Result Header Verdict). of_checked (told o))) (λ k. done refl refl) (zero refl refl) (zero refl refl) (zero refl refl) s (own_length (head_of s))
 
 pub checked-said : (s : List ℕ) → Fits (0 ∷ 2 ∷ 24 ∷ 25 ∷ []) (said_in (checked_numbers (check_of s)))
 unfolding told
 checked-said s =
-    each_opening (Of _ (λ (o : Opening). said_in (checked_numbers (told o)))) (λ k. done refl refl) (zero refl refl) (zero refl refl) (zero refl refl) s
+    each_opening (Of _ (λ (o : Result Header Verdict). said_in (checked_numbers (told o)))) (λ k. done refl refl) (zero refl refl) (zero refl refl) (zero refl refl) s
     (own_length (head_of s))
 
 -- ---- an object asked for: there, 15, 2
 
-module _ (Q : asked.Object → Type 0) (stands : (f : Frame) → Q (object_at (At f))) (gone : Q (no_object (verdict 15 0))) (over : Q (no_object (verdict 2 0))) where
-  each-place : (p : Placed) → Q (object_at p)
+module _ (Q : asked.Object → Type 0) (stands : (f : Frame) → Q (object_at (Some f))) (gone : Q (no_object (verdict 15 0))) (over : Q (no_object (verdict 2 0))) where
+  each-place : (p : Option Frame) → Q (object_at p)
   unfolding object_at
-  each-place (At f) = stands f
-  each-place Absent = gone
+  each-place (Some f) = stands f
+  each-place None = gone
 
   each-asked : (s id : List ℕ) → Q (object_asked s id)
   unfolding object_from
-  each-asked s id = each-size (λ (g : Gate). Q (object_from s id g)) (each-place (place_of s id)) over (max (length s) (length id)) 0
+  each-asked s id = each-size (λ (g : Result ⊤ Verdict). Q (object_from s id g)) (each-place (place_of s id)) over (max (length s) (length id)) 0
 
 object-fits : (s id : List ℕ) → Fits (0 ∷ 2 ∷ 15 ∷ []) (of_object (object_asked s id))
 unfolding object_at
@@ -104,7 +99,7 @@ module _ (Q : Followed → Type 0) (found : (m : ℕ) (i : List ℕ) → Q (answ
   each_followed : (s root path : List ℕ) → Q (follow s root path)
   unfolding follow_from
   each_followed s root path =
-      each-size (λ (g : Gate). Q (follow_from s root path g)) (each_in (bundle_of s) root (components path)) over
+      each-size (λ (g : Result ⊤ Verdict). Q (follow_from s root path g)) (each_in (bundle_of s) root (components path)) over
       (max (max (length s) (length root)) (length path)) 0
 
 followed_fits : (s root path : List ℕ) → Fits (0 ∷ 2 ∷ 15 ∷ 24 ∷ 25 ∷ 26 ∷ []) (of_followed (follow s root path))

@@ -8,18 +8,11 @@ use Rattle.ground.specs.Basics.{part}
 use Rattle.ground.specs.Verdict.{verdict, counted, refused, stored, most_bytes}
 use Rattle.ground.specs.declared.Verdict.{Verdict}
 use Rattle.ground.specs.declared.Answer.{Answer}
-use Rattle.ground.specs.declared.Gate.{Gate}
 use Rattle.ground.proofs.Laws.{stored_refused}
 use Rattle.frame.specs.declared.Header.{Header}
-use Rattle.reading.specs.declared.Counted.{Counted}
 use Rattle.strict.specs.Strict.{strict_count}
-use Rattle.bundle.specs.declared.Opening.{Opening}
-use Rattle.bundle.specs.declared.Opening.TheVariants as opening
-use Rattle.frame.specs.declared.Placed.{Placed}
-use Rattle.frame.specs.declared.Placed.TheVariants.{At, Absent}
 use Rattle.seeking.specs.Index.{seek_in}
 use Rattle.opening.specs.Opening.{open_by, open_placed, open_counted}
-use Rattle.opening.specs.declared.Opened.{Opened}
 use Rattle.item.specs.Items.{Stored, missing, object, read_strictly, tree_of, folder_of}
 use Rattle.walk.specs.Walk.{Out}
 use Rattle.walk.specs.Lent.{paths_of, fitted}
@@ -32,6 +25,9 @@ use Rattle.call.proofs.Laws.{answers_once, two-lists, done, zero, wider, keeps, 
 use Rattle.paper.proofs.Edits.{each-tally}
 use Rattle.paper.proofs.Walking.{Opens, walk_ends}
 use Rattle.paper.proofs.Bundles.{each_opening}
+use Rattle.frame.specs.declared.Frame.{Frame}
+use Rattle.merge.specs.declared.Rest.{Rest}
+use Rattle.std.specs.Prelude.{None, Option, Result, Some, ⊤}
 
 -- ---- every answer
 
@@ -57,9 +53,9 @@ folder-fits k h store (x ∷ id) = kinds (store (x ∷ id))
 found-fits : (s left right : List ℕ) (bytes room : ℕ) → Fine (found s left right bytes room).verdict
 unfolding found gated roots_of walked differences
 found-fits s left right bytes room =
-    each-size (λ (g : Gate). Fine (gated s left right g).verdict)
-    (each-pick (λ (o : Opening). Fine (walked s left right o).verdict) (eqb (length left) (length right)) _ _
-    (each_opening (λ (o : Opening). Fine (walked s left right o).verdict)
+    each-size (λ (g : Result ⊤ Verdict). Fine (gated s left right g).verdict)
+    (each-pick (λ (o : Result Header Verdict). Fine (walked s left right o).verdict) (eqb (length left) (length right)) _ _
+    (each_opening (λ (o : Result Header Verdict). Fine (walked s left right o).verdict)
     (λ k. walk_ends Fine (done refl refl) (zero refl refl) (zero refl refl) (folders_of k s) (folder-fits k.rules k.h (store_of s)) 33 [] left right 0)
     (zero refl refl) (zero refl refl) (zero refl refl) s (length left)) (zero refl refl)) (zero refl refl)
     (max (max (length s) bytes) (max (length left) (length right))) room
@@ -88,15 +84,15 @@ Walked v = Fits walk_numbers (of_answer (refused v))
 
 opened-fits : (k : Header) (s index id : List ℕ) → Opens Walked (folders_in k s index id)
 unfolding folder_at open_by open_placed open_counted strict_count
-opened-fits k s index id = each-pick (λ (o : Opened). Opens Walked (folder_at k.h s o)) (eqb (length id) 0) _ _ tt (placed (seek_in k.h s index id))
+opened-fits k s index id = each-pick (λ (o : Result Rest Verdict). Opens Walked (folder_at k.h s o)) (eqb (length id) 0) _ _ tt (placed (seek_in k.h s index id))
   where
-    placed : (p : Placed) → Opens Walked (folder_at k.h s (open_placed k s p))
-    placed Absent = zero refl refl
-    placed (At f) =
-        each-pick (λ (o : Opened). Opens Walked (folder_at k.h s o)) (eqb f.kind 2) _ _
-        (each-pick (λ (c : Counted). Opens Walked (folder_at k.h s (open_counted f.start f.end c))) (leb (length (part f.start f.end s)) most_bytes) _ _
+    placed : (p : Option Frame) → Opens Walked (folder_at k.h s (open_placed k s p))
+    placed None = zero refl refl
+    placed (Some f) =
+        each-pick (λ (o : Result Rest Verdict). Opens Walked (folder_at k.h s o)) (eqb f.kind 2) _ _
+        (each-pick (λ (c : Result ℕ Verdict). Opens Walked (folder_at k.h s (open_counted f.start f.end c))) (leb (length (part f.start f.end s)) most_bytes) _ _
         (each-tally Walked (zero refl refl) (λ at p q. zero refl q) (λ at. zero refl refl) (λ at. zero refl refl) (λ at. zero refl refl) (λ at. zero refl refl) (λ at. zero refl refl) k.rules k.h (part f.start f.end s)
-        (λ (c : Counted). Opens Walked (folder_at k.h s (open_counted f.start f.end c))) (λ n. tt) (λ v p. p)) (zero refl refl)) (zero refl refl)
+        (λ (c : Result ℕ Verdict). Opens Walked (folder_at k.h s (open_counted f.start f.end c))) (λ n. tt) (λ v p. p)) (zero refl refl)) (zero refl refl)
 
 walk_fits : (k : Header) (s index left right : List ℕ) (bytes room : ℕ) → Fits walk_numbers (of_answer (fitted room bytes (walk_in k s index left right)))
 unfolding walk_in

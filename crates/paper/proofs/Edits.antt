@@ -10,8 +10,6 @@ use Rattle.ground.specs.Basics.{pick}
 use Rattle.ground.specs.Verdict.{verdict, broken, is_part, counted, refused, most_bytes, most_records}
 use Rattle.ground.specs.declared.Verdict.{Verdict}
 use Rattle.ground.specs.declared.Answer.{Answer}
-use Rattle.ground.specs.declared.Gate.{Gate}
-use Rattle.ground.specs.declared.Gate.TheVariants.{Open, Shut}
 use Rattle.ground.proofs.Laws.{stored_refused}
 use Rattle.output.specs.Output.{gated, fitted}
 use Rattle.entry.specs.Entry.{Entry, as_written}
@@ -20,8 +18,6 @@ use Rattle.rules.specs.Rules.{or_else, is_text, judge, modes_of, permitted, is_d
 use Rattle.rules.specs.Gate.{rule_gate}
 use Rattle.rules.proofs.Laws.{rule_shut}
 use Rattle.reading.specs.Listing.{listing, tally}
-use Rattle.reading.specs.declared.Counted.{Counted}
-use Rattle.reading.specs.declared.Counted.TheVariants.{Total, Stopped}
 use Rattle.reading.proofs.Laws.{Stops, tally_stops}
 use Rattle.strict.specs.Strict.{strictly, strict_count}
 use Rattle.one_listing.specs.Sound.{is_mode}
@@ -33,6 +29,7 @@ use Rattle.paper.specs.Calls.{of_counted}
 use Rattle.paper.specs.Demand1.{OfEdits}
 use Rattle.call.proofs.Laws.{answers_once, Of, done, zero, wider, keeps-reads, keeps-writes, keeps-stores, each-pick, each-fitted}
 use Rattle.tree_calls.proofs.Placed.{plain-placed, cut-placed}
+use Rattle.std.specs.Prelude.{Err, Ok, Result, ⊤}
 
 -- every way that a strict reading stops: 2, 3, 5, 6, 18, 7, 17
 module _ (P : Verdict → Type 0) (two : P (verdict 2 0)) (three : (at p : ℕ) → is_part p ≡ true → P (broken at p)) (five : (at : ℕ) → P (verdict 5 at))
@@ -54,20 +51,20 @@ module _ (P : Verdict → Type 0) (two : P (verdict 2 0)) (three : (at p : ℕ) 
       said at true false git place double z = six at
       said at false name git place double z = five at
 
-  pub each-tally : (Q : Counted → Type 0) → ((n : ℕ) → Q (Total n)) → ((v : Verdict) → P v → Q (Stopped v)) → Q (tally 0 (strictly (git_rules k) h s))
+  pub each-tally : (Q : Result ℕ Verdict → Type 0) → ((n : ℕ) → Q (Ok n)) → ((v : Verdict) → P v → Q (Err v)) → Q (tally 0 (strictly (git_rules k) h s))
   each-tally Q total stopped = go (tally 0 (strictly (git_rules k) h s)) refl
     where
-      go : (c : Counted) → tally 0 (strictly (git_rules k) h s) ≡ c → Q c
-      go (Total n) q = total n
-      go (Stopped v) q = stopped v (tally_stops P 0 (strictly (git_rules k) h s) v strict_stops q)
+      go : (c : Result ℕ Verdict) → tally 0 (strictly (git_rules k) h s) ≡ c → Q c
+      go (Ok n) q = total n
+      go (Err v) q = stopped v (tally_stops P 0 (strictly (git_rules k) h s) v strict_stops q)
 
 -- every way through the gate of a rule set
-each_rule_gate : (Q : Gate → Type 0) → Q Open → Q (Shut (verdict 1 0)) → Q (Shut (verdict 19 0)) → Q (Shut (verdict 2 0)) → (k h bytes records : ℕ) → Q (rule_gate k h bytes records)
+each_rule_gate : (Q : Result ⊤ Verdict → Type 0) → Q (Ok tt) → Q (Err (verdict 1 0)) → Q (Err (verdict 19 0)) → Q (Err (verdict 2 0)) → (k h bytes records : ℕ) → Q (rule_gate k h bytes records)
 each_rule_gate Q begun one nineteen two k h bytes records = go (rule_gate k h bytes records) refl
   where
-    go : (g : Gate) → rule_gate k h bytes records ≡ g → Q g
-    go Open q = begun
-    go (Shut v) q = rule_shut (λ w. Q (Shut w)) one nineteen two k h bytes records v q
+    go : (g : Result ⊤ Verdict) → rule_gate k h bytes records ≡ g → Q g
+    go (Ok tt) q = begun
+    go (Err v) q = rule_shut (λ w. Q (Err w)) one nineteen two k h bytes records v q
 
 -- every number of a new entry
 each-new : (P : ℕ → Type 0) → P 0 → P 10 → P 5 → P 6 → P 18 → (k h : ℕ) (new : Entry) → P (new_no (git_rules k) h new)
@@ -125,8 +122,8 @@ counts = 0 ∷ 2 ∷ 3 ∷ 5 ∷ 6 ∷ 7 ∷ 17 ∷ 18 ∷ []
 count_fits : (k h : ℕ) (s : List ℕ) → Fits counts (of_counted (strict_count k h s))
 unfolding strict_count
 count_fits k h s =
-    each-pick (λ c. Fits counts (of_counted c)) (leb (length s) most_bytes) (tally 0 (strictly (git_rules k) h s)) (Stopped (verdict 2 0))
-    (each-tally (λ v. Fits counts (of_counted (Stopped v))) (zero refl refl) (λ at p q. zero refl q) (λ at. zero refl refl) (λ at. zero refl refl) (λ at. zero refl refl)
+    each-pick (λ c. Fits counts (of_counted c)) (leb (length s) most_bytes) (tally 0 (strictly (git_rules k) h s)) (Err (verdict 2 0))
+    (each-tally (λ v. Fits counts (of_counted (Err v))) (zero refl refl) (λ at p q. zero refl q) (λ at. zero refl refl) (λ at. zero refl refl) (λ at. zero refl refl)
     (λ at. zero refl refl) (λ at. zero refl refl) k h s (λ c. Fits counts (of_counted c)) (λ n. done refl refl) (λ v p. p)) (zero refl refl)
 
 pub of_edits : OfEdits

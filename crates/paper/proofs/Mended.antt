@@ -12,14 +12,11 @@ use lib.Seq.{take-append_seam}
 use Rattle.ground.specs.Basics.{pick}
 use Rattle.ground.specs.Verdict.{verdict, fine, most_records, stored}
 use Rattle.ground.specs.declared.Verdict.{Verdict}
-use Rattle.ground.specs.declared.Gate.{Gate}
 use Rattle.ground.proofs.Laws.{stored-done, gate_open}
 use Rattle.entry.specs.Record.{many}
 use Rattle.entry.specs.Entry.{Entry}
 use Rattle.rules.specs.Rules.{git_rules}
 use Rattle.reading.specs.Listing.{listing, tally}
-use Rattle.reading.specs.declared.Counted.{Counted}
-use Rattle.reading.specs.declared.Counted.TheVariants.{Total, Stopped}
 use Rattle.reading.proofs.Laws.{answer-done, tally_stops}
 use Rattle.strict.specs.Strict.{strictly}
 use Rattle.strict.proofs.Laws.{cut-refuses}
@@ -34,6 +31,7 @@ use Rattle.paper.specs.Mended.{Mend, object, id_length, entries, IsDone, list, n
 use Rattle.call.proofs.Laws.{each_gate}
 use Rattle.tree_calls.proofs.Placed.{placed_stops, plain-placed}
 use Rattle.demands.proofs.Demand3.{third_demand}
+use Rattle.std.specs.Prelude.{Err, Ok, Result, ⊤}
 
 -- what was stored, taken back
 pub taken : (v : Verdict) (l lent after : List ℕ) (n : ℕ) → v.number ≡ 0 → n ≡ length l → after ≡ stored v l lent → take n after ≡ l
@@ -132,9 +130,9 @@ never : {A : Type 0} → false ≡ true → A
 never e = absurd (false≢true e)
 
 module _ (h : ℕ) (s : List ℕ) (list room : ℕ) where
-  counted-points : (c : Counted) → tally 0 (listing h s) ≡ c → Points (length s) list room (counted_answer h s list room c)
+  counted-points : (c : Result ℕ Verdict) → tally 0 (listing h s) ≡ c → Points (length s) list room (counted_answer h s list room c)
   unfolding counted_answer in_room
-  counted-points (Total n) q = go (leb n list) refl (leb (length (mended h s)) room) refl
+  counted-points (Ok n) q = go (leb n list) refl (leb (length (mended h s)) room) refl
     where
       go : (a : Bool) → leb n list ≡ a → (b : Bool) → leb (length (mended h s)) room ≡ b
           → Points (length s) list room (pick a (pick b (record { verdict = fine; count = length (mended h s); entries = n })
@@ -142,7 +140,7 @@ module _ (h : ℕ) (s : List ℕ) (list room : ℕ) where
       go true p true r = (never, never, never)
       go true p false r = (never, never, λ e. leb-false (length (mended h s)) room r)
       go false p b r = (never, (λ e. leb-false n list p), never)
-  counted-points (Stopped v) q =
+  counted-points (Err v) q =
       tally_stops (λ w. Points (length s) list room (not_mended w)) 0 (listing h s) v
       (placed_stops (λ w. Points (length s) list room (not_mended w)) (length s) (listing h s)
       (plain-placed (λ w. Points (length s) list room (not_mended w)) (length s) (never, never, never) (λ at k l p. ((λ e. l), never, never))
@@ -151,7 +149,7 @@ module _ (h : ℕ) (s : List ℕ) (list room : ℕ) where
   mend_points : Points (length s) list room (mend_answer h s list room)
   unfolding mend_answer answer_by
   mend_points =
-      each_gate (λ (g : Gate). Points (length s) list room (answer_by g (counted_answer h s list room (tally 0 (listing h s)))))
+      each_gate (λ (g : Result ⊤ Verdict). Points (length s) list room (answer_by g (counted_answer h s list room (tally 0 (listing h s)))))
       (counted-points (tally 0 (listing h s)) refl) (never, never, never) (never, never, never) h (max (length s) room) list
 
 points : (c : Mend) → Points (length (object c)) (length c.given.args.1.1.0.now) (length c.given.args.1.1.1.0.now) c.came.answer

@@ -10,22 +10,21 @@ use Rattle.mode.specs.Mode.{accepted, rejected, from_number}
 use Rattle.mode.specs.Read.{read_mode, alone, begun, mode_alone}
 use Rattle.mode.specs.declared.EntryMode.{EntryMode}
 use Rattle.mode.specs.declared.ModeAnswer.{ModeAnswer}
-use Rattle.mode.specs.declared.ModeRead.{ModeRead}
-use Rattle.mode.specs.declared.ModeRead.TheVariants.{Mode, Bad}
 use Rattle.call.specs.Call.{none, ◌and◌, Fits}
 use Rattle.call.specs.Deeds.{of_gate}
 use Rattle.paper.specs.Calls.{of_mode}
 use Rattle.paper.specs.Demand1.{OfGround, OfModes}
 use Rattle.call.proofs.Laws.{answers_once, Of, done, zero, wider, keeps-reads, keeps-stores, each-pick, each-size, each_gate}
+use Rattle.std.specs.Prelude.{None, Option, Some}
 
 -- every way to read a mode text alone: a mode, 2, 3
 pub each-alone : (Q : ModeAnswer → Type 0) → ((m : EntryMode) → Q (accepted m)) → Q (rejected (verdict 2 0)) → Q (rejected (broken 0 1)) → (i : List ℕ) → Q (mode_alone i)
 unfolding mode_alone
 each-alone Q mode two three i = each-size (λ g. Q (begun g (alone (read_mode i)))) (read (read_mode i)) two (length i) 0
   where
-    read : (r : ModeRead) → Q (alone r)
-    read (Mode m n) = mode m
-    read Bad = three
+    read : (r : Option (EntryMode × ℕ)) → Q (alone r)
+    read (Some (m, n)) = mode m
+    read None = three
 
 -- every way to make a mode of a number: a mode, 23
 each_number : (Q : ModeAnswer → Type 0) → ((m : EntryMode) → Q (accepted m)) → Q (rejected (verdict 23 0)) → (n : ℕ) → Q (from_number n)

@@ -11,10 +11,7 @@ use Rattle.ground.specs.Scan.{count_to}
 use Rattle.ground.specs.Verdict.{refused, is_part, id_length, size_gate, is_set}
 use Rattle.ground.specs.declared.Verdict.{Verdict}
 use Rattle.ground.specs.declared.Answer.{Answer}
-use Rattle.ground.specs.declared.Gate.{Gate}
 use Rattle.mode.specs.Read.{read_mode}
-use Rattle.mode.specs.declared.ModeRead.{ModeRead}
-use Rattle.mode.specs.declared.ModeRead.TheVariants.{Mode, Bad}
 use Rattle.entry.specs.Decode.{short_part}
 use Rattle.rules.specs.Gate.{rule_gate}
 use Rattle.arriving.specs.Feed.{together, fresh, gate_verdict, head_part, end_in, start_of, feed_of, finish_of, end_of}
@@ -41,6 +38,8 @@ use Rattle.paper.specs.Pieces.{Lent, lent_to, lent_from, piece_of, Lends, no-pie
 use Rattle.call.proofs.Laws.{answers_once, same, two-lists, done, added, Tells, keeps-reads, keeps-hands, each-pick, keeps-stores}
 use Rattle.call.proofs.Laws as laws
 use Rattle.paper.proofs.Bundles.{both-lists}
+use Rattle.mode.specs.declared.EntryMode.{EntryMode}
+use Rattle.std.specs.Prelude.{None, Option, Result, Some, ⊤}
 
 -- from what a contract makes of the arguments to the demand of a call that goes on with a state
 goes_on : (d : Deed) (state : Input d.call → Said) (numbers : List ℕ) → TakesAll d.call → (t : Tells d)
@@ -60,7 +59,7 @@ unfolding start_of rule_gate size_gate
 start_fits h k =
     each-pick Q (id_length h) _ _ (each-pick Q (is_set k) _ _ (done refl refl) (laws.zero refl refl)) (laws.zero refl refl)
   where
-    Q : Gate → Type 0
+    Q : Result ⊤ Verdict → Type 0
     Q g = Fits (0 ∷ 1 ∷ 19 ∷ []) (of_marks (fresh h k (gate_verdict g)))
 
 abbrev settled : List ℕ
@@ -80,10 +79,10 @@ fed-fits : (c : Check) (s had : List ℕ) → Fits had (of_marks c.marks) → Fi
 fed-fits c s had g =
     each_fed (λ (m : Marks). Fits (settled ++ had) (of_marks m)) (λ m v w f. settles_fits had v w) (λ m at head p f. f) (λ m l n f. f) c s (added settled g)
 
-part-is : (b : List ℕ) (r : ModeRead) → is_part (head_part b r) ≡ true
+part-is : (b : List ℕ) (r : Option (EntryMode × ℕ)) → is_part (head_part b r) ≡ true
 unfolding short_part
-part-is b (Mode m n) = each-pick (λ (k : ℕ). is_part k ≡ true) (eqb (length (drop n b) - count_to 0 (drop n b)) 0) 2 3 refl refl
-part-is b Bad = refl
+part-is b (Some (m, n)) = each-pick (λ (k : ℕ). is_part k ≡ true) (eqb (length (drop n b) - count_to 0 (drop n b)) 0) 2 3 refl refl
+part-is b None = refl
 
 end_fits : (m : Marks) (had : List ℕ) → Fits had (of_marks m) → Fits ((0 ∷ 3 ∷ []) ++ had) (of_answer (finish_of m))
 unfolding finish_of

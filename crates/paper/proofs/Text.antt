@@ -10,8 +10,6 @@ use Rattle.ground.specs.Basics.{pick}
 use Rattle.ground.specs.Verdict.{verdict, fine, counted, refused, most_records}
 use Rattle.ground.specs.declared.Verdict.{Verdict}
 use Rattle.ground.specs.declared.Answer.{Answer}
-use Rattle.ground.specs.declared.Gate.{Gate}
-use Rattle.ground.specs.declared.Gate.TheVariants.{Open, Shut}
 use Rattle.ground.proofs.Laws.{stored_refused}
 use Rattle.output.specs.Output.{gated, fitted}
 use Rattle.entry.specs.Entry.{Entry}
@@ -19,8 +17,6 @@ use Rattle.rules.specs.Rules.{is_text, modes_of, is_plain, is_dot_git, bare_numb
 use Rattle.rules.specs.Gate.{rule_gate}
 use Rattle.rules.proofs.Laws.{rule_shut}
 use Rattle.reading.specs.Listing.{tally}
-use Rattle.reading.specs.declared.Counted.{Counted}
-use Rattle.reading.specs.declared.Counted.TheVariants.{Total, Stopped}
 use Rattle.reading.proofs.Laws.{answer-counted}
 use Rattle.strict.specs.Strict.{strictly, strict_answer}
 use Rattle.tree_export.specs.Export.{counted_in, export_answer}
@@ -34,6 +30,7 @@ use Rattle.paper.specs.Demand1.{OfText}
 use Rattle.call.proofs.Laws as fits
 use Rattle.call.proofs.Laws.{answers_once, same, one_list, wider, keeps, keeps-writes, keeps-stores, each_gate, each-fitted}
 use Rattle.tree_calls.proofs.Reading.{each-strict}
+use Rattle.std.specs.Prelude.{Err, Ok, Result, ⊤}
 
 abbrev Exported : Answer → Type 0
 Exported a = Fits (0 ∷ 1 ∷ 2 ∷ 3 ∷ 5 ∷ 6 ∷ 7 ∷ 8 ∷ 17 ∷ 18 ∷ 19 ∷ []) (of_answer a)
@@ -45,13 +42,13 @@ unless_four k h s =
     (λ at k l p f. fits.zero refl p) (λ n l f. absurd (f refl)) (λ at l f. fits.zero refl refl) (λ at l f. fits.zero refl refl) (λ at l f. fits.zero refl refl)
     (λ at l f. fits.zero refl refl) (λ at l f. fits.zero refl refl) (λ f. fits.zero refl refl) k
 
-counted-fits : (k h : ℕ) (s : List ℕ) → rule_gate k h (length s) 0 ≡ Open → Exported (counted_in h s (tally 0 (strictly (git_rules k) h s)))
+counted-fits : (k h : ℕ) (s : List ℕ) → rule_gate k h (length s) 0 ≡ Ok tt → Exported (counted_in h s (tally 0 (strictly (git_rules k) h s)))
 unfolding counted_in
 counted-fits k h s g = go (tally 0 (strictly (git_rules k) h s)) refl
   where
-    go : (c : Counted) → tally 0 (strictly (git_rules k) h s) ≡ c → Exported (counted_in h s c)
-    go (Total n) t = fits.done refl refl
-    go (Stopped v) t =
+    go : (c : Result ℕ Verdict) → tally 0 (strictly (git_rules k) h s) ≡ c → Exported (counted_in h s c)
+    go (Ok n) t = fits.done refl refl
+    go (Err v) t =
         let e : strict_answer k h s [] ≡ refused v = answer-counted (strictly (git_rules k) h s) (rule_gate k h (length s) 0) 0 g t in
         subst Exported e (unless_four k h s (λ z. stops_not-four k h s v t (sym (ap (λ (a : Answer). a.verdict.number) e) ∙ z)))
 
@@ -59,9 +56,9 @@ pub export_fits : (k h : ℕ) (s : List ℕ) (room : ℕ) → Exported (export_a
 unfolding export_answer gated
 export_fits k h s room = go (rule_gate k h (max (length s) room) 0) refl
   where
-    go : (g : Gate) → rule_gate k h (max (length s) room) 0 ≡ g → Exported (gated g (fitted room (counted_in h s (tally 0 (strictly (git_rules k) h s)))))
-    go Open q = each-fitted Exported room _ (counted-fits k h s (began k h s room (max (length s) room) refl q).0) (λ n l. fits.zero refl refl)
-    go (Shut v) q = rule_shut (λ v. Exported (refused v)) (fits.zero refl refl) (fits.zero refl refl) (fits.zero refl refl) k h (max (length s) room) 0 v q
+    go : (g : Result ⊤ Verdict) → rule_gate k h (max (length s) room) 0 ≡ g → Exported (gated g (fitted room (counted_in h s (tally 0 (strictly (git_rules k) h s)))))
+    go (Ok tt) q = each-fitted Exported room _ (counted-fits k h s (began k h s room (max (length s) room) refl q).0) (λ n l. fits.zero refl refl)
+    go (Err v) q = rule_shut (λ v. Exported (refused v)) (fits.zero refl refl) (fits.zero refl refl) (fits.zero refl refl) k h (max (length s) room) 0 v q
 
 -- ---- from text
 
@@ -148,9 +145,9 @@ pub import_fits : (k h : ℕ) (s : List ℕ) (room : ℕ) → Imported (import_a
 unfolding import_answer gated
 import_fits k h s room = go (rule_gate k h (max (length s) room) 0) refl
   where
-    go : (g : Gate) → rule_gate k h (max (length s) room) 0 ≡ g → Imported (gated g (fitted room (counted_of (texts k h s))))
-    go Open q = each-fitted Imported room _ (wider (counted_imports k h s) refl) (λ n l. fits.zero refl refl)
-    go (Shut v) q = rule_shut (λ v. Imported (refused v)) (fits.zero refl refl) (fits.zero refl refl) (fits.zero refl refl) k h (max (length s) room) 0 v q
+    go : (g : Result ⊤ Verdict) → rule_gate k h (max (length s) room) 0 ≡ g → Imported (gated g (fitted room (counted_of (texts k h s))))
+    go (Ok tt) q = each-fitted Imported room _ (wider (counted_imports k h s) refl) (λ n l. fits.zero refl refl)
+    go (Err v) q = rule_shut (λ v. Imported (refused v)) (fits.zero refl refl) (fits.zero refl refl) (fits.zero refl refl) k h (max (length s) room) 0 v q
 
 -- with lent memory
 abbrev Lends : Answer → Type 0
@@ -159,7 +156,7 @@ Lends a = Fits (0 ∷ 1 ∷ 2 ∷ 4 ∷ 5 ∷ 6 ∷ 7 ∷ 8 ∷ 17 ∷ 18 ∷ 20
 pub lent_fits : (k h : ℕ) (s : List ℕ) (room size : ℕ) → Lends (lent_answer k h s room size)
 unfolding lent_answer lent_by gated
 lent_fits k h s room size =
-    each_gate (λ (g : Gate). Lends (gated g (lent_by (texts k h s) room size))) (go (too_many (texts k h s) size)) (fits.zero refl refl) (fits.zero refl refl)
+    each_gate (λ (g : Result ⊤ Verdict). Lends (gated g (lent_by (texts k h s) room size))) (go (too_many (texts k h s) size)) (fits.zero refl refl) (fits.zero refl refl)
     h (length s) 0
   where
     go : (b : Bool) → Lends (pick b (refused (verdict 4 (length (entries_in (texts k h s))))) (fitted room (counted_of (texts k h s))))

@@ -6,12 +6,12 @@ use lib.Dec.{eqb, ltb}
 use Rattle.ground.specs.Verdict.{verdict, fine, most_records}
 use Rattle.ground.specs.declared.Verdict.{Verdict}
 use Rattle.order.specs.Order.{name_order}
-use Rattle.order.specs.declared.Order.{Order}
-use Rattle.order.specs.declared.Order.TheVariants.{Below, Same, Above}
 use Rattle.merge.specs.Merge.{by_order}
 use Rattle.item.specs.Items.{Side, Named, is_folder, Folder, shut, holds, same_side}
 use Rattle.walk.specs.Walk.{Lower, Out, put, and_then, change, both, rights, against, compare_entries, opened, compare_folders}
 use Rattle.call.proofs.Laws.{each-pick}
+use Rattle.std.specs.declared.cmp.Ordering.{Ordering}
+use Rattle.std.specs.declared.cmp.Ordering.TheVariants.{Equal, Greater, Less}
 
 -- a folder that opens, or is shut with such a verdict
 abbrev pub Opens : (Verdict → Type 0) → Folder → Type 0
@@ -41,10 +41,10 @@ module _ (P : Verdict → Type 0) (ends : P fine) (two : P (verdict 2 0)) (deep 
     rights-ends [] n = ends
     rights-ends (r ∷ rs) n = change-ends n _ _ _ _ _ (λ m. rights-ends rs m)
 
-    order_ends : (o : Order) (x y z : Out) → Ends x → Ends y → Ends z → Ends (by_order o x y z)
-    order_ends Below x y z p q r = p
-    order_ends Same x y z p q r = q
-    order_ends Above x y z p q r = r
+    order_ends : (o : Ordering) (x y z : Out) → Ends x → Ends y → Ends z → Ends (by_order o x y z)
+    order_ends Less x y z p q r = p
+    order_ends Equal x y z p q r = q
+    order_ends Greater x y z p q r = r
 
     against-ends : (l : Named) (next : ℕ → List Named → Out) → ((m : ℕ) (rs : List Named) → Ends (next m rs)) → (rs : List Named) (n : ℕ) → Ends (against below prefix l next n rs)
     unfolding against

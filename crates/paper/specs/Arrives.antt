@@ -1,9 +1,8 @@
 -- The check in pieces, over every outcome that the contracts of `start`, `feed` and `finish` allow, and over those of the strict reader.
 -- `proofs/Arrives.antt` proves it. Assumes nothing.
-use Rattle.std.specs.Prelude.{ℕ, ◌≤◌, ◌≡◌, List, [], ◌∷◌, ◌↔◌, length, take}
+use Rattle.std.specs.Prelude.{ℕ, ◌≤◌, ◌≡◌, List, [], ◌∷◌, ◌↔◌, length, take, Ok}
 use Rattle.ground.specs.Verdict.{verdict, refused, most_bytes, most_records}
 use Rattle.ground.specs.declared.Answer.{Answer}
-use Rattle.ground.specs.declared.Gate.TheVariants.{Open}
 use Rattle.entry.specs.Record.{many}
 use Rattle.rules.specs.Gate.{rule_gate}
 use Rattle.strict.specs.Strict.{strict_answer}
@@ -70,5 +69,5 @@ pub record Arrives : Type 3 where
       → many (length lent) ≤ most_records → (a.verdict.number ≡ 16 → ⊥) → ((strict_answer k h (joined ps) lent).verdict.number ≡ 4 → ⊥)
       → a ≡ strict_answer k h (joined ps) lent
   -- 16 at a place exactly where strict reading of the bytes up to the bound reaches there an entry with a readable mode and too long a name
-  pub sixteen : (h k : ℕ) (ps : List (List ℕ)) (a : Answer) → Checked h k ps a → rule_gate k h 0 0 ≡ Open → (place : ℕ)
+  pub sixteen : (h k : ℕ) (ps : List (List ℕ)) (a : Answer) → Checked h k ps a → rule_gate k h 0 0 ≡ Ok tt → (place : ℕ)
       → (a ≡ refused (verdict 16 place)) ↔ MeetsLong k h (take most_bytes (joined ps)) place

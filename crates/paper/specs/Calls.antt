@@ -1,9 +1,7 @@
 -- The public calls of every layer, each by its own contract, and what the answers of those that refuse say. Assumes nothing.
-use Rattle.std.specs.Prelude.{List, [], ◌∷◌}
+use Rattle.std.specs.Prelude.{List, [], ◌∷◌, Err, Ok, Result, ℕ}
 use Rattle.ground.specs.Verdict.{fine}
 use Rattle.mode.specs.declared.ModeAnswer.{ModeAnswer}
-use Rattle.reading.specs.declared.Counted.{Counted}
-use Rattle.reading.specs.declared.Counted.TheVariants.{Total, Stopped}
 use Rattle.ground.proofs as ground
 use Rattle.scan.proofs as scan
 use Rattle.free_of.proofs as free_of
@@ -57,8 +55,6 @@ use Rattle.text_repeats.proofs as text_repeats
 use Rattle.text_pairs.proofs as text_pairs
 use Rattle.text_import.proofs as text_import
 use Rattle.tree_import.proofs as import
-use Rattle.bundle.specs.declared.Opening.{Opening}
-use Rattle.bundle.specs.declared.Opening.TheVariants as opening
 use Rattle.bundle.specs.declared.Checked.{Checked}
 use Rattle.path_walk.specs.declared.Followed.{Followed}
 use Rattle.keys.proofs as keys
@@ -84,6 +80,8 @@ pub use Rattle.tree_calls.specs.Calls.{bisect_array, bisect_records, bisect_entr
 pub use Rattle.tree_calls.specs.Calls.{answer_given, lookup_questions, tree_size, write_tree, loose_header, fit, fit_given, put_part, put_listing}
 pub use Rattle.commit_calls.specs.Calls.{of_commit, unfold_value, put_byte, put_value, put_header, read_commit, check_commit, commit_size, write_commit}
 pub use Rattle.commit_calls.specs.Calls.{commit_questions}
+use Rattle.frame.specs.declared.Header.{Header}
+use Rattle.ground.specs.declared.Verdict.{Verdict}
 
 -- ---- what an answer says
 
@@ -160,15 +158,15 @@ orders =
     call order.name_order.Kinds.ps order.name_order.Kinds.r order.name_order.Reads.Asked order.name_order.Reads.Post
     ∷ call compare.name_order.Kinds.ps compare.name_order.Kinds.r compare.name_order.Reads.Asked compare.name_order.Reads.Post
     ∷ call order.by_next.Kinds.ps order.by_next.Kinds.r order.by_next.Reads.Asked order.by_next.Reads.Post
-    ∷ call order.Order.number.Kinds.ps order.Order.number.Kinds.r order.Order.number.Reads.Asked order.Order.number.Reads.Post
+    ∷ call order.order_number.Kinds.ps order.order_number.Kinds.r order.order_number.Reads.Asked order.order_number.Reads.Post
     ∷ []
 
 -- ---- edits
 
 -- a count of entries is 0
-abbrev pub of_counted : Counted → Said
-of_counted (Total n) = record { verdict = fine; counts = n ∷ [] }
-of_counted (Stopped v) = record { verdict = v; counts = [] }
+abbrev pub of_counted : Result ℕ Verdict → Said
+of_counted (Ok n) = record { verdict = fine; counts = n ∷ [] }
+of_counted (Err v) = record { verdict = v; counts = [] }
 
 abbrev pub count_strict : Deed
 count_strict = reads (call strict.strict_count.Kinds.ps strict.strict_count.Kinds.r strict.strict_count.Reads.Asked strict.strict_count.Reads.Post) (λ i x. of_counted x)
@@ -347,9 +345,9 @@ word_questions =
 -- ---- bundles and paths
 
 -- a bundle that was opened is 0
-abbrev pub of_opening : Opening → Said
-of_opening (opening.Open k) = record { verdict = fine; counts = k.h ∷ k.rules ∷ k.count ∷ k.from ∷ [] }
-of_opening (opening.Shut v) = of_verdict v
+abbrev pub of_opening : Result Header Verdict → Said
+of_opening (Ok k) = record { verdict = fine; counts = k.h ∷ k.rules ∷ k.count ∷ k.from ∷ [] }
+of_opening (Err v) = of_verdict v
 
 abbrev pub of_checked : Checked → Said
 of_checked x = record { verdict = x.verdict; counts = x.h ∷ x.rules ∷ x.count ∷ [] }

@@ -1,10 +1,8 @@
 -- A path followed through nested trees of a bundle (docs/FORMAT.md, "Paths"). Assumes nothing.
-use Rattle.std.specs.Prelude.{ℕ, max, List, [], ◌∷◌, ◌++◌, length, drop, replicate, eqb}
+use Rattle.std.specs.Prelude.{ℕ, max, List, [], ◌∷◌, ◌++◌, length, drop, replicate, eqb, Err, Ok, Result, ⊤}
 use Rattle.ground.specs.Basics.{pick}
 use Rattle.ground.specs.Verdict.{verdict, fine, size_gate}
 use Rattle.ground.specs.declared.Verdict.{Verdict}
-use Rattle.ground.specs.declared.Gate.{Gate}
-use Rattle.ground.specs.declared.Gate.TheVariants.{Open, Shut}
 use Rattle.twice.specs.Ids.{repeats}
 use Rattle.bundle.specs.Bundle.{Object, Bundle, good, bad, bundle_of, ids_of, Sought, present, absent, object_with}
 use Rattle.component.specs.Component.{components, is_path}
@@ -57,9 +55,9 @@ follow_in (good h os) root cs =
     pick (eqb (length root) h) (pick (repeats (ids_of os)) (refused_with (verdict 25 0)) (follow_along h os root cs)) (refused_with (verdict 24 0))
 
 -- 2, then the rest
-unfoldable pub follow_from : List ℕ → List ℕ → List ℕ → Gate → Followed
-follow_from s root path (Shut v) = refused_with v
-follow_from s root path Open = follow_in (bundle_of s) root (components path)
+unfoldable pub follow_from : List ℕ → List ℕ → List ℕ → Result ⊤ Verdict → Followed
+follow_from s root path (Err v) = refused_with v
+follow_from s root path (Ok tt) = follow_in (bundle_of s) root (components path)
 
 -- the whole: 2 for the three lent buffers, 24, 25, 26, 15
 abbrev pub follow : List ℕ → List ℕ → List ℕ → Followed

@@ -7,8 +7,8 @@ ghost use Rattle.component.specs.Component.{components};
 ghost use Rattle.path.specs.Path.{refused_with, follow};
 ghost use Rattle.path.specs.Code.{after_open};
 
-use bundle::{Opening, open_bundle};
-use ground::{Gate, Verdict, longer, sizes};
+use bundle::open_bundle;
+use ground::{Verdict, longer, sizes};
 use path_walk::{Followed, walk_path};
 
 // A refusal: no mode, no id.
@@ -29,8 +29,8 @@ fn follow_within(s: &[u8], root: &[u8], path: &[u8]) -> Followed
     ensures { result ≡ after_open s.now root.now (components path.now) (open_of s.now (length root.now)) }
 {
     match open_bundle(s, root.len()) {
-        Opening::Shut(v) => refused(v),
-        Opening::Open(k) => walk_path(s, k.h, root, path),
+        Err(v) => refused(v),
+        Ok(k) => walk_path(s, k.h, root, path),
     }
 }
 
@@ -39,7 +39,7 @@ pub fn follow_path(s: &[u8], root: &[u8], path: &[u8]) -> Followed
     ensures { result ≡ follow s.now root.now path.now }
 {
     match sizes(longer(root.len(), path.len()), 0) {
-        Gate::Shut(v) => refused(v),
-        Gate::Open => follow_within(s, root, path),
+        Err(v) => refused(v),
+        Ok(()) => follow_within(s, root, path),
     }
 }

@@ -4,37 +4,18 @@
 ghost use Rattle.std.specs.Prelude.{◌≡◌};
 ghost use Rattle.path_step.specs.Spot.{spot_in};
 
-use component::{Named, find_entry};
+use component::find_entry;
 use finding::find_object;
-use frame::{Placed, TREE};
-
-// An entry's mode, and where its id stands in the bundle.
-#[derive(Clone, Copy)]
-pub enum Spot {
-    At(usize, usize),
-    Nowhere,
-}
+use frame::TREE;
 
 // The first entry of a name in the tree of an id, for ids of h bytes.
-pub fn step_to(s: &[u8], h: usize, id: &[u8], name: &[u8]) -> Spot
+pub fn step_to(s: &[u8], h: usize, id: &[u8], name: &[u8]) -> Option<(usize, usize)>
     ensures { result ≡ spot_in h s.now id.now name.now }
 {
-    match find_object(s, id) {
-        Placed::Absent => Spot::Nowhere,
-        Placed::At(f) => {
-            if f.kind != TREE {
-                return Spot::Nowhere;
-            }
-            let start = f.start;
-            let end = f.end;
-            match find_entry(&s[start..end], h, name) {
-                Named::NoEntry => Spot::Nowhere,
-                Named::Entry(e) => {
-                    let mode = e.mode;
-                    let at = start + e.id_start;
-                    Spot::At(mode, at)
-                }
-            }
-        }
+    let f = find_object(s, id)?;
+    if f.kind != TREE {
+        return None;
     }
+    let e = find_entry(&s[f.start..f.end], h, name)?;
+    Some((e.mode, f.start + e.id_start))
 }

@@ -9,7 +9,7 @@ ghost use Rattle.path_walk.specs.Reach.{spot_along, SpotInside, missed, taken_fr
 use component::is_path;
 use ground::{FINE, NO_PATH, NOT_THERE, Verdict};
 use output::put;
-use path_step::{Spot, step_to};
+use path_step::step_to;
 use scan::count_to;
 
 // The answer: the mode and the id of the entry that the path leads to, by value; on a refusal mode and size are 0.
@@ -22,7 +22,7 @@ pub struct Followed {
 }
 
 // One component is looked up, and the rest of the path is followed from what was found.
-fn walk(s: &[u8], h: usize, id: &[u8], path: &[u8]) -> Spot
+fn walk(s: &[u8], h: usize, id: &[u8], path: &[u8]) -> Option<(usize, usize)>
     ensures { result ≡ spot_along h s.now id.now (pieces path.now) }
 {
     let n = count_to(path, b'/');
@@ -31,8 +31,8 @@ fn walk(s: &[u8], h: usize, id: &[u8], path: &[u8]) -> Spot
         return spot;
     }
     match spot {
-        Spot::Nowhere => Spot::Nowhere,
-        Spot::At(_, at) => {
+        None => None,
+        Some((_, at)) => {
             let end = at + h;
             let rest = n + 1;
             walk(s, h, &s[at..end], &path[rest..])
@@ -54,13 +54,13 @@ fn missing(number: usize) -> Followed
 }
 
 // What a spot of the bundle says, the id taken out of it.
-fn taken(s: &[u8], h: usize, spot: Spot) -> Followed
+fn taken(s: &[u8], h: usize, spot: Option<(usize, usize)>) -> Followed
     requires { SpotInside h (length s.now) spot }
     ensures { result ≡ taken_from h s.now spot }
 {
     match spot {
-        Spot::Nowhere => missing(NOT_THERE),
-        Spot::At(mode, at) => {
+        None => missing(NOT_THERE),
+        Some((mode, at)) => {
             let mut id = [0u8; 32];
             let end = at + h;
             put(&mut id, 0, &s[at..end]);

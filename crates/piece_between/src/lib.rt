@@ -6,83 +6,53 @@ ghost use Rattle.piece_between.specs.Between.{is_next, is_fine, is_after, is_fir
 
 use arriving::{Last, MOST_HELD, Marks, Phase, Taken};
 use ground::{FINE, MOST_BYTES, SAME_NAME, Verdict};
-use piece_marks::fresh;
+use piece_marks::refuse;
 use piece_run::Run;
 
 // Whether nothing is refused.
 fn is_fine(v: Verdict) -> bool
     ensures { result ≡ is_fine v }
 {
-    if v.number != 0 {
-        return false;
-    }
-    if v.place != 0 {
-        return false;
-    }
-    v.part == 0
+    v.number == 0 && v.place == 0 && v.part == 0
 }
 
 // Whether there is an entry before.
 fn is_after(last: Last) -> bool
     ensures { result ≡ is_after last }
 {
-    if last.size == 0 {
-        return false;
-    }
-    last.size <= MOST_HELD
+    last.size != 0 && last.size <= MOST_HELD
 }
 
 // Whether an entry begins at a place, and so many bytes more keep the bound.
 fn is_first(at: usize, first: usize, left: usize) -> bool
     ensures { result ≡ is_first at first left }
 {
-    if first != at {
-        return false;
-    }
-    if MOST_BYTES < at {
-        return false;
-    }
-    left <= MOST_BYTES - at
+    first == at && at <= MOST_BYTES && left <= MOST_BYTES - at
 }
 
 // Whether none of an entry's first bytes has come.
 fn is_next(phase: Phase) -> bool
     ensures { result ≡ is_next phase }
 {
-    match phase {
-        Phase::Head(k) => k == 0,
-        Phase::Name(_) => false,
-        Phase::Id(_, _) => false,
-    }
+    matches!(phase, Phase::Head(0))
 }
 
 // Whether an entry begins that may be taken at once, where so many bytes are left in the piece.
 pub fn is_between(m: Marks, left: usize) -> bool
     ensures { result ≡ is_between m left }
 {
-    let phase = m.phase;
-    let verdict = m.verdict;
-    let last = m.last;
-    if is_next(phase) {
-        if is_fine(verdict) {
-            if is_after(last) {
-                if is_first(m.at, m.first, left) {
-                    return 8 < m.h;
-                }
-            }
-        }
-    }
-    false
+    is_next(m.phase)
+        && is_fine(m.verdict)
+        && is_after(m.last)
+        && is_first(m.at, m.first, left)
+        && 8 < m.h
 }
 
 // The entry's first bytes from which some entries were taken.
 fn head_after(head: [u8; 8], i: usize, next: usize) -> [u8; 8]
     ensures { result ≡ head_after head i next }
 {
-    if next == i {
-        return head;
-    }
-    [0u8; 8]
+    if next == i { head } else { [0u8; 8] }
 }
 
 // The marks after some entries, so many bytes in all, and the place of the next byte.
@@ -90,9 +60,8 @@ pub fn ran(m: Marks, at: usize, all: usize, i: usize, t: Run) -> Taken
     ensures { result ≡ ran_of m at all i t }
 {
     if t.double {
-        let marks = fresh(
-            m.h,
-            m.rules,
+        let marks = refuse(
+            m,
             Verdict {
                 number: SAME_NAME,
                 place: at,
@@ -101,20 +70,16 @@ pub fn ran(m: Marks, at: usize, all: usize, i: usize, t: Run) -> Taken
         );
         return Taken { marks, next: all };
     }
-    let last = t.last;
-    let first = m.head;
-    let head = head_after(first, i, t.next);
     let marks = Marks {
         verdict: FINE,
-        h: m.h,
-        rules: m.rules,
         at,
         first: at,
         count: t.count,
-        last,
+        last: t.last,
         ended: t.ended,
-        head,
+        head: head_after(m.head, i, t.next),
         phase: Phase::Head(0),
+        ..m
     };
     Taken {
         marks,

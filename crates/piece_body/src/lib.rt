@@ -16,8 +16,7 @@ fn in_id(m: Marks, l: Line, left: usize) -> Marks
     requires { m.at < 4294967296 }
     ensures { result ≡ moved m m.head (Phase.Id l left) }
 {
-    let head = m.head;
-    placed_at(m, m.at + 1, head, Phase::Id(l, left))
+    placed_at(m, m.at + 1, m.head, Phase::Id(l, left))
 }
 
 // A byte of the name.
@@ -57,10 +56,9 @@ pub fn body_within(held: &mut [u8; 4096], ends: &mut [u32; 4097], m: Marks, b: u
     if 4294967296 <= m.at {
         return m;
     }
-    let phase = m.phase;
-    match phase {
-        Phase::Head(_) => return m,
-        Phase::Name(l) => return name_byte(held, m, l, b),
-        Phase::Id(l, left) => return id_byte(held, ends, m, l, left),
+    match m.phase {
+        Phase::Head(_) => m,
+        Phase::Name(l) => name_byte(held, m, l, b),
+        Phase::Id(l, left) => id_byte(held, ends, m, l, left),
     }
 }

@@ -8,14 +8,15 @@ use lib.ListN.{length}
 use Rattle.ground.specs.Basics.{pick}
 use Rattle.ground.specs.Verdict.{verdict, most_records}
 use Rattle.doubles.specs.Stack.{marks_at, open_of}
-use Rattle.doubles.specs.declared.Placed.{Placed}
-use Rattle.doubles.specs.declared.Placed.TheVariants.{Fine, NotAfter, Double}
 use Rattle.arriving.specs.Feed.{refuse, leaves_none, placing, ends_next, placed, closed, closed_ends}
 use Rattle.arriving.specs.declared.Line.{Line}
 use Rattle.arriving.specs.declared.Phase.TheVariants.{Head}
 use Rattle.arriving.specs.declared.Marks.{Marks}
 use Rattle.arriving.proofs.Laws.{Closes}
 use Rattle.piece_close.specs.Closing.{next_at, placed_by, closed_at}
+use Rattle.doubles.specs.declared.Misplaced.{Misplaced}
+use Rattle.doubles.specs.declared.Misplaced.TheVariants.{Double, NotAfter}
+use Rattle.std.specs.Prelude.{Err, Ok, Result}
 
 pub next-is : (m : Marks) (at : ℕ) (l : Line) (k count : ℕ) → count ≡ pick (ltb m.count most_records) (m.count + 1) m.count
     → record {
@@ -33,16 +34,16 @@ pub next-is : (m : Marks) (at : ℕ) (l : Line) (k count : ℕ) → count ≡ pi
     ≡ next_at m at l k
 next-is m at l k count e = rw e
 
-module _ (m : Marks) (at : ℕ) (l : Line) (p : Placed) where
-  pub placed-fine : (n : ℕ) → p ≡ Fine n → {r : Marks} → r ≡ next_at m at l n → r ≡ placed_by m at l p
+module _ (m : Marks) (at : ℕ) (l : Line) (p : Result ℕ Misplaced) where
+  pub placed-fine : (n : ℕ) → p ≡ Ok n → {r : Marks} → r ≡ next_at m at l n → r ≡ placed_by m at l p
   unfolding placed_by
   placed-fine n e q = q ∙ sym (ap (placed_by m at l) e)
 
-  pub placed_double : p ≡ Double → {r : Marks} → r ≡ refuse m (verdict 17 m.first) → r ≡ placed_by m at l p
+  pub placed_double : p ≡ Err Double → {r : Marks} → r ≡ refuse m (verdict 17 m.first) → r ≡ placed_by m at l p
   unfolding placed_by
   placed_double e q = q ∙ sym (ap (placed_by m at l) e)
 
-  pub placed-not : p ≡ NotAfter → {r : Marks} → r ≡ refuse m (verdict 7 m.first) → r ≡ placed_by m at l p
+  pub placed-not : p ≡ Err NotAfter → {r : Marks} → r ≡ refuse m (verdict 7 m.first) → r ≡ placed_by m at l p
   unfolding placed_by
   placed-not e q = q ∙ sym (ap (placed_by m at l) e)
 
@@ -59,7 +60,7 @@ module _ (ends : List ℕ) (m : Marks) (at : ℕ) (l : Line) (number n : ℕ) (j
       go zero f q = absurd (f refl)
       go (suc i) f q = (q, refl)
 
-  pub closed-placed : number ≡ 0 → (none : Bool) → none ≡ leaves_none m.last → (p : Placed) (after : List ℕ)
+  pub closed-placed : number ≡ 0 → (none : Bool) → none ≡ leaves_none m.last → (p : Result ℕ Misplaced) (after : List ℕ)
       → (p ≡ open_of ends m.ended l.shared m.last.size none l.size l.folder)
       × (after ≡ marks_at ends (min m.ended (length ends)) l.shared m.last.size none)
       → {r : Marks} → r ≡ placed_by m at l p → ClosesAt ends m at l n r after
@@ -70,11 +71,11 @@ module _ (ends : List ℕ) (m : Marks) (at : ℕ) (l : Line) (number n : ℕ) (j
       let o : after ≡ ends_next ends m l = e.1 ∙ ap (λ (w : Bool). marks_at ends (min m.ended (length ends)) l.shared m.last.size w) y in
       (q ∙ ap (placed_by m at l) v ∙ ap (λ (k : ℕ). closed_at ends m at l k) i, o ∙ ap (λ (k : ℕ). closed_ends ends m l k) i)
 
-placed_one : (m : Marks) (l : Line) (p : Placed) → placed_by m (m.at + 1) l p ≡ placed m l p
+placed_one : (m : Marks) (l : Line) (p : Result ℕ Misplaced) → placed_by m (m.at + 1) l p ≡ placed m l p
 unfolding placed_by placed
-placed_one m l (Fine n) = refl
-placed_one m l NotAfter = refl
-placed_one m l Double = refl
+placed_one m l (Ok n) = refl
+placed_one m l (Err NotAfter) = refl
+placed_one m l (Err Double) = refl
 
 closed-one : (ends : List ℕ) (m : Marks) (l : Line) (n : ℕ) → closed_at ends m (m.at + 1) l n ≡ closed ends m l n
 unfolding closed_at closed

@@ -8,22 +8,20 @@ ghost use Rattle.arriving.specs.Feed.{refuse, judged, leaves_none, closed_ends};
 ghost use Rattle.piece_close.specs.Closing.{next_at, placed_by, closed_at};
 
 use arriving::{Last, Line, Marks, Phase};
-use doubles::{Placed, open_entry};
-use ground::{FINE, MOST_RECORDS, ORDER, SAME_NAME, Verdict};
+use doubles::{Misplaced, open_entry};
+use ground::{DONE, FINE, MOST_RECORDS, ORDER, SAME_NAME, Verdict};
 use piece_judge::judge;
-use piece_marks::fresh;
+use piece_marks::refuse;
 
 // The entry that arrives is refused.
 pub fn refused(m: Marks, number: usize) -> Marks
     ensures { result ≡ refuse m (verdict number m.first) }
 {
-    let place = m.first;
-    fresh(
-        m.h,
-        m.rules,
+    refuse(
+        m,
         Verdict {
             number,
-            place,
+            place: m.first,
             ..FINE
         },
     )
@@ -34,24 +32,20 @@ fn one_more(count: usize) -> usize
     ensures { result ≡ pick (ltb count most_records) (count + 1) count }
 {
     if count < MOST_RECORDS {
-        return count + 1;
+        count + 1
+    } else {
+        count
     }
-    count
 }
 
 // The marks where the next entry begins at a place, with so many names open.
 fn next_entry(m: Marks, at: usize, l: Line, ended: usize) -> Marks
     ensures { result ≡ next_at m at l ended }
 {
-    let verdict = m.verdict;
-    let count = one_more(m.count);
     Marks {
-        verdict,
-        h: m.h,
-        rules: m.rules,
         at,
         first: at,
-        count,
+        count: one_more(m.count),
         last: Last {
             size: l.size,
             folder: l.folder,
@@ -59,6 +53,7 @@ fn next_entry(m: Marks, at: usize, l: Line, ended: usize) -> Marks
         ended,
         head: [0u8; 8],
         phase: Phase::Head(0),
+        ..m
     }
 }
 
@@ -66,20 +61,17 @@ fn next_entry(m: Marks, at: usize, l: Line, ended: usize) -> Marks
 fn leaves_none(last: Last) -> bool
     ensures { result ≡ leaves_none last }
 {
-    if last.folder {
-        return true;
-    }
-    last.size == 0
+    last.folder || last.size == 0
 }
 
 // The marks after an entry that stands so among the names that are open.
-fn placed(m: Marks, at: usize, l: Line, p: Placed) -> Marks
+fn placed(m: Marks, at: usize, l: Line, p: Result<usize, Misplaced>) -> Marks
     ensures { result ≡ placed_by m at l p }
 {
     match p {
-        Placed::Fine(n) => next_entry(m, at, l, n),
-        Placed::Double => refused(m, SAME_NAME),
-        Placed::NotAfter => refused(m, ORDER),
+        Ok(n) => next_entry(m, at, l, n),
+        Err(Misplaced::Double) => refused(m, SAME_NAME),
+        Err(Misplaced::NotAfter) => refused(m, ORDER),
     }
 }
 
@@ -88,12 +80,11 @@ pub fn close_entry(held: &[u8; 4096], ends: &mut [u32; 4097], m: Marks, at: usiz
     ensures marks { result ≡ closed_at ends.old m at l (judged held.now m.last l) }
     ensures ends { ends.new ≡ closed_ends ends.old m l (judged held.now m.last l) }
 {
-    let last = m.last;
-    let number = judge(held, last, l);
-    if number != 0 {
+    let number = judge(held, m.last, l);
+    if number != DONE {
         return refused(m, number);
     }
-    let none = leaves_none(last);
-    let p = open_entry(ends, m.ended, l.shared, last.size, none, l.size, l.folder);
+    let none = leaves_none(m.last);
+    let p = open_entry(ends, m.ended, l.shared, m.last.size, none, l.size, l.folder);
     placed(m, at, l, p)
 }

@@ -6,8 +6,8 @@ ghost use Rattle.mode.specs.Read.{read_mode};
 ghost use Rattle.arriving.specs.Feed.{start_of, head_part, finish_of};
 
 use arriving::{Marks, Phase};
-use ground::{Answer, BROKEN_ENTRY, CUT_ID, FINE, Gate, NO_MODE, NO_NUL, Verdict, shorter};
-use mode::{EntryMode, ModeRead};
+use ground::{Answer, BROKEN_ENTRY, CUT_ID, DONE, FINE, NO_MODE, NO_NUL, Verdict, shorter};
+use mode::EntryMode;
 use piece_marks::fresh;
 use rules::rule_bounds;
 use scan::find_nul;
@@ -17,8 +17,8 @@ pub fn start(h: usize, rules: u16) -> Marks
     ensures { result ≡ start_of h rules }
 {
     match rule_bounds(rules, h, 0, 0) {
-        Gate::Open => fresh(h, rules, FINE),
-        Gate::Shut(v) => fresh(h, rules, v),
+        Ok(()) => fresh(h, rules, FINE),
+        Err(v) => fresh(h, rules, v),
     }
 }
 
@@ -28,8 +28,8 @@ fn head_part(head: [u8; 8], k: usize) -> usize
 {
     let n = shorter(k, 8);
     match EntryMode::extract_at(&head[..n], 0) {
-        ModeRead::Bad => NO_MODE,
-        ModeRead::Mode(_, at) => {
+        None => NO_MODE,
+        Some((_, at)) => {
             let end = find_nul(&head[..n], at);
             if n <= end {
                 return NO_NUL;
@@ -57,24 +57,19 @@ fn cut(first: usize, part: usize) -> Answer
 pub fn finish(m: Marks) -> Answer
     ensures { result ≡ finish_of m }
 {
-    let verdict = m.verdict;
-    if verdict.number != 0 {
-        return Answer { verdict, count: 0 };
+    if m.verdict.number != DONE {
+        return Answer {
+            verdict: m.verdict,
+            count: 0,
+        };
     }
-    let first = m.first;
-    let phase = m.phase;
-    match phase {
-        Phase::Head(k) => {
-            if k == 0 {
-                return Answer {
-                    verdict: FINE,
-                    count: m.count,
-                };
-            }
-            let head = m.head;
-            cut(first, head_part(head, k))
-        }
-        Phase::Name(_) => cut(first, NO_NUL),
-        Phase::Id(_, _) => cut(first, CUT_ID),
+    match m.phase {
+        Phase::Head(0) => Answer {
+            verdict: FINE,
+            count: m.count,
+        },
+        Phase::Head(k) => cut(m.first, head_part(m.head, k)),
+        Phase::Name(_) => cut(m.first, NO_NUL),
+        Phase::Id(_, _) => cut(m.first, CUT_ID),
     }
 }

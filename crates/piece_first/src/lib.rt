@@ -16,11 +16,8 @@ fn bodies(held: &mut [u8; 4096], ends: &mut [u32; 4097], m: Marks, head: [u8; 8]
     ensures { together held.new ends.new result ≡ bodies (together held.old ends.old m) (drop n head) }
 {
     let mut out = m;
-    let mut k = n;
-    while k < 8 {
-        let b = head[k];
-        out = body_within(held, ends, out, b);
-        k += 1;
+    for k in n..8 {
+        out = body_within(held, ends, out, head[k]);
     }
     out
 }
@@ -33,6 +30,5 @@ pub fn first_byte(held: &mut [u8; 4096], ends: &mut [u32; 4097], m: Marks, k: us
         return m;
     }
     let t = head_byte(m, m.at + 1, k, b);
-    let head = t.marks.head;
-    bodies(held, ends, t.marks, head, t.next)
+    bodies(held, ends, t.marks, t.marks.head, t.next)
 }

@@ -12,8 +12,6 @@ use Rattle.ground.specs.Basics.{pick}
 use Rattle.ground.specs.Verdict.{verdict, broken, most_records}
 use Rattle.mode.specs.Read.{read_mode, read_mode_at}
 use Rattle.mode.specs.declared.EntryMode.{EntryMode}
-use Rattle.mode.specs.declared.ModeRead.{ModeRead}
-use Rattle.mode.specs.declared.ModeRead.TheVariants.{Mode, Bad}
 use Rattle.mode.proofs.Laws.{read_next}
 use Rattle.arriving.specs.Feed.{together, refuse, placed_at, moved, bodies, begun, begin, head_step}
 use Rattle.arriving.specs.declared.Phase.TheVariants.{Head}
@@ -27,21 +25,22 @@ use denote.Struct.Declared.{row}
 use mir.Val.{Val}
 use Rattle.arriving.specs.contracts.Marks as marks
 use Rattle.piece_head.specs.Head.{from, begun_at, begin_at, head_at}
+use Rattle.std.specs.Prelude.{None, Option, Some}
 
 -- ---- the mode is decided
 
-pub mode-within : (head : List ℕ) (k : EntryMode) (n : ℕ) → length head ≡ 8 → read_mode_at head 0 ≡ Mode k n → (0 < n) × (n ≤ 8)
-mode-within head k n l e = let q = read_next head k.internal n (read-zero head (Mode k n) e) in (q.0, omega arith)
+pub mode-within : (head : List ℕ) (k : EntryMode) (n : ℕ) → length head ≡ 8 → read_mode_at head 0 ≡ Some (k, n) → (0 < n) × (n ≤ 8)
+mode-within head k n l e = let q = read_next head k.internal n (read-zero head (Some (k, n)) e) in (q.0, omega arith)
 
 module _ (m : Marks) (at : ℕ) (head : List ℕ) where
-  pub begin-bad : read_mode_at head 0 ≡ Bad → {r : Marks} → r ≡ refuse m (broken m.first 1) → from r 8 ≡ begin_at m at head (read_mode head)
+  pub begin-bad : read_mode_at head 0 ≡ None → {r : Marks} → r ≡ refuse m (broken m.first 1) → from r 8 ≡ begin_at m at head (read_mode head)
   unfolding begin_at
-  begin-bad e q = rw (read-zero head Bad e) (ap (λ (y : Marks). from y 8) q)
+  begin-bad e q = rw (read-zero head None e) (ap (λ (y : Marks). from y 8) q)
 
-  pub begin-mode : (k : EntryMode) (n : ℕ) → read_mode_at head 0 ≡ Mode k n → {r : Marks} → r ≡ begun_at m at head k.internal n
+  pub begin-mode : (k : EntryMode) (n : ℕ) → read_mode_at head 0 ≡ Some (k, n) → {r : Marks} → r ≡ begun_at m at head k.internal n
       → from r n ≡ begin_at m at head (read_mode head)
   unfolding begin_at
-  begin-mode k n e q = rw (read-zero head (Mode k n) e) (ap (λ (y : Marks). from y n) q)
+  begin-mode k n e q = rw (read-zero head (Some (k, n)) e) (ap (λ (y : Marks). from y n) q)
 
 -- ---- one of the eight
 
@@ -66,12 +65,12 @@ abbrev pub behind : List ℕ → List ℕ → Taken → Check
 behind held ends t = bodies (together held ends t.marks) (drop t.next t.marks.head)
 
 module _ (held ends : List ℕ) (m : Marks) where
-  begun-one : (head : List ℕ) (r : ModeRead) → behind held ends (begin_at m (m.at + 1) head r) ≡ begin (together held ends m) head r
+  begun-one : (head : List ℕ) (r : Option (EntryMode × ℕ)) → behind held ends (begin_at m (m.at + 1) head r) ≡ begin (together held ends m) head r
   unfolding begin_at begin bodies
-  begun-one head (Mode k n) =
+  begun-one head (Some (k, n)) =
       let e : m.at + 1 - 8 ≡ m.at - 7 = omega arith in
       ap (λ (i : ℕ). bodies (together held ends (placed_at m (i + n) head (begun m head k.internal n).phase)) (drop n head)) e
-  begun-one head Bad = refl
+  begun-one head None = refl
 
   head-is : (k b : ℕ) → length m.head ≡ 8 → behind held ends (head_at m (m.at + 1) k b) ≡ head_step (together held ends m) k b
   unfolding head_at head_step bodies
@@ -99,9 +98,9 @@ near m at k b l = go (eqb k 0 && leb most_records m.count) (ltb k 7)
     head : List ℕ
     head = set m.head 7 b
 
-    far : (r : ModeRead) → read_mode head ≡ r → (begin_at m at head r).marks.at ≤ at + 8
-    far (Mode a n) e = let q = read_next head a.internal n e in omega (arith, length-set m.head 7 b, q.1)
-    far Bad e = omega arith
+    far : (r : Option (EntryMode × ℕ)) → read_mode head ≡ r → (begin_at m at head r).marks.at ≤ at + 8
+    far (Some (a, n)) e = let q = read_next head a.internal n e in omega (arith, length-set m.head 7 b, q.1)
+    far None e = omega arith
 
     go : (u v : Bool)
         → (pick u (from (refuse m (verdict 2 0)) 8) (pick v (from (placed_at m at (set m.head k b) (Head (k + 1))) 8)

@@ -1,18 +1,17 @@
 -- One of the first eight bytes of an entry, where the next byte has a place: the marks after it, and the bytes that stand behind the mode.
 -- Assumes nothing.
-use Rattle.std.specs.Prelude.{ℕ, ◌+◌, ◌-◌, ◌&&◌, List, eqb, ltb, leb, set, take}
+use Rattle.std.specs.Prelude.{ℕ, ◌+◌, ◌-◌, ◌&&◌, List, eqb, ltb, leb, set, take, None, Option, Some}
 use Rattle.ground.specs.Basics.{pick}
 use Rattle.ground.specs.Verdict.{verdict, broken, most_records}
 use Rattle.mode.specs.Mode.{is_tree}
 use Rattle.mode.specs.Read.{read_mode}
-use Rattle.mode.specs.declared.ModeRead.{ModeRead}
-use Rattle.mode.specs.declared.ModeRead.TheVariants.{Mode, Bad}
 use Rattle.rules.specs.Rules.{is_text, modes_of}
 use Rattle.arriving.specs.Feed.{refuse, placed_at}
 use Rattle.arriving.specs.declared.Stand.TheVariants.{Level}
 use Rattle.arriving.specs.declared.Phase.TheVariants.{Head, Name}
 use Rattle.arriving.specs.declared.Marks.{Marks}
 use Rattle.arriving.specs.declared.Taken.{Taken}
+use Rattle.mode.specs.declared.EntryMode.{EntryMode}
 
 -- these marks, and the place among the eight bytes of the first that is the name's
 abbrev pub from : Marks → ℕ → Taken
@@ -25,9 +24,9 @@ begun_at m at head mode n =
     (Name (record { written = is_text (modes_of m.rules) (take (n - 1) head); folder = is_tree mode; size = 0; shared = 0; stand = Level }))
 
 -- the mode is decided
-unfoldable pub begin_at : Marks → ℕ → List ℕ → ModeRead → Taken
-begin_at m at head (Mode k n) = from (begun_at m at head k.internal n) n
-begin_at m at head Bad = from (refuse m (broken m.first 1)) 8
+unfoldable pub begin_at : Marks → ℕ → List ℕ → Option (EntryMode × ℕ) → Taken
+begin_at m at head (Some (k, n)) = from (begun_at m at head k.internal n) n
+begin_at m at head None = from (refuse m (broken m.first 1)) 8
 
 -- one of the first eight bytes, of which k are there; 2 where an entry begins after the most entries
 unfoldable pub head_at : Marks → ℕ → ℕ → ℕ → Taken

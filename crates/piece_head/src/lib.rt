@@ -7,37 +7,23 @@ ghost use Rattle.piece_head.specs.Head.{begun_at, begin_at, head_at};
 
 use arriving::{Line, Marks, Phase, Stand, Taken};
 use ground::{BOUND, BROKEN_ENTRY, FINE, NO_MODE, Verdict};
-use mode::{EntryMode, ModeRead};
-use piece_marks::{fresh, is_full, placed_at};
+use mode::EntryMode;
+use piece_marks::{fresh, is_full, placed_at, refuse};
 use rules::mode_permitted;
-
-// Eight bytes back.
-fn eight_back(at: usize) -> usize
-    ensures { result ≡ at - 8 }
-{
-    if at < 8 {
-        return 0;
-    }
-    at - 8
-}
 
 // The marks where the name begins, n bytes past the entry's first.
 fn begun(m: Marks, at: usize, head: [u8; 8], mode: EntryMode, n: usize) -> Marks
     requires { (0 < n) × (n ≤ 8) }
     ensures { result ≡ begun_at m at head mode.internal n }
 {
-    let place = eight_back(at) + n;
-    let space = n - 1;
-    let written = mode_permitted(m.rules, &head[..space]);
-    let folder = mode.is_tree();
     let line = Line {
-        written,
-        folder,
+        written: mode_permitted(m.rules, &head[..n - 1]),
+        folder: mode.is_tree(),
         size: 0,
         shared: 0,
         stand: Stand::Level,
     };
-    placed_at(m, place, head, Phase::Name(line))
+    placed_at(m, at.saturating_sub(8) + n, head, Phase::Name(line))
 }
 
 // The first eight bytes are there.
@@ -45,7 +31,7 @@ fn begin(m: Marks, at: usize, head: [u8; 8]) -> Taken
     ensures { result ≡ begin_at m at head (read_mode head) }
 {
     match EntryMode::extract_at(&head, 0) {
-        ModeRead::Bad => {
+        None => {
             let first = m.first;
             let marks = fresh(
                 m.h,
@@ -58,7 +44,7 @@ fn begin(m: Marks, at: usize, head: [u8; 8]) -> Taken
             );
             Taken { marks, next: 8 }
         }
-        ModeRead::Mode(mode, n) => {
+        Some((mode, n)) => {
             let marks = begun(m, at, head, mode, n);
             Taken { marks, next: n }
         }
@@ -70,9 +56,8 @@ pub fn head_byte(m: Marks, at: usize, k: usize, b: u8) -> Taken
     ensures { result ≡ head_at m at k b }
 {
     if is_full(k, m.count) {
-        let marks = fresh(
-            m.h,
-            m.rules,
+        let marks = refuse(
+            m,
             Verdict {
                 number: BOUND,
                 ..FINE

@@ -14,20 +14,17 @@ fn by_byte(last: Last, size: usize, x: u8, b: u8) -> Stand
 {
     if size < last.size {
         if x == b {
-            return Stand::Level;
+            Stand::Level
+        } else if x < b {
+            Stand::Over
+        } else {
+            Stand::NotOver
         }
-        if x < b {
-            return Stand::Over;
-        }
-        return Stand::NotOver;
+    } else if last.folder && b <= b'/' {
+        Stand::NotOver
+    } else {
+        Stand::Over
     }
-    if last.folder {
-        if b'/' < b {
-            return Stand::Over;
-        }
-        return Stand::NotOver;
-    }
-    Stand::Over
 }
 
 // How any name stands after it: the first difference has decided.
@@ -36,8 +33,7 @@ pub fn meet(stand: Stand, last: Last, size: usize, x: u8, b: u8) -> Stand
 {
     match stand {
         Stand::Level => by_byte(last, size, x, b),
-        Stand::Over => Stand::Over,
-        Stand::NotOver => Stand::NotOver,
+        Stand::Over | Stand::NotOver => stand,
     }
 }
 
@@ -47,8 +43,7 @@ pub fn sharing(stand: Stand, size: usize, shared: usize) -> usize
 {
     match stand {
         Stand::Level => size,
-        Stand::Over => shared,
-        Stand::NotOver => shared,
+        Stand::Over | Stand::NotOver => shared,
     }
 }
 
@@ -56,29 +51,18 @@ pub fn sharing(stand: Stand, size: usize, shared: usize) -> usize
 fn level_over(held: &[u8], last: Last, l: Line) -> bool
     ensures { result ≡ is_over held.now last l Stand.Level }
 {
-    let size = l.size;
-    if size < last.size {
-        if l.folder {
-            let x = ground::byte_at(held, size);
-            return x < b'/';
-        }
-        return false;
+    if l.size < last.size {
+        l.folder && ground::byte_at(held, l.size) < b'/'
+    } else {
+        l.folder && !last.folder
     }
-    if l.folder {
-        if last.folder {
-            return false;
-        }
-        return true;
-    }
-    false
 }
 
 // Whether any finished name stands above the one before.
 fn is_over(held: &[u8], last: Last, l: Line) -> bool
     ensures { result ≡ is_over held.now last l l.stand }
 {
-    let stand = l.stand;
-    match stand {
+    match l.stand {
         Stand::Level => level_over(held, last, l),
         Stand::Over => true,
         Stand::NotOver => false,
@@ -89,16 +73,13 @@ fn is_over(held: &[u8], last: Last, l: Line) -> bool
 pub fn judge(held: &[u8], last: Last, l: Line) -> usize
     ensures { result ≡ judged held.now last l }
 {
-    if l.written {
-        let size = shorter(l.size, held.len());
-        let number = name_number(&held[..size]);
-        if number != DONE {
-            return number;
-        }
-        if is_over(held, last, l) {
-            return DONE;
-        }
-        return ORDER;
+    if !l.written {
+        return MODE_TEXT;
     }
-    MODE_TEXT
+    let size = shorter(l.size, held.len());
+    let number = name_number(&held[..size]);
+    if number != DONE {
+        return number;
+    }
+    if is_over(held, last, l) { DONE } else { ORDER }
 }

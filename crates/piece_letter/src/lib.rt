@@ -12,15 +12,12 @@ use piece_marks::placed_at;
 fn line_over(l: Line, last: Last, size: usize, x: u8, b: u8) -> Line
     ensures { result ≡ line_over l last size x b }
 {
-    let was = l.stand;
-    let stand = meet(was, last, l.size, x, b);
-    let shared = sharing(stand, size, l.shared);
+    let stand = meet(l.stand, last, l.size, x, b);
     Line {
-        written: l.written,
-        folder: l.folder,
         size,
-        shared,
+        shared: sharing(stand, size, l.shared),
         stand,
+        ..l
     }
 }
 
@@ -28,8 +25,6 @@ fn line_over(l: Line, last: Last, size: usize, x: u8, b: u8) -> Line
 pub fn letter(m: Marks, at: usize, l: Line, size: usize, x: u8, b: u8) -> Marks
     ensures { result ≡ letter_of m at l size x b }
 {
-    let last = m.last;
-    let head = m.head;
-    let next = line_over(l, last, size, x, b);
-    placed_at(m, at, head, Phase::Name(next))
+    let next = line_over(l, m.last, size, x, b);
+    placed_at(m, at, m.head, Phase::Name(next))
 }

@@ -4,11 +4,11 @@
 ghost use Rattle.std.specs.Prelude.{◌≡◌, ◌&&◌, eqb, leb, take};
 ghost use Rattle.ground.specs.Verdict.{most_records};
 ghost use Rattle.mode.specs.Read.{read_mode};
-ghost use Rattle.arriving.specs.Feed.{fresh, placed_at, over_in};
+ghost use Rattle.arriving.specs.Feed.{fresh, refuse, placed_at, over_in};
 
 use arriving::{Last, Marks, Phase};
 use ground::{BOUND, BROKEN_ENTRY, FINE, MOST_RECORDS, NO_MODE, Verdict, shorter};
-use mode::{EntryMode, ModeRead};
+use mode::EntryMode;
 
 // The marks where nothing has come, or where nothing but a refusal is kept.
 pub fn fresh(h: usize, rules: u16, verdict: Verdict) -> Marks
@@ -31,23 +31,22 @@ pub fn fresh(h: usize, rules: u16, verdict: Verdict) -> Marks
     }
 }
 
+// The marks where a refusal is settled.
+pub fn refuse(m: Marks, verdict: Verdict) -> Marks
+    ensures { result ≡ refuse m verdict }
+{
+    fresh(m.h, m.rules, verdict)
+}
+
 // The marks after so many bytes in all, in a phase.
 pub fn placed_at(m: Marks, at: usize, head: [u8; 8], phase: Phase) -> Marks
     ensures { result ≡ placed_at m at head phase }
 {
-    let verdict = m.verdict;
-    let last = m.last;
     Marks {
-        verdict,
-        h: m.h,
-        rules: m.rules,
         at,
-        first: m.first,
-        count: m.count,
-        last,
-        ended: m.ended,
         head,
         phase,
+        ..m
     }
 }
 
@@ -55,14 +54,11 @@ pub fn placed_at(m: Marks, at: usize, head: [u8; 8], phase: Phase) -> Marks
 pub fn is_full(k: usize, count: usize) -> bool
     ensures { result ≡ (eqb k 0 && leb most_records count) }
 {
-    if k == 0 {
-        return MOST_RECORDS <= count;
-    }
-    false
+    k == 0 && MOST_RECORDS <= count
 }
 
 // The mode that so many of the first bytes tell.
-fn read_head(head: [u8; 8], k: usize) -> ModeRead
+fn read_head(head: [u8; 8], k: usize) -> Option<(EntryMode, usize)>
     ensures { result ≡ read_mode (take k head) }
 {
     let n = shorter(k, 8);
@@ -88,7 +84,7 @@ pub fn over(m: Marks) -> Marks
             }
             let head = m.head;
             match read_head(head, k) {
-                ModeRead::Bad => {
+                None => {
                     let first = m.first;
                     fresh(
                         m.h,
@@ -100,7 +96,7 @@ pub fn over(m: Marks) -> Marks
                         },
                     )
                 }
-                ModeRead::Mode(_, _) => fresh(
+                Some((_, _)) => fresh(
                     m.h,
                     m.rules,
                     Verdict {

@@ -3,11 +3,12 @@ use Prim.Native.Nat.{ℕ, ◌+◌, ◌-◌, ◌≤◌, ◌<◌, min}
 use native.Mathlib.Nat.{add-zero}
 use native.Mathlib.Omega.{arith}
 use mathlib.Core.Path.{◌≡◌, refl, ap, sym, ◌∙◌}
-use mathlib.Core.Bool.{Bool}
+use mathlib.Core.Logic.{◌⊎◌, inl, inr}
 use mathlib.Core.List.{List, []}
+use lib.Dec.{eqb}
 use lib.ListN.{length, get_or, take, drop, length-take, length-drop}
 use lib.Seq.{sets}
-use borrow.Author.Tests.{ne_eqb, lt-ltb, le-ltb}
+use borrow.Author.Tests.{lt-ltb, le-ltb}
 use Rattle.ground.specs.Basics.{pick, part}
 use Rattle.ground.specs.Scan.{count_to, place_from, common_start}
 use Rattle.ground.proofs.Laws.{common_left, common_right, count-le, count-take}
@@ -30,7 +31,7 @@ module _ (held : List ℕ) (last : Last) where
   unfolding common_start
   nothing b = refl
 
-  -- the three ways through `stand_level`
+  -- the two ways through `stand_level`
   module _ (size shared : ℕ) (bs : List ℕ) (to : ℕ) (t : to ≡ min last.size (length held)) (r : Stood) where
     level_by : (n : ℕ) → n ≡ common_start (part size to held) bs → level_of held last size shared bs ≡ shared_of held last size shared bs n
     unfolding level_of
@@ -40,12 +41,9 @@ module _ (held : List ℕ) (last : Last) where
     level_past h e =
         e ∙ sym (level_by _ refl ∙ none_level size shared _ bs (ap (λ (a : List ℕ). common_start a bs) (part_none size to h) ∙ nothing bs))
 
-    module _ (n : ℕ) (q : n ≡ common_start (part size to held) bs) where
-      pub level_none : n ≡ 0 → r ≡ differs_of held last size shared bs 0 → r ≡ level_of held last size shared bs
-      level_none z e = e ∙ sym (level_by n q ∙ none_level size shared n bs z)
-
-      pub level_some : (n ≡ 0 → ⊥) → r ≡ differs_of held last (size + n) (size + n) bs n → r ≡ level_of held last size shared bs
-      level_some z e = e ∙ sym (level_by n q ∙ ap (λ (v : Bool). differs_of held last (size + n) (pick v shared (size + n)) bs n) (ne_eqb n 0 z))
+    pub level_met : (n : ℕ) → n ≡ common_start (part size to held) bs → (s : ℕ) → s ≡ pick (eqb n 0) shared (size + n)
+        → r ≡ differs_of held last (size + n) s bs n → r ≡ level_of held last size shared bs
+    level_met n q s z e = e ∙ ap (λ (k : ℕ). differs_of held last (size + n) k bs n) z ∙ sym (level_by n q)
 
   -- what it shares ends where the held name does
   pub shares-within : (size to : ℕ) (bs : List ℕ) (n : ℕ) → to ≡ min last.size (length held) → size < to → n ≡ common_start (part size to held) bs
@@ -65,11 +63,10 @@ module _ (held : List ℕ) (last : Last) where
       → r ≡ stand_of held last st size shared bs
   after_level st size shared bs r e f = rw e f
 
-  pub after-over : (st : Stand) (size shared : ℕ) (bs : List ℕ) → st ≡ Over → record { stand = st; shared = shared } ≡ stand_of held last st size shared bs
-  after-over st size shared bs e = rw e
-
-  pub after-under : (st : Stand) (size shared : ℕ) (bs : List ℕ) → st ≡ NotOver → record { stand = st; shared = shared } ≡ stand_of held last st size shared bs
-  after-under st size shared bs e = rw e
+  pub after-decided : (st : Stand) (size shared : ℕ) (bs : List ℕ) → (st ≡ Over) ⊎ (st ≡ NotOver)
+      → record { stand = st; shared = shared } ≡ stand_of held last st size shared bs
+  after-decided st size shared bs (inl e) = rw e
+  after-decided st size shared bs (inr e) = rw e
 
   -- nothing more comes
   pub stands : (st : Stand) (size shared : ℕ) → stand_of held last st size shared [] ≡ record { stand = st; shared = shared }

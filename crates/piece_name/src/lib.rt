@@ -23,12 +23,10 @@ pub struct Stood {
 fn differs(held: &[u8], last: Last, at: usize, shared: usize, some: &[u8], n: usize) -> Stood
     ensures { result ≡ differs_of held.now last at shared some.now n }
 {
-    if n < some.len() {
-        let x = ground::byte_at(held, at);
-        let stand = meet(Stand::Level, last, at, x, some[n]);
-        return Stood { stand, shared };
-    }
-    let stand = Stand::Level;
+    let stand = match some.get(n) {
+        Some(b) => meet(Stand::Level, last, at, ground::byte_at(held, at), *b),
+        None => Stand::Level,
+    };
     Stood { stand, shared }
 }
 
@@ -41,27 +39,20 @@ fn stand_level(held: &[u8], last: Last, size: usize, shared: usize, some: &[u8])
         return differs(held, last, size, shared, some, 0);
     }
     let n = common_start(&held[size..to], some);
-    if n == 0 {
-        return differs(held, last, size, shared, some, 0);
-    }
-    differs(held, last, size + n, size + n, some, n)
+    let shared = if n == 0 { shared } else { size + n };
+    differs(held, last, size + n, shared, some, n)
 }
 
 // How any name stands after some bytes: the first difference decides.
-fn stand_after(
-    held: &[u8],
-    last: Last,
-    stand: Stand,
-    size: usize,
-    shared: usize,
-    some: &[u8],
-) -> Stood
-    ensures { result ≡ stand_of held.now last stand size shared some.now }
+fn stand_after(held: &[u8], last: Last, l: Line, some: &[u8]) -> Stood
+    ensures { result ≡ stand_of held.now last l.stand l.size l.shared some.now }
 {
-    match stand {
-        Stand::Level => stand_level(held, last, size, shared, some),
-        Stand::Over => Stood { stand, shared },
-        Stand::NotOver => Stood { stand, shared },
+    match l.stand {
+        Stand::Level => stand_level(held, last, l.size, l.shared, some),
+        Stand::Over | Stand::NotOver => Stood {
+            stand: l.stand,
+            shared: l.shared,
+        },
     }
 }
 
@@ -84,15 +75,12 @@ pub fn name_some(held: &mut [u8; 4096], last: Last, l: Line, bytes: &[u8]) -> Li
     }
     let k = name_bytes(MOST_HELD - size, bytes);
     let some = &bytes[..k];
-    let stand = l.stand;
-    let s = stand_after(held, last, stand, size, l.shared, some);
+    let s = stand_after(held, last, l, some);
     put(held, size, some);
-    let up = s.stand;
     Line {
-        written: l.written,
-        folder: l.folder,
         size: size + k,
         shared: s.shared,
-        stand: up,
+        stand: s.stand,
+        ..l
     }
 }

@@ -6,11 +6,12 @@ ghost use Rattle.doubles.specs.Stack.{place_of, marks_of};
 ghost use Rattle.piece_place.specs.Place.{held_after};
 
 use arriving::Last;
-use doubles::{Placed, open_entry};
+use doubles::{Misplaced, open_entry};
 use ground::shorter;
-use order::{Order, by_next};
+use order::by_next;
 use output::put;
 use scan::common_start;
+use std::cmp::Ordering;
 
 // A name after the one before, which it takes the place of unless it stands below.
 pub fn place(
@@ -20,7 +21,7 @@ pub fn place(
     ended: usize,
     name: &[u8],
     folder: bool,
-) -> Placed
+) -> Result<usize, Misplaced>
     ensures placed { result ≡ place_of ends.old ended (take last.size held.old) last.folder name.now folder }
     ensures ends { ends.new
         ≡ marks_of ends.old ended (take last.size held.old) last.folder name.now folder }
@@ -29,12 +30,12 @@ pub fn place(
     let size = shorter(last.size, held.len());
     let shared = common_start(&held[..size], name);
     match by_next(&held[..size], last.folder, name, folder, shared) {
-        Order::Below => {
+        Ordering::Less => {
             let r = open_entry(ends, ended, shared, size, last.folder, name.len(), folder);
             put(held, 0, name);
             r
         }
-        Order::Same => Placed::NotAfter,
-        Order::Above => Placed::NotAfter,
+        Ordering::Equal => Err(Misplaced::NotAfter),
+        Ordering::Greater => Err(Misplaced::NotAfter),
     }
 }

@@ -9,8 +9,6 @@ use lib.ListN.{length}
 use borrow.Author.Tests.{eq-eqb, ne_eqb, eqb-false, lt-ltb, le-ltb}
 use Rattle.ground.specs.Basics.{pick, part}
 use Rattle.ground.specs.Verdict.{most_records}
-use Rattle.doubles.specs.declared.Placed.{Placed}
-use Rattle.doubles.specs.declared.Placed.TheVariants.{Fine, NotAfter, Double}
 use Rattle.arriving.specs.Feed.{most_held}
 use Rattle.piece_seen.specs.Whole.{seen_at}
 use Rattle.piece_seen.specs.declared.Seen.{Seen}
@@ -19,6 +17,9 @@ use Rattle.piece_place.specs.Place.{held_after}
 use Rattle.piece_place.proofs.Placing.{Put}
 use Rattle.piece_run.specs.Runs.{Going, going, run_after, placed_in, taken_in, more_by, one_more, all_from, all_of}
 use Rattle.piece_run.specs.declared.Run.{Run}
+use Rattle.doubles.specs.declared.Misplaced.{Misplaced}
+use Rattle.doubles.specs.declared.Misplaced.TheVariants.{Double, NotAfter}
+use Rattle.std.specs.Prelude.{Err, Ok, Result}
 
 -- ---- one whole entry more
 
@@ -39,7 +40,7 @@ module _ (s : List ℕ) (h : ℕ) (r : Run) (held ends : List ℕ) (e : Seen) (q
       = ap (more_by (going r held ends) s h) (sym q) ∙ ap (λ (v : Bool). pick v (going r held ends) (taken_in (going r held ends) s h e)) (eq-eqb e.end 0 z) in
       rw x (refl, (refl, refl))
 
-  module _ (n : e.end ≡ 0 → ⊥) (p : Placed) (left after : List ℕ)
+  module _ (n : e.end ≡ 0 → ⊥) (p : Result ℕ Misplaced) (left after : List ℕ)
       (w : Put held ends r.last r.ended (part e.start e.end s) e.folder p left after) where
     pub more-is : Are (run_after r h e p) after left (one_more s h (going r held ends))
     unfolding one_more
@@ -49,16 +50,16 @@ module _ (s : List ℕ) (h : ℕ) (r : Run) (held ends : List ℕ) (e : Seen) (q
         e.end 0 n) in
         rw x (
           ap (run_after r h e) w.0,
-          (w.1.1 ∙ ap (λ (y : Placed). held_after y held (part e.start e.end s)) w.0, w.1.0),
+          (w.1.1 ∙ ap (λ (y : Result ℕ Misplaced). held_after y held (part e.start e.end s)) w.0, w.1.0),
         )
 
-    pub more-fine : (k : ℕ) → p ≡ Fine k → Are (run_after r h e (Fine k)) after left (one_more s h (going r held ends))
+    pub more-fine : (k : ℕ) → p ≡ Ok k → Are (run_after r h e (Ok k)) after left (one_more s h (going r held ends))
     more-fine k u = rw u at more-is
 
-    pub more-not : p ≡ NotAfter → Are r after left (one_more s h (going r held ends))
+    pub more-not : p ≡ Err NotAfter → Are r after left (one_more s h (going r held ends))
     more-not u = rw u at more-is
 
-    pub more_double : p ≡ Double → Are (run_after r h e Double) after left (one_more s h (going r held ends))
+    pub more_double : p ≡ Err Double → Are (run_after r h e (Err Double)) after left (one_more s h (going r held ends))
     more_double u = rw u at more-is
 
 -- its name can be held, and a run that goes on has one entry more
@@ -66,24 +67,24 @@ module _ (s : List ℕ) (h : ℕ) (g : Going) where
   abbrev seen· : Seen
   seen· = seen_at s g.run.next h
 
-  fits_by : (v : Bool) (p : Placed) (a b : List ℕ) → (v ≡ false → seen·.end - seen·.start ≤ most_held) → g.run.last.size ≤ most_held
+  fits_by : (v : Bool) (p : Result ℕ Misplaced) (a b : List ℕ) → (v ≡ false → seen·.end - seen·.start ≤ most_held) → g.run.last.size ≤ most_held
       → (pick v g (going (run_after g.run h seen· p) a b)).run.last.size ≤ most_held
   fits_by true p a b l f = f
-  fits_by false (Fine k) a b l f = l refl
-  fits_by false NotAfter a b l f = f
-  fits_by false Double a b l f = f
+  fits_by false (Ok k) a b l f = l refl
+  fits_by false (Err NotAfter) a b l f = f
+  fits_by false (Err Double) a b l f = f
 
   pub one-fits : g.run.last.size ≤ most_held → (one_more s h g).run.last.size ≤ most_held
   unfolding one_more
   one-fits f =
       fits_by (eqb seen·.end 0) (placed_in g s seen·) _ _ (λ z. (lies s g.run.next h seen· refl (eqb-false seen·.end 0 z)).small) f
 
-  count_by : (v : Bool) (p : Placed) (a b : List ℕ) → ((pick v g (going (run_after g.run h seen· p) a b)).run.next ≡ g.run.next → ⊥)
+  count_by : (v : Bool) (p : Result ℕ Misplaced) (a b : List ℕ) → ((pick v g (going (run_after g.run h seen· p) a b)).run.next ≡ g.run.next → ⊥)
       → (pick v g (going (run_after g.run h seen· p) a b)).run.count ≡ g.run.count + 1
   count_by true p a b n = absurd (n refl)
-  count_by false (Fine k) a b n = refl
-  count_by false NotAfter a b n = absurd (n refl)
-  count_by false Double a b n = absurd (n refl)
+  count_by false (Ok k) a b n = refl
+  count_by false (Err NotAfter) a b n = absurd (n refl)
+  count_by false (Err Double) a b n = absurd (n refl)
 
   pub one-counts : ((one_more s h g).run.next ≡ g.run.next → ⊥) → (one_more s h g).run.count ≡ g.run.count + 1
   unfolding one_more

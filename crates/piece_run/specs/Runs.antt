@@ -1,15 +1,15 @@
 -- Whole entries of a piece, one after the other. Assumes nothing.
-use Rattle.std.specs.Prelude.{ℕ, zero, suc, ◌+◌, ◌-◌, true, false, List, eqb, ltb, take}
+use Rattle.std.specs.Prelude.{ℕ, zero, suc, ◌+◌, ◌-◌, true, false, List, eqb, ltb, take, Err, Ok, Result}
 use Rattle.ground.specs.Basics.{pick, part}
 use Rattle.ground.specs.Verdict.{most_records}
 use Rattle.doubles.specs.Stack.{place_of, marks_of}
-use Rattle.doubles.specs.declared.Placed.{Placed}
-use Rattle.doubles.specs.declared.Placed.TheVariants.{Fine, NotAfter, Double}
 use Rattle.arriving.specs.Feed.{most_held}
 use Rattle.piece_place.specs.Place.{held_after}
 use Rattle.piece_seen.specs.Whole.{seen_at}
 use Rattle.piece_seen.specs.declared.Seen.{Seen}
 use Rattle.piece_run.specs.declared.Run.{Run}
+use Rattle.doubles.specs.declared.Misplaced.{Misplaced}
+use Rattle.doubles.specs.declared.Misplaced.TheVariants.{Double, NotAfter}
 
 -- a run, with the name that is held and the lengths of the names that are open
 pub record Going : Type 0 where
@@ -21,14 +21,14 @@ abbrev pub going : Run → List ℕ → List ℕ → Going
 going r held ends = record { run = r; held = held; ends = ends }
 
 -- the run after an entry was placed that is seen at its place
-abbrev pub run_after : Run → ℕ → Seen → Placed → Run
-run_after r h e (Fine k) =
+abbrev pub run_after : Run → ℕ → Seen → Result ℕ Misplaced → Run
+run_after r h e (Ok k) =
     record { next = e.end + 1 + h; count = r.count + 1; last = record { size = e.end - e.start; folder = e.folder }; ended = k; double = false }
-run_after r h e NotAfter = r
-run_after r h e Double = record { next = r.next; count = r.count; last = r.last; ended = r.ended; double = true }
+run_after r h e (Err NotAfter) = r
+run_after r h e (Err Double) = record { next = r.next; count = r.count; last = r.last; ended = r.ended; double = true }
 
 -- a name after the last one of a run: how it is placed, and the open names afterwards
-abbrev pub placed_in : Going → List ℕ → Seen → Placed
+abbrev pub placed_in : Going → List ℕ → Seen → Result ℕ Misplaced
 placed_in g s e = place_of g.ends g.run.ended (take g.run.last.size g.held) g.run.last.folder (part e.start e.end s) e.folder
 
 abbrev pub open_in : Going → List ℕ → Seen → List ℕ

@@ -7,7 +7,7 @@ ghost use Rattle.arriving.specs.Feed.{most_held};
 ghost use Rattle.piece_run.specs.Runs.{going, one_more, all_of};
 
 use arriving::{Last, MOST_HELD};
-use doubles::Placed;
+use doubles::Misplaced;
 use ground::MOST_RECORDS;
 use piece_place::place;
 use piece_seen::seen_at;
@@ -39,7 +39,7 @@ fn one_entry(held: &mut [u8; 4096], ends: &mut [u32; 4097], r: Run, piece: &[u8]
     }
     let last = r.last;
     match place(held, ends, last, r.ended, &piece[start..end], e.folder) {
-        Placed::Fine(k) => Run {
+        Ok(k) => Run {
             next: end + 1 + h,
             count: r.count + 1,
             last: Last {
@@ -49,13 +49,15 @@ fn one_entry(held: &mut [u8; 4096], ends: &mut [u32; 4097], r: Run, piece: &[u8]
             ended: k,
             double: false,
         },
-        Placed::NotAfter => r,
-        Placed::Double => Run {
-            next: i,
-            count: r.count,
-            last,
-            ended: r.ended,
-            double: true,
+        Err(why) => match why {
+            Misplaced::NotAfter => r,
+            Misplaced::Double => Run {
+                next: i,
+                count: r.count,
+                last,
+                ended: r.ended,
+                double: true,
+            },
         },
     }
 }

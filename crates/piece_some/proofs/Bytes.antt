@@ -109,7 +109,7 @@ module _ (held : List ℕ) (m : Marks) (s : List ℕ) (i : ℕ) where
       rw (eq-eqb m.verdict.number 0 z, lt-leb most_bytes m.at a, le-leb (length s) i w),
     )
 
-    module _ (room most : ℕ) (r : room ≡ min (most_bytes - m.at) most_bytes) (q : most ≡ min (length s - i) room) where
+    module _ (most : ℕ) (q : most ≡ most_of m s i) where
       pub some-none : most ≡ 0 → Some (up_to m i) held
       some-none e =
           elim (dec_lt m.at most_bytes) [
@@ -122,10 +122,9 @@ module _ (held : List ℕ) (m : Marks) (s : List ℕ) (i : ℕ) where
       unfolding some_of some_held
       some-some e t after d =
           let a : m.at < most_bytes = omega arith in
-          let w : i < length s = omega arith in
-          let n : most ≡ most_of m s i = omega arith in (
+          let w : i < length s = omega arith in (
             rw (eq-eqb m.verdict.number 0 z, lt-leb most_bytes m.at a, lt-leb (length s) i w)
-                (d.0 ∙ ap (λ (k : ℕ). taken_at m i (some_in held m (part i (i + k) s) m.phase)) n),
+                (d.0 ∙ ap (λ (k : ℕ). taken_at m i (some_in held m (part i (i + k) s) m.phase)) q),
             rw (eq-eqb m.verdict.number 0 z, lt-leb most_bytes m.at a, lt-leb (length s) i w)
-                (d.1 ∙ ap (λ (k : ℕ). held_in held (part i (i + k) s) m.phase) n),
+                (d.1 ∙ ap (λ (k : ℕ). held_in held (part i (i + k) s) m.phase) q),
           )

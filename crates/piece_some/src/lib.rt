@@ -8,7 +8,7 @@ ghost use Rattle.ground.specs.Verdict.{most_bytes};
 ghost use Rattle.piece_some.specs.Bytes.{taken_at, head_some, head_most, some_in, held_in, some_of, some_held};
 
 use arriving::{Marks, Phase, Taken};
-use ground::{MOST_BYTES, shorter};
+use ground::{DONE, MOST_BYTES};
 use output::put;
 use piece_marks::{is_full, placed_at};
 use piece_name::name_some;
@@ -21,16 +21,6 @@ struct Got {
     phase: Phase,
 }
 
-// What is left of a number without another, but no more than so many.
-fn least(a: usize, without: usize, most: usize) -> usize
-    ensures { result ≡ min (a - without) most }
-{
-    if a <= without {
-        return 0;
-    }
-    shorter(a - without, most)
-}
-
 // How many of an entry's first bytes: not the eighth, and none where the entry is one too many.
 fn head_most(k: usize, count: usize, most: usize) -> usize
     ensures { result ≡ head_most k count most }
@@ -38,7 +28,7 @@ fn head_most(k: usize, count: usize, most: usize) -> usize
     if is_full(k, count) {
         return 0;
     }
-    least(7, k, most)
+    7usize.saturating_sub(k).min(most)
 }
 
 // Some of an entry's first bytes.
@@ -59,27 +49,24 @@ fn some_in(held: &mut [u8; 4096], m: Marks, bytes: &[u8]) -> Got
     ensures taken { result ≡ some_in held.old m bytes.now m.phase }
     ensures held { held.new ≡ held_in held.old bytes.now m.phase }
 {
-    let phase = m.phase;
     let head = m.head;
-    match phase {
-        Phase::Head(k) => {
-            return head_some(head, k, m.count, bytes);
-        }
+    match m.phase {
+        Phase::Head(k) => head_some(head, k, m.count, bytes),
         Phase::Name(l) => {
             let line = name_some(held, m.last, l, bytes);
-            return Got {
+            Got {
                 count: line.size - l.size,
                 head,
                 phase: Phase::Name(line),
-            };
+            }
         }
         Phase::Id(l, left) => {
-            let n = least(left, 1, bytes.len());
-            return Got {
+            let n = left.saturating_sub(1).min(bytes.len());
+            Got {
                 count: n,
                 head,
                 phase: Phase::Id(l, left - n),
-            };
+            }
         }
     }
 }
@@ -90,13 +77,9 @@ fn some_at(held: &mut [u8; 4096], m: Marks, piece: &[u8], i: usize, most: usize)
     ensures taken { result ≡ taken_at m i (some_in held.old m (part i (i + most) piece.now) m.phase) }
     ensures held { held.new ≡ held_in held.old (part i (i + most) piece.now) m.phase }
 {
-    let end = i + most;
-    let g = some_in(held, m, &piece[i..end]);
-    let head = g.head;
-    let phase = g.phase;
-    let marks = placed_at(m, m.at + g.count, head, phase);
+    let g = some_in(held, m, &piece[i..i + most]);
     Taken {
-        marks,
+        marks: placed_at(m, m.at + g.count, g.head, g.phase),
         next: i + g.count,
     }
 }
@@ -106,13 +89,16 @@ pub fn some(held: &mut [u8; 4096], m: Marks, piece: &[u8], i: usize) -> Taken
     ensures taken { result ≡ some_of held.old m piece.now i }
     ensures held { held.new ≡ some_held held.old m piece.now i }
 {
-    if m.verdict.number != 0 {
+    if m.verdict.number != DONE {
         return Taken {
             marks: m,
             next: piece.len(),
         };
     }
-    let most = least(piece.len(), i, least(MOST_BYTES, m.at, MOST_BYTES));
+    let most = piece
+        .len()
+        .saturating_sub(i)
+        .min(MOST_BYTES.saturating_sub(m.at));
     if most == 0 {
         return Taken { marks: m, next: i };
     }

@@ -9,10 +9,6 @@ use Rattle.ground.specs.Basics.{pick}
 use Rattle.ground.specs.Verdict.{verdict, broken, most_bytes, most_records}
 use Rattle.ground.specs.declared.Verdict.{Verdict}
 use Rattle.mode.specs.Read.{read_mode}
-use Rattle.mode.specs.declared.ModeRead.{ModeRead}
-use Rattle.mode.specs.declared.ModeRead.TheVariants.{Mode, Bad}
-use Rattle.doubles.specs.declared.Placed.{Placed}
-use Rattle.doubles.specs.declared.Placed.TheVariants.{Fine, NotAfter, Double}
 use Rattle.rules.specs.Rules.{or_else, is_plain, is_dot_git, bare_number}
 use Rattle.arriving.specs.declared.Last.{Last}
 use Rattle.arriving.specs.declared.Line.{Line}
@@ -22,6 +18,10 @@ use Rattle.arriving.specs.declared.Marks.{Marks}
 use Rattle.arriving.specs.declared.Check.{Check}
 use Rattle.arriving.specs.Feed.{most_held, together, refuse, placed_at, name_marks, is_over, judged, placing, next_entry, placed, closed, id_marks, body_in, body, bodies}
 use Rattle.arriving.specs.Feed.{begun, begin, head_step, turn_in, over_mode, over_in, over, byte_step, feed_of}
+use Rattle.doubles.specs.declared.Misplaced.{Misplaced}
+use Rattle.doubles.specs.declared.Misplaced.TheVariants.{Double, NotAfter}
+use Rattle.mode.specs.declared.EntryMode.{EntryMode}
+use Rattle.std.specs.Prelude.{Err, None, Ok, Option, Result, Some}
 
 -- the refusals that a byte may settle
 pub data Settles : Verdict → Type 0 where
@@ -56,11 +56,11 @@ module _ (P : Marks → Type 0) (refuses : (m : Marks) (v : Verdict) → Settles
   each_of Q true p q = p
   each_of Q false p q = q
 
-  each_placed : (m : Marks) (l : Line) (q : Placed) → P m → P (placed m l q)
+  each_placed : (m : Marks) (l : Line) (q : Result ℕ Misplaced) → P m → P (placed m l q)
   unfolding placed
-  each_placed m l (Fine n) p = goes m l n p
-  each_placed m l Double p = refuses m _ (seventeen m.first) p
-  each_placed m l NotAfter p = refuses m _ (seven m.first) p
+  each_placed m l (Ok n) p = goes m l n p
+  each_placed m l (Err Double) p = refuses m _ (seventeen m.first) p
+  each_placed m l (Err NotAfter) p = refuses m _ (seven m.first) p
 
   each-closed : (held ends : List ℕ) (m : Marks) (l : Line) → P m → P (closed ends m l (judged held m.last l))
   unfolding closed
@@ -91,10 +91,10 @@ module _ (P : Marks → Type 0) (refuses : (m : Marks) (v : Verdict) → Settles
   each-bodies c [] p = p
   each-bodies c (b ∷ s) p = each-bodies (body c b) s (each-body c b p)
 
-  each-begin : (c : Check) (head : List ℕ) (r : ModeRead) → Has c → Has (begin c head r)
+  each-begin : (c : Check) (head : List ℕ) (r : Option (EntryMode × ℕ)) → Has c → Has (begin c head r)
   unfolding begin
-  each-begin c head (Mode m n) p = each-bodies (together c.held c.ends (begun c.marks head m.internal n)) (drop n head) (moves c.marks _ _ _ p)
-  each-begin c head Bad p = refuses c.marks _ (three c.marks.first) p
+  each-begin c head (Some (m, n)) p = each-bodies (together c.held c.ends (begun c.marks head m.internal n)) (drop n head) (moves c.marks _ _ _ p)
+  each-begin c head None p = refuses c.marks _ (three c.marks.first) p
 
   each-head : (c : Check) (k b : ℕ) → Has c → Has (head_step c k b)
   unfolding head_step
@@ -107,9 +107,9 @@ module _ (P : Marks → Type 0) (refuses : (m : Marks) (v : Verdict) → Settles
   each_turn c b (Name l) p = each-body c b p
   each_turn c b (Id l left) p = each-body c b p
 
-  each-over_mode : (m : Marks) (r : ModeRead) → P m → P (over_mode m r)
-  each-over_mode m (Mode k n) p = refuses m _ two p
-  each-over_mode m Bad p = refuses m _ (three m.first) p
+  each-over_mode : (m : Marks) (r : Option (EntryMode × ℕ)) → P m → P (over_mode m r)
+  each-over_mode m (Some (k, n)) p = refuses m _ two p
+  each-over_mode m None p = refuses m _ (three m.first) p
 
   each-over_in : (m : Marks) (q : Phase) → P m → P (over_in m q)
   each-over_in m (Head k) p = each_of P (eqb k 0) (refuses m _ two p) (each-over_mode m (read_mode (take k m.head)) p)

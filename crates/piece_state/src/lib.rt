@@ -2,57 +2,29 @@
 #![tactic(auto)]
 
 ghost use Rattle.std.specs.Prelude.{◌≡◌};
-ghost use Rattle.piece_state.specs.State.{stand_number, sort_number, left_number, line_in, marks_numbers};
+ghost use Rattle.piece_state.specs.State.{sort_number, left_number, line_in, marks_numbers};
 
 use arriving::{Line, Marks, Phase, Stand};
 
-// The number of how a name stands.
-fn stand_number(stand: Stand) -> usize
-    ensures { result ≡ stand_number stand }
-{
-    match stand {
-        Stand::Level => 0,
-        Stand::Over => 1,
-        Stand::NotOver => 2,
-    }
-}
+// The entry that arrives, before its name has begun.
+const NO_LINE: Line = Line {
+    written: false,
+    folder: false,
+    size: 0,
+    shared: 0,
+    stand: Stand::Level,
+};
 
-// The number of a phase's sort.
-fn sort_number(phase: Phase) -> usize
-    ensures { result ≡ sort_number phase }
+// A phase's sort, the number that comes with it, and the entry that arrives.
+fn phase_numbers(phase: Phase) -> (usize, usize, Line)
+    ensures sort { result.0 ≡ sort_number phase }
+    ensures left { result.1 ≡ left_number phase }
+    ensures line { result.2 ≡ line_in phase }
 {
     match phase {
-        Phase::Head(_) => 0,
-        Phase::Name(_) => 1,
-        Phase::Id(_, _) => 2,
-    }
-}
-
-// The number that comes with a phase.
-fn left_number(phase: Phase) -> usize
-    ensures { result ≡ left_number phase }
-{
-    match phase {
-        Phase::Head(k) => k,
-        Phase::Name(_) => 0,
-        Phase::Id(_, left) => left,
-    }
-}
-
-// The entry that arrives, where its name has begun.
-fn line_in(phase: Phase) -> Line
-    ensures { result ≡ line_in phase }
-{
-    match phase {
-        Phase::Head(_) => Line {
-            written: false,
-            folder: false,
-            size: 0,
-            shared: 0,
-            stand: Stand::Level,
-        },
-        Phase::Name(l) => l,
-        Phase::Id(l, _) => l,
+        Phase::Head(k) => (0, k, NO_LINE),
+        Phase::Name(l) => (1, 0, l),
+        Phase::Id(l, left) => (2, left, l),
     }
 }
 
@@ -60,45 +32,25 @@ fn line_in(phase: Phase) -> Line
 pub fn store_marks(m: Marks, marks: &mut [usize; 18])
     ensures { marks.new ≡ marks_numbers m }
 {
-    let number = m.verdict.number;
-    let place = m.verdict.place;
-    let part = m.verdict.part;
-    let h = m.h;
-    let rules = m.rules as usize;
-    let at = m.at;
-    let first = m.first;
-    let count = m.count;
-    let last = m.last.size;
-    let last_folder = m.last.folder as usize;
-    let ended = m.ended;
-    let phase = m.phase;
-    let sort = sort_number(phase);
-    let left = left_number(phase);
-    let line = line_in(phase);
-    let written = line.written as usize;
-    let folder = line.folder as usize;
-    let size = line.size;
-    let shared = line.shared;
-    let stands = line.stand;
-    let stand = stand_number(stands);
+    let (sort, left, line) = phase_numbers(m.phase);
     *marks = [
-        number,
-        place,
-        part,
-        h,
-        rules,
-        at,
-        first,
-        count,
-        last,
-        last_folder,
-        ended,
+        m.verdict.number,
+        m.verdict.place,
+        m.verdict.part,
+        m.h,
+        m.rules as usize,
+        m.at,
+        m.first,
+        m.count,
+        m.last.size,
+        m.last.folder as usize,
+        m.ended,
         sort,
         left,
-        written,
-        folder,
-        size,
-        shared,
-        stand,
+        line.written as usize,
+        line.folder as usize,
+        line.size,
+        line.shared,
+        line.stand as usize,
     ];
 }

@@ -5,7 +5,7 @@ ghost use Rattle.std.specs.Prelude.{◌≡◌};
 ghost use Rattle.arriving.specs.Feed.{together, byte_step};
 
 use arriving::{Marks, Phase};
-use ground::MOST_BYTES;
+use ground::{DONE, MOST_BYTES};
 use piece_body::body_within;
 use piece_first::first_byte;
 use piece_marks::over;
@@ -14,16 +14,14 @@ use piece_marks::over;
 pub fn step(held: &mut [u8; 4096], ends: &mut [u32; 4097], m: Marks, b: u8) -> Marks
     ensures { together held.new ends.new result ≡ byte_step (together held.old ends.old m) b }
 {
-    if m.verdict.number != 0 {
+    if m.verdict.number != DONE {
         return m;
     }
     if MOST_BYTES <= m.at {
         return over(m);
     }
-    let phase = m.phase;
-    match phase {
+    match m.phase {
         Phase::Head(k) => first_byte(held, ends, m, k, b),
-        Phase::Name(_) => body_within(held, ends, m, b),
-        Phase::Id(_, _) => body_within(held, ends, m, b),
+        Phase::Name(_) | Phase::Id(_, _) => body_within(held, ends, m, b),
     }
 }

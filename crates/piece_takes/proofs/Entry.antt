@@ -13,15 +13,10 @@ use Rattle.ground.specs.Verdict.{verdict, most_bytes, most_records}
 use Rattle.ground.proofs.Laws.{count-is}
 use Rattle.mode.specs.Mode.{is_tree}
 use Rattle.mode.specs.Read.{read_mode}
-use Rattle.mode.specs.declared.ModeRead.TheVariants.{Mode}
 use Rattle.mode.specs.declared.EntryMode.{EntryMode}
 use Rattle.mode.proofs.Laws.{read_next}
 use Rattle.order.specs.Order.{is_below, name_order}
-use Rattle.order.specs.declared.Order.{Order}
-use Rattle.order.specs.declared.Order.TheVariants.{Below, Same, Above}
 use Rattle.doubles.specs.Stack.{open_of, if_below, place_of, marks_of}
-use Rattle.doubles.specs.declared.Placed.{Placed}
-use Rattle.doubles.specs.declared.Placed.TheVariants.{Fine, NotAfter, Double}
 use Rattle.rules.specs.Rules.{or_else, is_text, modes_of, bare_number}
 use Rattle.arriving.specs.Feed.{most_held, together, fresh, is_over, judged, leaves_none, placing, ends_next, placed, closed, closed_ends, feed_of}
 use Rattle.arriving.specs.declared.Last.{Last}
@@ -33,6 +28,11 @@ use Rattle.arriving.proofs.Steps as steps
 use Rattle.arriving.proofs.Steps.{feed-more, feed_stopped, st, step_nul}
 use Rattle.arriving.proofs.Runs.{ids_all, names-run, line_of, naming, mode-run}
 use Rattle.arriving.proofs.Judged.{name-held, over-is}
+use Rattle.doubles.specs.declared.Misplaced.{Misplaced}
+use Rattle.doubles.specs.declared.Misplaced.TheVariants.{Double, NotAfter}
+use Rattle.std.specs.Prelude.{Err, Ok, Result, Some}
+use Rattle.std.specs.declared.cmp.Ordering.{Ordering}
+use Rattle.std.specs.declared.cmp.Ordering.TheVariants.{Equal, Greater, Less}
 
 or-false : (v : Bool) → (v || false) ≡ v
 or-false true = refl
@@ -43,17 +43,17 @@ leaves : (last : Last) → 0 < last.size → leaves_none last ≡ last.folder
 leaves last s = rw (ne_eqb last.size 0 (λ z. omega arith)) (or-false last.folder)
 
 -- what stands after is below
-below-is : (o : Order) (x y : Placed) → if_below o x NotAfter ≡ y → (y ≡ NotAfter → ⊥) → o ≡ Below
-below-is Below x y e n = refl
-below-is Same x y e n = absurd (n (sym e))
-below-is Above x y e n = absurd (n (sym e))
+below-is : (o : Ordering) (x y : Result ℕ Misplaced) → if_below o x (Err NotAfter) ≡ y → (y ≡ Err NotAfter → ⊥) → o ≡ Less
+below-is Less x y e n = refl
+below-is Equal x y e n = absurd (n (sym e))
+below-is Greater x y e n = absurd (n (sym e))
 
 -- nothing is said of an entry
 nothing_said : (a : Bool) (i : ℕ) (v : Bool) → a ≡ true → i ≡ 0 → v ≡ true → or_else (pick a 0 5) (or_else i (pick v 0 7)) ≡ 0
 nothing_said a i v e f g = rw (e, f, g)
 
 module _ (k : ℕ) (ends : List ℕ) (ended h at count : ℕ) (last : Last) (held head xs : List ℕ) (room : length held ≡ most_held) (fits : last.size ≤ most_held)
-    (m : EntryMode) (n : ℕ) (eight : length head ≡ 8) (few : count < most_records) (big : 8 < h) (r : read_mode xs ≡ Mode m n)
+    (m : EntryMode) (n : ℕ) (eight : length head ≡ 8) (few : count < most_records) (big : 8 < h) (r : read_mode xs ≡ Some (m, n))
     (within : at + length xs ≤ most_bytes) (g : count_to 0 (drop n xs) ≤ most_held) (j : count_to 0 (drop n xs) + 1 + h ≤ length (drop n xs)) where
   abbrev ys· : List ℕ
   ys· = drop n xs
@@ -110,13 +110,13 @@ module _ (k : ℕ) (ends : List ℕ) (ended h at count : ℕ) (last : Last) (hel
       ∙ ids_all k ends ended h at count last held· (take 8 xs) line· zs· (at + n + n· + 1) h (omega arith) (omega (arith, rest-is))
       (omega (arith, start-le, left_is, rest-is))
 
-  module _ (written : text· ≡ true) (named : bare_number c· ≡ 0) (some : 0 < last.size) (p : Placed)
+  module _ (written : text· ≡ true) (named : bare_number c· ≡ 0) (some : 0 < last.size) (p : Result ℕ Misplaced)
       (q : p ≡ place_of ends ended (take last.size held) last.folder c· (is_tree m.internal))
-      (after : p ≡ NotAfter → ⊥) where
+      (after : p ≡ Err NotAfter → ⊥) where
     a-is : length (take last.size held) ≡ last.size
     a-is = length-take last.size held ∙ omega arith
 
-    below : name_order (take last.size held) last.folder c· (is_tree m.internal) ≡ Below
+    below : name_order (take last.size held) last.folder c· (is_tree m.internal) ≡ Less
     unfolding place_of
     below = below-is _ _ p (sym q) after
 
@@ -141,7 +141,7 @@ module _ (k : ℕ) (ends : List ℕ) (ended h at count : ℕ) (last : Last) (hel
       goes =
           closing
           ∙ ap (λ (v : ℕ). feed_of (together held· (closed_ends ends marks· line· v) (closed ends marks· line· v)) (drop h zs·)) said
-          ∙ ap (λ (v : Placed). feed_of (together held· (ends_next ends marks· line·) (placed marks· line· v)) (drop h zs·)) placing-is
+          ∙ ap (λ (v : Result ℕ Misplaced). feed_of (together held· (ends_next ends marks· line·) (placed marks· line· v)) (drop h zs·)) placing-is
           ∙ ap (λ (v : List ℕ). feed_of (together held· v (placed marks· line· p)) (drop h zs·)) (ends_is left e)
 
       rest_at : drop h zs· ≡ drop (n + (n· + 1 + h)) xs
@@ -150,7 +150,7 @@ module _ (k : ℕ) (ends : List ℕ) (ended h at count : ℕ) (last : Last) (hel
           sums : (a b c : ℕ) → a + (suc b + c) ≡ a + (b + 1 + c)
           sums a b c = omega arith
 
-      pub entry-fine : (i : ℕ) → p ≡ Fine i
+      pub entry-fine : (i : ℕ) → p ≡ Ok i
           → feed_of start· xs
           ≡ feed_of (st k left i held· h (at + (n + (n· + 1 + h))) (at + (n + (n· + 1 + h))) (count + 1)
           (record { size = n·; folder = is_tree m.internal }) (replicate 8 0) (Head 0))
@@ -158,11 +158,11 @@ module _ (k : ℕ) (ends : List ℕ) (ended h at count : ℕ) (last : Last) (hel
       unfolding placed
       entry-fine i f =
           let a : at + n + n· + 1 + (h - 1) + 1 ≡ at + (n + (n· + 1 + h)) = omega arith in
-          goes ∙ ap (λ (v : Placed). feed_of (together held· left (placed marks· line· v)) (drop h zs·)) f
+          goes ∙ ap (λ (v : Result ℕ Misplaced). feed_of (together held· left (placed marks· line· v)) (drop h zs·)) f
           ∙ rw (lt-ltb count most_records few, a, rest_at, size_is)
 
-      pub entry_double : p ≡ Double → feed_of start· xs ≡ together held· left (fresh h k (verdict 17 at))
+      pub entry_double : p ≡ Err Double → feed_of start· xs ≡ together held· left (fresh h k (verdict 17 at))
       unfolding placed
       entry_double f =
-          goes ∙ ap (λ (v : Placed). feed_of (together held· left (placed marks· line· v)) (drop h zs·)) f
+          goes ∙ ap (λ (v : Result ℕ Misplaced). feed_of (together held· left (placed marks· line· v)) (drop h zs·)) f
           ∙ feed_stopped (together held· left (fresh h k (verdict 17 at))) (drop h zs·) (λ z. omega arith)

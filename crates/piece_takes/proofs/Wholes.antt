@@ -17,18 +17,12 @@ use Rattle.ground.specs.Verdict.{verdict, fine, most_bytes, most_records}
 use Rattle.ground.specs.declared.Verdict.{Verdict}
 use Rattle.mode.specs.Mode.{is_tree}
 use Rattle.mode.specs.Read.{read_mode, read_mode_at, moved}
-use Rattle.mode.specs.declared.ModeRead.{ModeRead}
-use Rattle.mode.specs.declared.ModeRead.TheVariants.{Mode, Bad}
 use Rattle.mode.specs.declared.EntryMode.{EntryMode}
 use Rattle.mode.proofs.Laws.{eight_decide, read_next}
 use Rattle.mode_code.specs.Code.{code_at, quick_at}
 use Rattle.mode_code.proofs.Laws.{quick_is-code, code-mode}
 use Rattle.order.specs.Order.{name_order}
-use Rattle.order.specs.declared.Order.{Order}
-use Rattle.order.specs.declared.Order.TheVariants.{Below, Same, Above}
 use Rattle.doubles.specs.Stack.{open_at, marks_at, is_double, if_below, place_of, marks_of}
-use Rattle.doubles.specs.declared.Placed.{Placed}
-use Rattle.doubles.specs.declared.Placed.TheVariants.{Fine, NotAfter, Double}
 use Rattle.rules.specs.Rules.{is_text, modes_of, bare_number}
 use Rattle.rules.proofs.Laws.{name-empty, number-bad}
 use Rattle.rules.proofs.Quick.{mode_quick}
@@ -52,13 +46,19 @@ use Rattle.piece_run.proofs.Runs.{Are, one-counts, all_begin}
 use Rattle.piece_between.specs.Between.{head_after, ran_of}
 use Rattle.piece_between.proofs.Between.{Between}
 use Rattle.piece_takes.proofs.Entry.{entry-fine, entry_double}
+use Rattle.doubles.specs.declared.Misplaced.{Misplaced}
+use Rattle.doubles.specs.declared.Misplaced.TheVariants.{Double, NotAfter}
+use Rattle.std.specs.Prelude.{Err, None, Ok, Option, Result, Some}
+use Rattle.std.specs.declared.cmp.Ordering.{Ordering}
+use Rattle.std.specs.declared.cmp.Ordering.TheVariants.{Equal, Greater, Less}
+use Rattle.ground.proofs.Pairs.{some_parts}
 
 -- ---- an entry that is seen
 
 -- the entry at a place of a piece lies in it whole, its mode text is permitted, and nothing is said of its name
 pub record Whole (s : List ℕ) (i h : ℕ) (e : Seen) : Type 0 where
   pub mode : ℕ
-  pub reads : read_mode (drop i s) ≡ Mode (record { internal = mode }) (e.start - i)
+  pub reads : read_mode (drop i s) ≡ Some (record { internal = mode }, e.start - i)
   pub starts : i < e.start
   pub written : (k : ℕ) → is_text (modes_of k) (part i (e.start - 1) s) ≡ true
   pub sort : e.folder ≡ is_tree mode
@@ -68,13 +68,12 @@ pub record Whole (s : List ℕ) (i h : ℕ) (e : Seen) : Type 0 where
   pub named : bare_number (part e.start e.end s) ≡ 0
 
 -- what is read at a place, without the place
-read-there : (at n : ℕ) (m : EntryMode) (r : ModeRead) → moved at r ≡ Mode m (at + n) → r ≡ Mode m n
-read-there at n m (Mode k i) e =
-    let z : at + i ≡ at + n = cc in
-    let y : i ≡ n = omega arith in
-    let x : k ≡ m = cc in
-    rw (x, y)
-read-there at n m Bad e = let z : ◌≡◌ {A = ℕ} 0 1 = cc in absurd (omega arith)
+read-there : (at n : ℕ) (m : EntryMode) (r : Option (EntryMode × ℕ)) → moved at r ≡ Some (m, at + n) → r ≡ Some (m, n)
+read-there at n m (Some (k, i)) e =
+    let w = some_parts e in
+    let y : i ≡ n = omega (arith, w.1) in
+    rw (w.0, y)
+read-there at n m None e = let z : ◌≡◌ {A = ℕ} 0 1 = cc in absurd (omega arith)
 
 whole_of : (s : List ℕ) (i h : ℕ) (e : Seen) → Lies s i h e → Whole s i h e
 unfolding read_mode_at
@@ -84,10 +83,10 @@ whole_of s i h e o =
     let q : code_at s i ≡ c = quick_is-code s i o.code in
     let m : EntryMode = record { internal = c / 16 } in
     let y : c % 16 ≡ e.start - i = omega (arith, o.starts) in
-    let r : moved i (read_mode (drop i s)) ≡ Mode m (i + c % 16) = code-mode s i (λ z. o.code (sym q ∙ z)) ∙ rw q in
+    let r : moved i (read_mode (drop i s)) ≡ Some (m, i + c % 16) = code-mode s i (λ z. o.code (sym q ∙ z)) ∙ rw q in
     record {
       mode = c / 16;
-      reads = read-there i (c % 16) m (read_mode (drop i s)) r ∙ ap (Mode m) y;
+      reads = read-there i (c % 16) m (read_mode (drop i s)) r ∙ ap ((λ y. Some (m, y))) y;
       starts = omega (arith, f, o.starts);
       written = λ k. ap (λ (j : ℕ). is_text (modes_of k) (part i (j - 1) s)) o.starts
           ∙ mode_quick k s i (i + c % 16) o.code (ap (λ (v : ℕ). i + v % 16) (sym q));
@@ -134,11 +133,11 @@ not-empty [] p = absurd (omega (arith, number-bad [] (name-empty [] refl)))
 not-empty (x ∷ n) p = omega arith
 
 -- what is not placed leaves the open names
-not_left : (o : Order) (v : Bool) (n : ℕ) (x a : List ℕ) → if_below o (pick v Double (Fine n)) NotAfter ≡ NotAfter → if_below o x a ≡ a
-not_left Below true n x a e = let z : ◌≡◌ {A = ℕ} 0 1 = cc in absurd (omega arith)
-not_left Below false n x a e = let z : ◌≡◌ {A = ℕ} 0 1 = cc in absurd (omega arith)
-not_left Same v n x a e = refl
-not_left Above v n x a e = refl
+not_left : (o : Ordering) (v : Bool) (n : ℕ) (x a : List ℕ) → if_below o (pick v (Err Double) (Ok n)) (Err NotAfter) ≡ Err NotAfter → if_below o x a ≡ a
+not_left Less true n x a e = let z : ◌≡◌ {A = ℕ} 0 1 = cc in absurd (omega arith)
+not_left Less false n x a e = let z : ◌≡◌ {A = ℕ} 0 1 = cc in absurd (omega arith)
+not_left Equal v n x a e = refl
+not_left Greater v n x a e = refl
 
 -- nothing is taken
 pub went_none : (held ends : List ℕ) (r : Run) (s : List ℕ) (h : ℕ) → Runs s h r → Went held ends r s h held ends r
@@ -160,7 +159,7 @@ st_same : (k ended h count : ℕ) (left : List ℕ) {a b size size' : ℕ} {fold
 st_same k ended h count left p q f g u v = rw (p, q, f, g, u, v)
 
 module _ (held ends : List ℕ) (r : Run) (s : List ℕ) (h : ℕ) (w : Runs s h r) (few : r.count < most_records) (room : length held ≡ most_held) (e : Seen)
-    (o : Whole s r.next h e) (p : Placed) (q : p ≡ place_of ends r.ended (take r.last.size held) r.last.folder (part e.start e.end s)
+    (o : Whole s r.next h e) (p : Result ℕ Misplaced) (q : p ≡ place_of ends r.ended (take r.last.size held) r.last.folder (part e.start e.end s)
     e.folder)
     (left : List ℕ) (f : left ≡ marks_of ends r.ended (take r.last.size held) r.last.folder (part e.start e.end s) e.folder)
     (after : List ℕ) (d : after ≡ held_after p held (part e.start e.end s)) where
@@ -220,7 +219,7 @@ module _ (held ends : List ℕ) (r : Run) (s : List ℕ) (h : ℕ) (w : Runs s h
   size-long : length (part e.start e.end s) ≡ e.end - e.start
   size-long = length-take (e.end - e.start) (drop e.start s) ∙ omega (arith, length-drop e.start s, o.whole)
 
-  pub went_fine : (i : ℕ) → p ≡ Fine i
+  pub went_fine : (i : ℕ) → p ≡ Ok i
       → Went held ends r s h after left
       (record { next = e.end + 1 + h; count = r.count + 1; last = record { size = e.end - e.start; folder = e.folder }; ended = i; double = false })
   went_fine i u =
@@ -232,7 +231,7 @@ module _ (held ends : List ℕ) (r : Run) (s : List ℕ) (h : ℕ) (w : Runs s h
             (omega (arith, long-is)) small_is whole_long
             (text-is k) named_is w.after p place_is (λ y. fine-not i (sym u ∙ y)) left left_is i u
             ∙ st_same k i h (r.count + 1) left a (ap (sets held 0) name-is ∙ sym
-            (d ∙ ap (λ (y : Placed). held_after y held (part e.start e.end s)) u)) size_is (sym o.sort)
+            (d ∙ ap (λ (y : Result ℕ Misplaced). held_after y held (part e.start e.end s)) u)) size_is (sym o.sort)
             (sym (ap (λ (y : Bool). pick y head (replicate 8 0)) (ne_eqb (e.end + 1 + h) r.next (λ y. omega (arith, end_after, o.starts)))))
             (drop-drop (n· + (count_to 0 (drop n· xs·) + 1 + h)) r.next s ∙ ap (λ (j : ℕ). drop j s) z);
         from = omega (arith, end_after, o.starts);
@@ -241,10 +240,10 @@ module _ (held ends : List ℕ) (r : Run) (s : List ℕ) (h : ℕ) (w : Runs s h
         fits = o.small;
       }
     where
-      fine-not : (i : ℕ) → Fine i ≡ NotAfter → ⊥
+      fine-not : (i : ℕ) → ◌≡◌ {A = Result ℕ Misplaced} (Ok i) (Err NotAfter) → ⊥
       fine-not i y = let z : ◌≡◌ {A = ℕ} 0 1 = cc in absurd (omega arith)
 
-  pub went_double : p ≡ Double
+  pub went_double : p ≡ Err Double
       → Went held ends r s h after left (record { next = r.next; count = r.count; last = r.last; ended = r.ended; double = true })
   went_double u =
       record {
@@ -254,7 +253,7 @@ module _ (held ends : List ℕ) (r : Run) (s : List ℕ) (h : ℕ) (w : Runs s h
             (omega (arith, long-is)) small_is whole_long
             (text-is k) named_is w.after p place_is (λ y. double_not (sym u ∙ y)) left left_is u
             ∙ ap (λ (y : List ℕ). together y left (fresh h k (verdict 17 at)))
-            (ap (sets held 0) name-is ∙ sym (d ∙ ap (λ (y : Placed). held_after y held (part e.start e.end s)) u))
+            (ap (sets held 0) name-is ∙ sym (d ∙ ap (λ (y : Result ℕ Misplaced). held_after y held (part e.start e.end s)) u))
             ∙ ap (λ (j : ℕ). together after left (fresh h k (verdict 17 j))) z;
         from = omega arith;
         within = w.within;
@@ -262,14 +261,14 @@ module _ (held ends : List ℕ) (r : Run) (s : List ℕ) (h : ℕ) (w : Runs s h
         fits = w.fits;
       }
     where
-      double_not : Double ≡ NotAfter → ⊥
+      double_not : ◌≡◌ {A = Result ℕ Misplaced} (Err Double) (Err NotAfter) → ⊥
       double_not y = let z : ◌≡◌ {A = ℕ} 0 1 = cc in absurd (omega arith)
 
   -- it stands below: nothing is taken
-  pub went_not : p ≡ NotAfter → Went held ends r s h after left r
+  pub went_not : p ≡ Err NotAfter → Went held ends r s h after left r
   unfolding place_of marks_of
   went_not u =
-      let x : after ≡ held = d ∙ ap (λ (y : Placed). held_after y held (part e.start e.end s)) u in
+      let x : after ≡ held = d ∙ ap (λ (y : Result ℕ Misplaced). held_after y held (part e.start e.end s)) u in
       let a : List ℕ = take r.last.size held in
       let n : List ℕ = part e.start e.end s in
       let i : ℕ = min r.ended (length ends) in
@@ -335,10 +334,10 @@ runs-next held ends r s h after left t w g d = record { long = w.long; within = 
 
 module _ (s : List ℕ) (h : ℕ) where
   -- the held name has as much room as before
-  held-long : (p : Placed) (held name : List ℕ) → length (held_after p held name) ≡ length held
-  held-long (Fine k) held name = length-sets held 0 name
-  held-long NotAfter held name = refl
-  held-long Double held name = length-sets held 0 name
+  held-long : (p : Result ℕ Misplaced) (held name : List ℕ) → length (held_after p held name) ≡ length held
+  held-long (Ok k) held name = length-sets held 0 name
+  held-long (Err NotAfter) held name = refl
+  held-long (Err Double) held name = length-sets held 0 name
 
   module _ (g : Going) (room : length g.held ≡ most_held) where
     abbrev seen· : Seen
@@ -347,10 +346,10 @@ module _ (s : List ℕ) (h : ℕ) where
     abbrev name· : List ℕ
     name· = part seen·.start seen·.end s
 
-    abbrev by· : Bool → Placed → Going
+    abbrev by· : Bool → Result ℕ Misplaced → Going
     by· v p = pick v g (going (run_after g.run h seen· p) (held_after p g.held name·) (open_in g s seen·))
 
-    room_by : (v : Bool) (p : Placed) → length (by· v p).held ≡ most_held
+    room_by : (v : Bool) (p : Result ℕ Misplaced) → length (by· v p).held ≡ most_held
     room_by true p = room
     room_by false p = held-long p g.held name· ∙ room
 
@@ -358,24 +357,24 @@ module _ (s : List ℕ) (h : ℕ) where
     unfolding one_more
     one-room = room_by (eqb seen·.end 0) (placed_in g s seen·)
 
-    single-by : (v : Bool) (p : Placed) → ((by· v p).run.next ≡ g.run.next → ⊥) → (by· v p).run.double ≡ false
+    single-by : (v : Bool) (p : Result ℕ Misplaced) → ((by· v p).run.next ≡ g.run.next → ⊥) → (by· v p).run.double ≡ false
     single-by true p n = absurd (n refl)
-    single-by false (Fine k) n = refl
-    single-by false NotAfter n = absurd (n refl)
-    single-by false Double n = absurd (n refl)
+    single-by false (Ok k) n = refl
+    single-by false (Err NotAfter) n = absurd (n refl)
+    single-by false (Err Double) n = absurd (n refl)
 
     one_single : ((one_more s h g).run.next ≡ g.run.next → ⊥) → (one_more s h g).run.double ≡ false
     unfolding one_more
     one_single n = single-by (eqb seen·.end 0) (placed_in g s seen·) n
 
     module _ (w : Runs s h g.run) (few : g.run.count < most_records) where
-      placed_went : Whole s g.run.next h seen· → (p : Placed) → p ≡ placed_in g s seen·
+      placed_went : Whole s g.run.next h seen· → (p : Result ℕ Misplaced) → p ≡ placed_in g s seen·
           → Went g.held g.ends g.run s h (held_after p g.held name·) (open_in g s seen·) (run_after g.run h seen· p)
-      placed_went o (Fine k) u =
-          went_fine g.held g.ends g.run s h w few room seen· o (Fine k) u (open_in g s seen·) refl (sets g.held 0 name·) refl k refl
-      placed_went o NotAfter u = went_not g.held g.ends g.run s h w few room seen· o NotAfter u (open_in g s seen·) refl g.held refl refl
-      placed_went o Double u =
-          went_double g.held g.ends g.run s h w few room seen· o Double u (open_in g s seen·) refl (sets g.held 0 name·) refl refl
+      placed_went o (Ok k) u =
+          went_fine g.held g.ends g.run s h w few room seen· o (Ok k) u (open_in g s seen·) refl (sets g.held 0 name·) refl k refl
+      placed_went o (Err NotAfter) u = went_not g.held g.ends g.run s h w few room seen· o (Err NotAfter) u (open_in g s seen·) refl g.held refl refl
+      placed_went o (Err Double) u =
+          went_double g.held g.ends g.run s h w few room seen· o (Err Double) u (open_in g s seen·) refl (sets g.held 0 name·) refl refl
 
       went_by : (v : Bool) → eqb seen·.end 0 ≡ v
           → Went g.held g.ends g.run s h (by· v (placed_in g s seen·)).held (by· v (placed_in g s seen·)).ends (by· v (placed_in g s seen·)).run

@@ -20,15 +20,14 @@ fn whole(held: &mut [u8; 4096], ends: &mut [u32; 4097], m: Marks, piece: &[u8], 
 {
     let lent: &[u8] = held;
     if is_between(m, piece.len() - i) {
-        let last = m.last;
-        let mut r = Run {
+        let from = Run {
             next: i,
             count: m.count,
-            last,
+            last: m.last,
             ended: m.ended,
             double: false,
         };
-        r = all_entries(held, ends, r, piece, m.h);
+        let r = all_entries(held, ends, from, piece, m.h);
         return ran(m, m.at + (r.next - i), piece.len(), i, r);
     }
     Taken { marks: m, next: i }
@@ -42,11 +41,10 @@ pub fn feed(held: &mut [u8; 4096], ends: &mut [u32; 4097], marks: Marks, piece: 
     loop {
         t = whole(held, ends, t.marks, piece, t.next);
         t = some(held, t.marks, piece, t.next);
-        let at = t.next;
-        if piece.len() <= at {
+        let Some(b) = piece.get(t.next) else {
             return t.marks;
-        }
-        t.marks = step(held, ends, t.marks, piece[at]);
-        t.next = at + 1;
+        };
+        t.marks = step(held, ends, t.marks, *b);
+        t.next += 1;
     }
 }

@@ -10,12 +10,8 @@ use borrow.Author.Tests.{lt-ltb, le-ltb, ltb-true, ltb-false}
 use Rattle.ground.specs.Basics.{pick}
 use Rattle.ground.specs.Verdict.{verdict, fine, gate_of, most_records}
 use Rattle.ground.specs.declared.Verdict.{Verdict}
-use Rattle.ground.specs.declared.Gate.{Gate}
-use Rattle.ground.specs.declared.Gate.TheVariants.{Open, Shut}
 use Rattle.ground.proofs.Laws.{gate_open}
 use Rattle.order.specs.Order.{name_order}
-use Rattle.order.specs.declared.Order.{Order}
-use Rattle.order.specs.declared.Order.TheVariants.{Below, Same, Above}
 use Rattle.entry.specs.declared.EntryRecord.{EntryRecord}
 use Rattle.entry.specs.Record.{well_formed, name_of, folder_of}
 use Rattle.lookup.specs.declared.Looked.{Looked}
@@ -25,15 +21,18 @@ use Rattle.lookup.specs.Halving.{Met, bad, met, absent, mid, turn, search_from}
 use Rattle.lookup.specs.Lookup.{compare_entry, nth, compare_at, lookup_in}
 use Rattle.probe.specs.Probe.{aimed_of, stopped_of, start_of, moved_of, ready, probe_step, answer_of}
 use Rattle.lookup.proofs.Laws.{mid-low, mid-high, search-end, search_more, met-bad, met-good, lookup-shut, lookup_open}
+use Rattle.std.specs.Prelude.{Err, Ok, Result, ⊤}
+use Rattle.std.specs.declared.cmp.Ordering.{Ordering}
+use Rattle.std.specs.declared.cmp.Ordering.TheVariants.{Equal, Greater, Less}
 
 -- ---- the steps, by what they meet
 
 module _ (object name n : ℕ) (q : Query) (bytes : ℕ) (longer : bytes ≡ max object name) where
-  pub start_open : gate_of q.h bytes n ≡ Open → start_of object name n q ≡ aimed_of 0 n 0
+  pub start_open : gate_of q.h bytes n ≡ Ok tt → start_of object name n q ≡ aimed_of 0 n 0
   unfolding start_of
   start_open e = rw (sym longer, e)
 
-  pub start-shut : (v : Verdict) → gate_of q.h bytes n ≡ Shut v → start_of object name n q ≡ stopped_of v 0 0
+  pub start-shut : (v : Verdict) → gate_of q.h bytes n ≡ Err v → start_of object name n q ≡ stopped_of v 0 0
   unfolding start_of
   start-shut v e = rw (sym longer, e)
 
@@ -56,7 +55,7 @@ module _ (object name : List ℕ) (q : Query) (p : Probe) (e : EntryRecord) wher
     step-bad w = step-met h few ∙ ap (moved_of p) (met-bad q.h object name q.folder e w)
 
     -- by what the leaves answer that compare the record
-    pub step-told : well_formed q.h (length object) e ≡ true → {sort : Bool} {r : Order} → sort ≡ folder_of e
+    pub step-told : well_formed q.h (length object) e ≡ true → {sort : Bool} {r : Ordering} → sort ≡ folder_of e
         → r ≡ name_order (name_of object e) sort name q.folder → probe_step object name q p e ≡ moved_of p (met r)
     step-told w f k =
         step-met h few
@@ -112,17 +111,17 @@ module _ (f : ℕ → Met) (n : ℕ) (p : Probe) (l : Live n p) where
   -- one turn of the halving is one move of the search
   sure_moved : (o : Met) → Sure f n (turn o (search_from f) p.low p.high p.at c) (moved_of p o)
   sure_moved bad = sure_stopped f n (verdict 10 p.at) 0 0
-  sure_moved (met Below) = sure_aimed f n (p.at + 1) p.high (c + 1) l.within (omega (arith, l.room, inside, behind))
-  sure_moved (met Same) = sure_stopped f n fine p.at (c + 1)
-  sure_moved (met Above) = sure_aimed f n p.low p.at (c + 1) (omega (arith, l.within, inside)) (omega (arith, l.room, inside, behind))
+  sure_moved (met Less) = sure_aimed f n (p.at + 1) p.high (c + 1) l.within (omega (arith, l.room, inside, behind))
+  sure_moved (met Equal) = sure_stopped f n fine p.at (c + 1)
+  sure_moved (met Greater) = sure_aimed f n p.low p.at (c + 1) (omega (arith, l.within, inside)) (omega (arith, l.room, inside, behind))
 
   -- the records to choose from are fewer
   moved_less : (o : Met) → (moved_of p o).high - (moved_of p o).low < p.high - p.low
   unfolding aimed_of stopped_of
   moved_less bad = omega (arith, l.left)
-  moved_less (met Below) = omega (arith, inside, behind)
-  moved_less (met Same) = omega (arith, l.left)
-  moved_less (met Above) = omega (arith, inside, behind)
+  moved_less (met Less) = omega (arith, inside, behind)
+  moved_less (met Equal) = omega (arith, l.left)
+  moved_less (met Greater) = omega (arith, inside, behind)
 
   -- what is left of the halving begins at the record to compare
   sure_turn : (r : Looked) → p.on ≡ true → r ≡ end_of f p → r ≡ turn (f p.at) (search_from f) p.low p.high p.at c
@@ -145,15 +144,15 @@ module _ (object name : List ℕ) (q : Query) (records : List EntryRecord) where
   abbrev answers : Looked
   answers = lookup_in q.h object records name q.folder
 
-  abbrev gate : Gate
+  abbrev gate : Result ⊤ Verdict
   gate = gate_of q.h (max (length object) (length name)) (length records)
 
-  begins : (g : Gate) → gate ≡ g → Going object name q records (start_of (length object) (length name) (length records) q)
-  begins Open e =
+  begins : (g : Result ⊤ Verdict) → gate ≡ g → Going object name q records (start_of (length object) (length name) (length records) q)
+  begins (Ok tt) e =
       rw (start_open (length object) (length name) (length records) q _ refl e)
       (sure_of how (length records) answers _ _ (lookup_open q.h object records name q.folder e)
       (sure_aimed how (length records) 0 (length records) 0 (omega arith) (omega (arith, gate_open q.h _ (length records) e))))
-  begins (Shut v) e =
+  begins (Err v) e =
       rw (start-shut (length object) (length name) (length records) q _ refl v e)
       (sure_of how (length records) answers _ _ (lookup-shut q.h object records name q.folder v e) (sure_stopped how (length records) v 0 0))
 

@@ -1,17 +1,15 @@
 -- The search as a value that is stepped: its start, one step, its answer. `proofs/Going.antt` joins it to the halving. Assumes nothing.
-use Rattle.std.specs.Prelude.{ℕ, ◌+◌, max, Bool, false, ◌&&◌, List, ltb}
+use Rattle.std.specs.Prelude.{ℕ, ◌+◌, max, Bool, false, ◌&&◌, List, ltb, Err, Ok, Result, ⊤}
 use Rattle.ground.specs.Basics.{pick}
 use Rattle.ground.specs.Verdict.{verdict, fine, gate_of, most_records}
 use Rattle.ground.specs.declared.Verdict.{Verdict}
-use Rattle.ground.specs.declared.Gate.{Gate}
-use Rattle.ground.specs.declared.Gate.TheVariants.{Open, Shut}
-use Rattle.order.specs.declared.Order.TheVariants.{Below, Same, Above}
 use Rattle.entry.specs.declared.EntryRecord.{EntryRecord}
 use Rattle.lookup.specs.declared.Looked.{Looked}
 use Rattle.probe.specs.declared.Query.{Query}
 use Rattle.probe.specs.declared.Probe.{Probe}
 use Rattle.lookup.specs.Halving.{Met, bad, met, absent, mid}
 use Rattle.lookup.specs.Lookup.{compare_entry}
+use Rattle.std.specs.declared.cmp.Ordering.TheVariants.{Equal, Greater, Less}
 
 -- a search between low and high, which has ended where nothing is left there
 unfoldable pub aimed_of : ℕ → ℕ → ℕ → Probe
@@ -25,16 +23,16 @@ stopped_of v i c = record { on = false; at = 0; low = 0; high = 0; looked = reco
 unfoldable pub start_of : ℕ → ℕ → ℕ → Query → Probe
 start_of object name n q = begin (gate_of q.h (max object name) n)
   where
-    begin : Gate → Probe
-    begin Open = aimed_of 0 n 0
-    begin (Shut v) = stopped_of v 0 0
+    begin : Result ⊤ Verdict → Probe
+    begin (Ok tt) = aimed_of 0 n 0
+    begin (Err v) = stopped_of v 0 0
 
 -- the search after record `at` was met
 abbrev pub moved_of : Probe → Met → Probe
 moved_of p bad = stopped_of (verdict 10 p.at) 0 0
-moved_of p (met Below) = aimed_of (p.at + 1) p.high (p.looked.compared + 1)
-moved_of p (met Same) = stopped_of fine p.at (p.looked.compared + 1)
-moved_of p (met Above) = aimed_of p.low p.at (p.looked.compared + 1)
+moved_of p (met Less) = aimed_of (p.at + 1) p.high (p.looked.compared + 1)
+moved_of p (met Equal) = stopped_of fine p.at (p.looked.compared + 1)
+moved_of p (met Greater) = aimed_of p.low p.at (p.looked.compared + 1)
 
 -- there is a record to compare, and room in the count
 unfoldable pub ready : Probe → Bool

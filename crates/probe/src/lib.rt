@@ -7,9 +7,9 @@ ghost use Rattle.lookup.specs.Halving.{met};
 ghost use Rattle.probe.specs.Probe.{aimed_of, stopped_of, start_of, moved_of, probe_step, answer_of};
 
 use entry::EntryRecord;
-use ground::{BAD_RECORD, FINE, Gate, NOT_THERE, Verdict};
+use ground::{BAD_RECORD, FINE, NOT_THERE, Verdict};
 use lookup::Looked;
-use order::Order;
+use std::cmp::Ordering;
 
 // What is sought beside its name: the length of ids, and whether it is a folder.
 #[derive(Clone, Copy)]
@@ -81,13 +81,13 @@ pub fn start(object: usize, name: usize, n: usize, q: Query) -> Probe
     ensures { result ≡ start_of object name n q }
 {
     match ground::bounds(q.h, ground::longer(object, name), n) {
-        Gate::Open => aimed(0, n, 0),
-        Gate::Shut(v) => stopped(v, 0, 0),
+        Ok(()) => aimed(0, n, 0),
+        Err(v) => stopped(v, 0, 0),
     }
 }
 
 // The search after its record was well formed and stood so to the name sought.
-fn moved(p: Probe, o: Order) -> Probe
+fn moved(p: Probe, o: Ordering) -> Probe
     requires at_lt_high { p.at < p.high }
     requires compared_lt_most_records { p.looked.compared < most_records }
     ensures { result ≡ moved_of p (met o) }
@@ -95,9 +95,9 @@ fn moved(p: Probe, o: Order) -> Probe
     let at = p.at;
     let compared = p.looked.compared + 1;
     match o {
-        Order::Below => aimed(at + 1, p.high, compared),
-        Order::Same => stopped(FINE, at, compared),
-        Order::Above => aimed(p.low, at, compared),
+        Ordering::Less => aimed(at + 1, p.high, compared),
+        Ordering::Equal => stopped(FINE, at, compared),
+        Ordering::Greater => aimed(p.low, at, compared),
     }
 }
 

@@ -8,18 +8,18 @@ use Rattle.ground.specs.declared.Verdict.{Verdict}
 use Rattle.mode_code.specs.Code.{code_at}
 use Rattle.mode_code.proofs.Laws.{code-bad, code-mode, code_inside}
 use Rattle.mode.specs.Read.{read_mode_at}
-use Rattle.mode.specs.declared.ModeRead.TheVariants.{Mode}
 use Rattle.entry.specs.Decode.{decode, decoded_verdict}
-use Rattle.entry.specs.declared.Decoded.{Decoded}
-use Rattle.entry.specs.declared.Decoded.TheVariants.{Whole, Broken}
 use Rattle.entry.proofs.Laws.{decode-bad, name-within, decode-short, decode-whole}
+use Rattle.entry.specs.declared.Cursor.{Cursor}
+use Rattle.entry.specs.declared.EntryRecord.{EntryRecord}
+use Rattle.std.specs.Prelude.{Err, Ok, Result, Some}
 
 -- no entry can be read
-abbrev pub Unread : Decoded → Type 0
-Unread d = d ≡ Broken (decoded_verdict d)
+abbrev pub Unread : Result (EntryRecord × Cursor) Verdict → Type 0
+Unread d = d ≡ Err (decoded_verdict d)
 
-unread : {d : Decoded} (v : Verdict) → d ≡ Broken v → Unread d
-unread v e = e ∙ ap (λ (x : Decoded). Broken (decoded_verdict x)) (sym e)
+unread : {d : Result (EntryRecord × Cursor) Verdict} (v : Verdict) → d ≡ Err v → Unread d
+unread v e = e ∙ ap (λ (x : Result (EntryRecord × Cursor) Verdict). Err (decoded_verdict x)) (sym e)
 
 module _ (s : List ℕ) (h at code : ℕ) (q : code ≡ code_at s at) where
   pub code-none : code ≡ 0 → Unread (decode h at (drop at s))
@@ -29,7 +29,7 @@ module _ (s : List ℕ) (h at code : ℕ) (q : code ≡ code_at s at) where
     there-is : code_at s at ≡ 0 → ⊥
     there-is e = some (q ∙ e)
 
-    reads : read_mode_at s at ≡ Mode (record { internal = code / 16 }) (at + code % 16)
+    reads : read_mode_at s at ≡ Some (record { internal = code / 16 }, at + code % 16)
     reads = rw q (code-mode s at there-is)
 
     pub name_starts : at + code % 16 ≤ length s
@@ -44,6 +44,5 @@ module _ (s : List ℕ) (h at code : ℕ) (q : code ≡ code_at s at) where
 
       pub name-whole : h < length s - end
           → decode h at (drop at s)
-          ≡ Whole (record { mode = code / 16; name_start = at + code % 16; name_end = end; id_start = end + 1; text_start = at })
-          (record { at = end + 1 + h })
+          ≡ Ok (record { mode = code / 16; name_start = at + code % 16; name_end = end; id_start = end + 1; text_start = at }, record { at = end + 1 + h })
       name-whole l = decode-whole s h at _ _ end reads p l

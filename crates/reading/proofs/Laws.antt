@@ -14,20 +14,15 @@ use Rattle.ground.specs.Basics.{pick}
 use Rattle.ground.specs.Verdict.{verdict, fine, broken, is_part, counted, refused, most_records, gate_of, stored}
 use Rattle.ground.specs.declared.Verdict.{Verdict}
 use Rattle.ground.specs.declared.Answer.{Answer}
-use Rattle.ground.specs.declared.Gate.{Gate}
-use Rattle.ground.specs.declared.Gate.TheVariants.{Open, Shut}
 use Rattle.ground.proofs.Laws.{gate_shut, sets_append, sets_front, stored-done, stored_refused}
 use Rattle.entry.specs.Record.{width, many, flat, put_record}
 use Rattle.entry.specs.Decode.{decode}
 use Rattle.entry.specs.declared.EntryRecord.{EntryRecord}
 use Rattle.entry.specs.declared.Cursor.{Cursor}
-use Rattle.entry.specs.declared.Decoded.{Decoded}
-use Rattle.entry.specs.declared.Decoded.TheVariants.{Whole, Broken}
 use Rattle.entry.proofs.Laws.{decode-inside, decode_three}
 use Rattle.reading.specs.Listing.{Listing, done, stop, entry, follow, plain, listing, records_in, flats, tally}
 use Rattle.reading.specs.Whole.{in_room, answer_of, finished}
-use Rattle.reading.specs.declared.Counted.{Counted}
-use Rattle.reading.specs.declared.Counted.TheVariants.{Total, Stopped}
+use Rattle.std.specs.Prelude.{Err, Ok, Result, ⊤}
 
 -- ---- how a listing goes on from a place where n entries are read
 
@@ -64,11 +59,11 @@ module _ (h : ℕ) (s : List ℕ) (at n : ℕ) where
       rest_some : rest_at h s at n ≡ follow (plain h (most_records - (n + 1))) at (drop at s) (decode h at (drop at s))
       rest_some = let z : most_records - n ≡ suc (most_records - (n + 1)) = omega arith in rw z (plain-some h (most_records - (n + 1)) at (drop at s) some_left)
 
-      pub rest-broken : {v : Verdict} → decode h at (drop at s) ≡ Broken v → rest_at h s at n ≡ stop v
+      pub rest-broken : {v : Verdict} → decode h at (drop at s) ≡ Err v → rest_at h s at n ≡ stop v
       unfolding follow
       rest-broken d = rest_some ∙ rw d
 
-      pub rest-whole : {e : EntryRecord} {next : Cursor} → decode h at (drop at s) ≡ Whole e next → rest_at h s at n ≡ entry at e (rest_at h s next.at (n + 1))
+      pub rest-whole : {e : EntryRecord} {next : Cursor} → decode h at (drop at s) ≡ Ok (e, next) → rest_at h s at n ≡ entry at e (rest_at h s next.at (n + 1))
       unfolding follow
       rest-whole {e} {next} d =
           let i = decode-inside h s at e next d in
@@ -79,14 +74,14 @@ module _ (h : ℕ) (s : List ℕ) (at n : ℕ) where
 -- ---- its count
 
 -- it is the number of records
-pub tally-length : (n : ℕ) (l : Listing) (count : ℕ) → tally n l ≡ Total count → count ≡ n + length (records_in l)
+pub tally-length : (n : ℕ) (l : Listing) (count : ℕ) → tally n l ≡ Ok count → count ≡ n + length (records_in l)
 unfolding tally records_in
 tally-length n done count t = let y : n ≡ count = cc in omega arith
 tally-length n (stop v) count t = let y : ◌≡◌ {A = ℕ} 0 1 = cc in absurd (omega arith)
 tally-length n (entry at e l) count t = omega (arith, tally-length (n + 1) l count t)
 
 -- an entry that can be read where not too many were is the next
-pub whole_here : (h : ℕ) (s : List ℕ) (at n : ℕ) {e : EntryRecord} {next : Cursor} → n < most_records → decode h at (drop at s) ≡ Whole e next
+pub whole_here : (h : ℕ) (s : List ℕ) (at n : ℕ) {e : EntryRecord} {next : Cursor} → n < most_records → decode h at (drop at s) ≡ Ok (e, next)
     → rest_at h s at n ≡ entry at e (rest_at h s next.at (n + 1))
 whole_here h s at n {e} {next} f d = let i = decode-inside h s at e next d in rest-whole h s at n (omega arith) f d
 
@@ -99,7 +94,7 @@ full_none h at (x ∷ xs) = refl
 pub none_full : (h : ℕ) (s : List ℕ) (at n : ℕ) → most_records ≤ n → records_in (rest_at h s at n) ≡ []
 none_full h s at n f = let z : most_records - n ≡ 0 = omega arith in rw z (full_none h at (drop at s))
 
-pub none_left : (h : ℕ) (s : List ℕ) (at n : ℕ) {v : Verdict} → n < most_records → decode h at (drop at s) ≡ Broken v → records_in (rest_at h s at n) ≡ []
+pub none_left : (h : ℕ) (s : List ℕ) (at n : ℕ) {v : Verdict} → n < most_records → decode h at (drop at s) ≡ Err v → records_in (rest_at h s at n) ≡ []
 unfolding records_in
 none_left h s at n f d =
     elim (dec_le (length s) at) [
@@ -148,7 +143,7 @@ store-none rec i k l q = rw q (go k)
     go (suc k) = refl
 
 -- all of them stored from the front on
-store_all : (rec : List ℕ) (l : Listing) (count : ℕ) → tally 0 l ≡ Total count → count ≤ many (length rec)
+store_all : (rec : List ℕ) (l : Listing) (count : ℕ) → tally 0 l ≡ Ok count → count ≤ many (length rec)
     → sets rec 0 (flats (take count (records_in l))) ≡ stored fine (flats (records_in l)) rec
 store_all rec l count t p =
     let k = tally-length 0 l count t in
@@ -163,7 +158,7 @@ Stops P done = Unit {0}
 Stops P (stop v) = P v
 Stops P (entry at e l) = Stops P l
 
-pub tally_stops : (P : Verdict → Type 0) (n : ℕ) (l : Listing) (v : Verdict) → Stops P l → tally n l ≡ Stopped v → P v
+pub tally_stops : (P : Verdict → Type 0) (n : ℕ) (l : Listing) (v : Verdict) → Stops P l → tally n l ≡ Err v → P v
 unfolding tally
 tally_stops P n done v s t = let y : ◌≡◌ {A = ℕ} 0 1 = cc in absurd (omega arith)
 tally_stops P n (stop w) v s t = let y : w ≡ v = cc in rw y at s
@@ -178,9 +173,9 @@ plain_stops P two three h zero at (x ∷ xs) = two
 plain_stops P two three h (suc left) at [] = tt
 plain_stops P two three h (suc left) at (x ∷ xs) = go (plain_stops P two three h left) (decode h at (x ∷ xs)) refl
   where
-    go : ((i : ℕ) (b : List ℕ) → Stops P (plain h left i b)) → (d : Decoded) → decode h at (x ∷ xs) ≡ d → Stops P (follow (plain h left) at (x ∷ xs) d)
-    go ih (Whole e next) q = ih next.at (drop (next.at - at) (x ∷ xs))
-    go ih (Broken v) q = let w = decode_three h at (x ∷ xs) v q in rw w.1 (three at w.0 w.2)
+    go : ((i : ℕ) (b : List ℕ) → Stops P (plain h left i b)) → (d : Result (EntryRecord × Cursor) Verdict) → decode h at (x ∷ xs) ≡ d → Stops P (follow (plain h left) at (x ∷ xs) d)
+    go ih (Ok (e, next)) q = ih next.at (drop (next.at - at) (x ∷ xs))
+    go ih (Err v) q = let w = decode_three h at (x ∷ xs) v q in rw w.1 (three at w.0 w.2)
 
 -- so each is a refusal
 abbrev pub Refusal : Verdict → Type 0
@@ -189,49 +184,49 @@ Refusal v = v.number ≡ 0 → ⊥
 pub plain-refuses : (h : ℕ) (s : List ℕ) → Stops Refusal (listing h s)
 plain-refuses h s = plain_stops Refusal (λ e. omega arith) (λ at k p e. omega arith) h most_records 0 s
 
-pub gate_refuses : (h bytes records : ℕ) (v : Verdict) → gate_of h bytes records ≡ Shut v → Refusal v
+pub gate_refuses : (h bytes records : ℕ) (v : Verdict) → gate_of h bytes records ≡ Err v → Refusal v
 gate_refuses h bytes records v e = ⊎_elim (λ q. rw q (λ z. omega arith)) (λ q. rw q (λ z. omega arith)) (gate_shut h bytes records v e)
 
 -- ---- the answer
 
-module _ (l : Listing) (g : Gate) (room : ℕ) where
-  pub answer-shut : (v : Verdict) → g ≡ Shut v → answer_of g l room ≡ refused v
+module _ (l : Listing) (g : Result ⊤ Verdict) (room : ℕ) where
+  pub answer-shut : (v : Verdict) → g ≡ Err v → answer_of g l room ≡ refused v
   unfolding answer_of
   answer-shut v q = rw q
 
-  pub answer-counted : {k : Counted} → g ≡ Open → tally 0 l ≡ k → answer_of g l room ≡ in_room room k
+  pub answer-counted : {k : Result ℕ Verdict} → g ≡ Ok tt → tally 0 l ≡ k → answer_of g l room ≡ in_room room k
   unfolding answer_of
   answer-counted q t = rw (q, t)
 
 -- a reading that was done: the call began, the listing was counted to its end, and there was room
 pub answer-done : (l : Listing) (h bytes records room n : ℕ) → Stops Refusal l → answer_of (gate_of h bytes records) l room ≡ counted n
-    → (gate_of h bytes records ≡ Open) × (tally 0 l ≡ Total n) × (n ≤ room)
+    → (gate_of h bytes records ≡ Ok tt) × (tally 0 l ≡ Ok n) × (n ≤ room)
 unfolding answer_of
 answer-done l h bytes records room n r e = start (gate_of h bytes records) refl e
   where
-    last : (m : ℕ) → tally 0 l ≡ Total m → (v : Bool) → leb m room ≡ v → pick v (counted m) (refused (verdict 4 m)) ≡ counted n
-        → (tally 0 l ≡ Total n) × (n ≤ room)
+    last : (m : ℕ) → tally 0 l ≡ Ok m → (v : Bool) → leb m room ≡ v → pick v (counted m) (refused (verdict 4 m)) ≡ counted n
+        → (tally 0 l ≡ Ok n) × (n ≤ room)
     last m t true q e =
         let z : m ≡ n = ap (λ (a : Answer). a.count) e in
-        (t ∙ ap Total z, omega (arith, leb-true m room q))
+        (t ∙ ap Ok z, omega (arith, leb-true m room q))
     last m t false q e = let z : ◌≡◌ {A = ℕ} 4 0 = ap (λ (a : Answer). a.verdict.number) e in absurd (omega arith)
 
-    go : (k : Counted) → tally 0 l ≡ k → in_room room k ≡ counted n → (tally 0 l ≡ Total n) × (n ≤ room)
-    go (Total m) t e = last m t (leb m room) refl e
-    go (Stopped v) t e = absurd (tally_stops Refusal 0 l v r t (ap (λ (a : Answer). a.verdict.number) e))
+    go : (k : Result ℕ Verdict) → tally 0 l ≡ k → in_room room k ≡ counted n → (tally 0 l ≡ Ok n) × (n ≤ room)
+    go (Ok m) t e = last m t (leb m room) refl e
+    go (Err v) t e = absurd (tally_stops Refusal 0 l v r t (ap (λ (a : Answer). a.verdict.number) e))
 
-    start : (g : Gate) → gate_of h bytes records ≡ g → answer_of g l room ≡ counted n → (gate_of h bytes records ≡ Open) × (tally 0 l ≡ Total n) × (n ≤ room)
-    start Open q e = let w = go (tally 0 l) refl e in (q, w.0, w.1)
-    start (Shut v) q e = absurd (gate_refuses h bytes records v q (ap (λ (a : Answer). a.verdict.number) e))
+    start : (g : Result ⊤ Verdict) → gate_of h bytes records ≡ g → answer_of g l room ≡ counted n → (gate_of h bytes records ≡ Ok tt) × (tally 0 l ≡ Ok n) × (n ≤ room)
+    start (Ok tt) q e = let w = go (tally 0 l) refl e in (q, w.0, w.1)
+    start (Err v) q e = absurd (gate_refuses h bytes records v q (ap (λ (a : Answer). a.verdict.number) e))
 
 -- a refused reading leaves the lent list
 pub refused-both : {a : Answer} (v : Verdict) (l lent : List ℕ) → a ≡ refused v → Refusal v → (refused v ≡ a) × (lent ≡ stored a.verdict l lent)
 refused-both v l lent q z = (sym q, sym (ap (λ (x : Answer). stored x.verdict l lent) q ∙ stored_refused v l lent z))
 
-pub room-short : (room n : ℕ) → room < n → in_room room (Total n) ≡ refused (verdict 4 n)
+pub room-short : (room n : ℕ) → room < n → in_room room (Ok n) ≡ refused (verdict 4 n)
 room-short room n p = simp (lt-leb n room p)
 
-pub room-fine : (room n : ℕ) → n ≤ room → in_room room (Total n) ≡ counted n
+pub room-fine : (room n : ℕ) → n ≤ room → in_room room (Ok n) ≡ counted n
 room-fine room n p = simp (le-leb n room p)
 
 -- ---- the end of a reading: its answer, and the lent list afterwards
@@ -240,30 +235,30 @@ module _ (h : ℕ) (s lent : List ℕ) where
   abbrev room : ℕ
   room = many (length lent)
 
-  abbrev Ends : Counted → Answer → List ℕ → Type 0
+  abbrev Ends : Result ℕ Verdict → Answer → List ℕ → Type 0
   Ends k a after = (a ≡ in_room room k) × (after ≡ finished h s k lent)
 
-  short-leaves : (n : ℕ) → room < n → finished h s (Total n) lent ≡ lent
+  short-leaves : (n : ℕ) → room < n → finished h s (Ok n) lent ≡ lent
   short-leaves n p = simp (lt-leb n room p)
 
-  fine-stores : (n : ℕ) → n ≤ room → finished h s (Total n) lent ≡ sets lent 0 (flats (take n (records_in (listing h s))))
+  fine-stores : (n : ℕ) → n ≤ room → finished h s (Ok n) lent ≡ sets lent 0 (flats (take n (records_in (listing h s))))
   fine-stores n p = simp (le-leb n room p)
 
-  pub ends_stopped : {k : Counted} (v : Verdict) → k ≡ Stopped v → Ends k (refused v) lent
+  pub ends_stopped : {k : Result ℕ Verdict} (v : Verdict) → k ≡ Err v → Ends k (refused v) lent
   ends_stopped v q = (rw q, rw q)
 
-  pub ends-short : {k : Counted} (n : ℕ) → k ≡ Total n → room < n → Ends k (refused (verdict 4 n)) lent
+  pub ends-short : {k : Result ℕ Verdict} (n : ℕ) → k ≡ Ok n → room < n → Ends k (refused (verdict 4 n)) lent
   ends-short n q p = (rw q (sym (room-short room n p)), rw q (sym (short-leaves n p)))
 
-  pub ends-done : {k : Counted} (n : ℕ) {after : List ℕ} → k ≡ Total n → n ≤ room → after ≡ sets lent 0 (flats (take n (records_in (listing h s))))
+  pub ends-done : {k : Result ℕ Verdict} (n : ℕ) {after : List ℕ} → k ≡ Ok n → n ≤ room → after ≡ sets lent 0 (flats (take n (records_in (listing h s))))
       → Ends k (counted n) after
   ends-done n q p w = (rw q (sym (room-fine room n p)), rw q (w ∙ sym (fine-stores n p)))
 
   -- of a listing that was counted, and that is the object's where it was read to its end, the records are stored where the verdict is done
-  finished-is : (l : Listing) → Stops Refusal l → ((n : ℕ) → tally 0 l ≡ Total n → l ≡ listing h s) → (k : Counted) → tally 0 l ≡ k
+  finished-is : (l : Listing) → Stops Refusal l → ((n : ℕ) → tally 0 l ≡ Ok n → l ≡ listing h s) → (k : Result ℕ Verdict) → tally 0 l ≡ k
       → finished h s k lent ≡ stored (in_room room k).verdict (flats (records_in l)) lent
-  finished-is l z f (Stopped v) t = sym (stored_refused v (flats (records_in l)) lent (tally_stops Refusal 0 l v z t))
-  finished-is l z f (Total n) t = go (leb n room) refl
+  finished-is l z f (Err v) t = sym (stored_refused v (flats (records_in l)) lent (tally_stops Refusal 0 l v z t))
+  finished-is l z f (Ok n) t = go (leb n room) refl
     where
       go : (v : Bool) → leb n room ≡ v
           → pick v (sets lent 0 (flats (take n (records_in (listing h s))))) lent
@@ -272,8 +267,8 @@ module _ (h : ℕ) (s lent : List ℕ) where
       go false q = sym (stored_refused (verdict 4 n) (flats (records_in l)) lent (λ e. omega arith))
 
   -- and so the whole reading, where the call may begin
-  pub read-both : {g : Gate} {k : Counted} {a : Answer} {after : List ℕ} (l : Listing) → Stops Refusal l → ((n : ℕ) → tally 0 l ≡ Total n → l ≡ listing h s)
-      → g ≡ Open → k ≡ tally 0 l → Ends k a after → (a ≡ answer_of g l room) × (after ≡ stored (answer_of g l room).verdict (flats (records_in l)) lent)
+  pub read-both : {g : Result ⊤ Verdict} {k : Result ℕ Verdict} {a : Answer} {after : List ℕ} (l : Listing) → Stops Refusal l → ((n : ℕ) → tally 0 l ≡ Ok n → l ≡ listing h s)
+      → g ≡ Ok tt → k ≡ tally 0 l → Ends k a after → (a ≡ answer_of g l room) × (after ≡ stored (answer_of g l room).verdict (flats (records_in l)) lent)
   read-both {g} {k} l z f q t w =
       let u : answer_of g l room ≡ in_room room k = answer-counted l g room q (sym t) in
       (w.0 ∙ sym u, w.1 ∙ finished-is l z f k (sym t) ∙ ap (λ (x : Answer). stored x.verdict (flats (records_in l)) lent) (sym u))

@@ -11,18 +11,11 @@ ghost use Rattle.reading.specs.Listing.{listing, tally, records_in, flats};
 ghost use Rattle.reading.specs.Whole.{in_room, finished, read_answer, read_records};
 ghost use Rattle.reading.specs.Lengths.{remembered, Known, Lengths};
 
-use entry::{Cursor, Decoded, EntryRecord};
+use entry::{Cursor, EntryRecord};
 use entry_record::{WIDTH, put_entry};
-use ground::{Answer, BOUND, FEW_RECORDS, FINE, Gate, MOST_RECORDS, Verdict, bounds};
+use ground::{Answer, BOUND, FEW_RECORDS, FINE, MOST_RECORDS, Verdict, bounds};
 use mode_code::{code_at, quick_code};
 use scan::find_nul;
-
-// How many entries an object has, or the refusal that reading it met.
-#[derive(Clone, Copy)]
-pub enum Counted {
-    Total(usize),
-    Stopped(Verdict),
-}
 
 // The code of the mode at a place, the written ones tried first.
 fn mode_code(s: &[u8], at: usize) -> usize
@@ -41,8 +34,8 @@ fn verdict_at(s: &[u8], h: usize, at: usize) -> Verdict
 {
     let c = Cursor { at };
     match c.decode(s, h) {
-        Decoded::Whole(_, _) => FINE,
-        Decoded::Broken(v) => v,
+        Ok((_, _)) => FINE,
+        Err(v) => v,
     }
 }
 
@@ -50,13 +43,9 @@ fn verdict_at(s: &[u8], h: usize, at: usize) -> Verdict
 fn remember(lengths: &mut [u8], n: usize, len: usize)
     ensures { lengths.new ≡ remembered lengths.old n len }
 {
-    if lengths.len() <= n {
-        return;
+    if n < lengths.len() && len <= 255 {
+        lengths[n] = len as u8;
     }
-    if 255 < len {
-        return;
-    }
-    lengths[n] = len as u8;
 }
 
 // Where the name of entry n ends, which starts at a place: by its length where that is kept, else it is sought.
@@ -75,7 +64,7 @@ fn name_end(s: &[u8], from: usize, lengths: &[u8], n: usize) -> usize
 }
 
 // The first pass of the plain reader, which keeps the names' lengths for the second.
-fn count_plain(s: &[u8], h: usize, lengths: &mut [u8]) -> Counted
+fn count_plain(s: &[u8], h: usize, lengths: &mut [u8]) -> Result<usize, Verdict>
     requires { Lengths h s.now lengths.old }
     ensures count { result ≡ tally 0 (listing h s.now) }
     ensures lengths { Lengths h s.now lengths.new }
@@ -84,26 +73,26 @@ fn count_plain(s: &[u8], h: usize, lengths: &mut [u8]) -> Counted
     let mut n: usize = 0;
     while at < s.len() {
         if MOST_RECORDS <= n {
-            return Counted::Stopped(Verdict {
+            return Err(Verdict {
                 number: BOUND,
                 ..FINE
             });
         }
         let code = mode_code(s, at);
         if code == 0 {
-            return Counted::Stopped(verdict_at(s, h, at));
+            return Err(verdict_at(s, h, at));
         }
         let from = at + code % 16;
         let end = find_nul(s, from);
         let left = s.len() - end;
         if left <= h {
-            return Counted::Stopped(verdict_at(s, h, at));
+            return Err(verdict_at(s, h, at));
         }
         remember(lengths, n, end - from);
         at = end + 1 + h;
         n += 1;
     }
-    Counted::Total(n)
+    Ok(n)
 }
 
 // The second pass: the records of the first entries that can be read, so many at most, from the front of the lent list.
@@ -112,8 +101,7 @@ fn fill(s: &[u8], h: usize, count: usize, lengths: &[u8], records: &mut [usize])
     ensures { records.new ≡ sets records.old 0 (flats (take count (records_in (listing h s.now)))) }
 {
     let mut at: usize = 0;
-    let mut n: usize = 0;
-    while n < count {
+    for n in 0..count {
         if MOST_RECORDS <= n {
             return;
         }
@@ -138,23 +126,28 @@ fn fill(s: &[u8], h: usize, count: usize, lengths: &[u8], records: &mut [usize])
         };
         put_entry(records, n, e);
         at = id_start + h;
-        n += 1;
     }
 }
 
 // The end of a reading, once its entries were counted, by the names' lengths that are known: 4 where the lent list is too short for them, else
 // their records are stored.
-fn finish_by(s: &[u8], h: usize, got: Counted, lengths: &[u8], records: &mut [usize]) -> Answer
+fn finish_by(
+    s: &[u8],
+    h: usize,
+    got: Result<usize, Verdict>,
+    lengths: &[u8],
+    records: &mut [usize],
+) -> Answer
     requires { Lengths h s.now lengths.now }
     ensures answer { result ≡ in_room (many (length records.old)) got }
     ensures records { records.new ≡ finished h s.now got records.old }
 {
     match got {
-        Counted::Stopped(v) => Answer {
+        Err(v) => Answer {
             verdict: v,
             count: 0,
         },
-        Counted::Total(n) => {
+        Ok(n) => {
             if records.len() / WIDTH < n {
                 return Answer {
                     verdict: Verdict {
@@ -175,7 +168,7 @@ fn finish_by(s: &[u8], h: usize, got: Counted, lengths: &[u8], records: &mut [us
 }
 
 // The same where none is known.
-pub fn finish(s: &[u8], h: usize, got: Counted, records: &mut [usize]) -> Answer
+pub fn finish(s: &[u8], h: usize, got: Result<usize, Verdict>, records: &mut [usize]) -> Answer
     ensures answer { result ≡ in_room (many (length records.old)) got }
     ensures records { records.new ≡ finished h s.now got records.old }
 {
@@ -226,10 +219,10 @@ pub fn read_tree(bytes: &[u8], h: usize, records: &mut [usize]) -> Answer
 {
     let room = records.len() / WIDTH;
     match bounds(h, bytes.len(), room) {
-        Gate::Shut(v) => Answer {
+        Err(v) => Answer {
             verdict: v,
             count: 0,
         },
-        Gate::Open => read_plain(bytes, h, records),
+        Ok(()) => read_plain(bytes, h, records),
     }
 }

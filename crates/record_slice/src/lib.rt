@@ -2,7 +2,7 @@
 // them (`bisect_records`), or over the first of an array that is passed by value (`bisect_array`).
 #![tactic(auto)]
 
-ghost use Rattle.std.specs.Prelude.{◌≡◌, min, take};
+ghost use Rattle.std.specs.Prelude.{◌≡◌, take};
 ghost use Rattle.lookup.specs.Lookup.{lookup_in};
 
 use entry::EntryRecord;
@@ -30,16 +30,6 @@ pub fn bisect_records(
     answer(p)
 }
 
-// A count of records in an array: no more than it has room for.
-fn within(count: usize) -> usize
-    ensures { result ≡ min count 64 }
-{
-    if count < ROOM {
-        return count;
-    }
-    ROOM
-}
-
 // The lookup among the first `count` records of an array, or among all 64 where the count is more.
 pub fn bisect_array(
     object: &[u8],
@@ -51,6 +41,6 @@ pub fn bisect_array(
 ) -> Looked
     ensures { result ≡ lookup_in h object.now (take count records) name.now folder }
 {
-    let n = within(count);
+    let n = count.min(ROOM);
     bisect_records(object, h, &records[..n], name, folder)
 }

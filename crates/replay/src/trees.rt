@@ -4,7 +4,7 @@ use crate::wide::wide;
 use entry::EntryRecord;
 use entry_record::entry_at;
 use lookup::Looked;
-use mode::{EntryMode, ModeRead};
+use mode::EntryMode;
 use output::put;
 use record_slice::{ROOM, bisect_array};
 use std::array;
@@ -12,8 +12,8 @@ use std::array;
 // Where the rest begins behind a mode text that an entry begins with, and 0 where there is none.
 fn rest(text: &[u8]) -> usize {
     match EntryMode::extract_at(text, 0) {
-        ModeRead::Mode(_, rest) => rest,
-        ModeRead::Bad => 0,
+        Some((_, rest)) => rest,
+        None => 0,
     }
 }
 

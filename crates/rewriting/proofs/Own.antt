@@ -10,7 +10,6 @@ use Rattle.ground.specs.Verdict.{most_records}
 use Rattle.ground.proofs.Laws.{id_small}
 use Rattle.mode.specs.Read.{read_mode}
 use Rattle.mode_text.specs.Write.{write_mode, again}
-use Rattle.mode.specs.declared.ModeRead.TheVariants.{Mode}
 use Rattle.mode_round.proofs.Again.{written_reads}
 use Rattle.mode_round.proofs.Space.{read_count, read_small, mode-space}
 use Rattle.entry.specs.Record.{name_of, id_of}
@@ -18,20 +17,19 @@ use Rattle.entry.specs.Entry.{entry_bytes, as_written, entry_of, entries_of}
 use Rattle.entry.specs.Decode.{decode}
 use Rattle.entry.specs.declared.EntryRecord.{EntryRecord}
 use Rattle.entry.specs.declared.Cursor.{Cursor}
-use Rattle.entry.specs.declared.Decoded.{Decoded}
-use Rattle.entry.specs.declared.Decoded.TheVariants.{Whole, Broken}
 use Rattle.entry.proofs.Laws.{Parts, decode-parts}
 use Rattle.reading.specs.Listing.{follow, plain, records_in, tally}
-use Rattle.reading.specs.declared.Counted.TheVariants.{Total}
 use Rattle.one_listing.proofs.Cutting.{name-is, id-sized, bytes-are, rest-there}
 use Rattle.tree_round.specs.Demand.{SomeModes}
 use Rattle.rewriting.specs.Demand.{text_in, TextsAsWritten, OwnRewrite}
 use Rattle.rewriting.proofs.Read.{accepted, bounds}
 use Rattle.rewriting.proofs.Settle.{first}
+use Rattle.ground.specs.declared.Verdict.{Verdict}
+use Rattle.std.specs.Prelude.{Err, Ok, Result, Some}
 
 -- ---- a mode text and its space
 
-module _ (b : List ℕ) (m n : ℕ) (e : read_mode b ≡ Mode (record { internal = m }) n) (p : 7 < length b) where
+module _ (b : List ℕ) (m n : ℕ) (e : read_mode b ≡ Some (record { internal = m }, n)) (p : 7 < length b) where
   with_space : take n b ≡ take (n - 1) b ++ 32 ∷ []
   with_space =
       let s = mode-space b m n e p in
@@ -46,7 +44,7 @@ module _ (b : List ℕ) (m n : ℕ) (e : read_mode b ≡ Mode (record { internal
   -- a text that was read, and a written text, in front of the same bytes
   same_text : (y : List ℕ) → (m ≡ 0 → ⊥) → write_mode m ++ 32 ∷ y ≡ b → n ≡ length (write_mode m) + 1
   same_text y z q =
-      let w : read_mode (write_mode m ++ 32 ∷ y) ≡ Mode (record { internal = again m }) (length (write_mode m) + 1) = written_reads m y z (read_small b m n e) in
+      let w : read_mode (write_mode m ++ 32 ∷ y) ≡ Some (record { internal = again m }, length (write_mode m) + 1) = written_reads m y z (read_small b m n e) in
       let c : n ≡ count_to 32 b + 1 = read_count b m n e p in
       let d : length (write_mode m) + 1 ≡ count_to 32 (write_mode m ++ 32 ∷ y) + 1
       = read_count (write_mode m ++ 32 ∷ y) (again m) (length (write_mode m) + 1) w (rw q p) in
@@ -100,7 +98,7 @@ module _ (h : ℕ) (s : List ℕ) (o : 6 < h) (at : ℕ) (b : List ℕ) (q : dro
 -- ---- all of them
 
 module _ (h : ℕ) (s : List ℕ) (o : 6 < h) where
-  texts-same : (k at m n : ℕ) (b : List ℕ) → drop at s ≡ b → tally m (plain h k at b) ≡ Total n → TextsAsWritten s (records_in (plain h k at b))
+  texts-same : (k at m n : ℕ) (b : List ℕ) → drop at s ≡ b → tally m (plain h k at b) ≡ Ok n → TextsAsWritten s (records_in (plain h k at b))
       → b ≡ as_written (entries_of h s (records_in (plain h k at b)))
   unfolding plain follow tally records_in as_written
   texts-same zero at m n [] q t w = refl
@@ -108,16 +106,16 @@ module _ (h : ℕ) (s : List ℕ) (o : 6 < h) where
   texts-same (suc k) at m n [] q t w = refl
   texts-same (suc k) at m n (x ∷ xs) q t w = go (λ i c. texts-same k i (m + 1) n c) (x ∷ xs) q (decode h at (x ∷ xs)) refl t w
     where
-      go : ((i : ℕ) (c : List ℕ) → drop i s ≡ c → tally (m + 1) (plain h k i c) ≡ Total n → TextsAsWritten s (records_in (plain h k i c))
+      go : ((i : ℕ) (c : List ℕ) → drop i s ≡ c → tally (m + 1) (plain h k i c) ≡ Ok n → TextsAsWritten s (records_in (plain h k i c))
           → c ≡ as_written (entries_of h s (records_in (plain h k i c))))
-          → (b : List ℕ) → drop at s ≡ b → (d : Decoded) → decode h at b ≡ d → tally m (follow (plain h k) at b d) ≡ Total n
+          → (b : List ℕ) → drop at s ≡ b → (d : Result (EntryRecord × Cursor) Verdict) → decode h at b ≡ d → tally m (follow (plain h k) at b d) ≡ Ok n
           → TextsAsWritten s (records_in (follow (plain h k) at b d))
           → b ≡ as_written (entries_of h s (records_in (follow (plain h k) at b d)))
-      go ih b q (Whole e next) d t w =
+      go ih b q (Ok (e, next)) d t w =
           let P = decode-parts h at b e next d in
           as-text h s o at b q e next P w.0
           ∙ ap (λ (r : List ℕ). entry_bytes (entry_of h s e) ++ r) (ih next.at (drop (next.at - at) b) (rest-there h s at b q e next P) t w.1)
-      go ih b q (Broken v) d t w = let z : ◌≡◌ {A = ℕ} 0 1 = cc in absurd (omega arith)
+      go ih b q (Err v) d t w = let z : ◌≡◌ {A = ℕ} 0 1 = cc in absurd (omega arith)
 
   same-texts : (k at : ℕ) (b : List ℕ) → drop at s ≡ b → SomeModes (records_in (plain h k at b)) → as_written (entries_of h s (records_in (plain h k at b))) ≡ b
       → TextsAsWritten s (records_in (plain h k at b))
@@ -129,15 +127,15 @@ module _ (h : ℕ) (s : List ℕ) (o : 6 < h) where
     where
       go : ((i : ℕ) (c : List ℕ) → drop i s ≡ c → SomeModes (records_in (plain h k i c))
           → as_written (entries_of h s (records_in (plain h k i c))) ≡ c → TextsAsWritten s (records_in (plain h k i c)))
-          → (b : List ℕ) → drop at s ≡ b → (d : Decoded) → decode h at b ≡ d → SomeModes (records_in (follow (plain h k) at b d))
+          → (b : List ℕ) → drop at s ≡ b → (d : Result (EntryRecord × Cursor) Verdict) → decode h at b ≡ d → SomeModes (records_in (follow (plain h k) at b d))
           → as_written (entries_of h s (records_in (follow (plain h k) at b d))) ≡ b → TextsAsWritten s (records_in (follow (plain h k) at b d))
-      go ih b q (Whole e next) d m g =
+      go ih b q (Ok (e, next)) d m g =
           let P = decode-parts h at b e next d in
           let r : List ℕ = as_written (entries_of h s (records_in (plain h k next.at (drop (next.at - at) b)))) in (
             only-text h s o at b q e next P m.0 r g,
             ih next.at (drop (next.at - at) b) (rest-there h s at b q e next P) m.1 (only-rest h s o at b q e next P m.0 r g),
           )
-      go ih b q (Broken v) d m g = tt
+      go ih b q (Err v) d m g = tt
 
 pub own_rewrite : OwnRewrite
 own_rewrite h s lent n g =

@@ -9,7 +9,6 @@ use lib.ListN.{length, take, drop}
 use lib.Seq.{take_at}
 use Rattle.ground.specs.Scan.{free_of}
 use Rattle.ground.specs.Verdict.{counted, gate_of, most_records, most_bytes}
-use Rattle.ground.specs.declared.Gate.TheVariants.{Open}
 use Rattle.ground.specs.declared.Verdict.{Verdict}
 use Rattle.ground.specs.declared.Answer.{Answer}
 use Rattle.ground.proofs.Laws.{free-count, gate_open, stored-done}
@@ -17,12 +16,9 @@ use Rattle.entry.specs.Record.{width, many, records_of, name_of}
 use Rattle.entry.specs.Entry.{entry_of, entries_of}
 use Rattle.entry.specs.Decode.{decode}
 use Rattle.entry.specs.declared.EntryRecord.{EntryRecord}
-use Rattle.entry.specs.declared.Decoded.{Decoded}
-use Rattle.entry.specs.declared.Decoded.TheVariants.{Whole, Broken}
 use Rattle.entry.proofs.Laws.{decode-parts, well_parts}
 use Rattle.reading.specs.Listing.{listing, follow, plain, records_in, flats, tally}
 use Rattle.reading.specs.Whole.{read_answer, read_records}
-use Rattle.reading.specs.declared.Counted.TheVariants.{Total}
 use Rattle.reading.proofs.Laws.{answer-done, plain-refuses, tally-length, flats-length}
 use Rattle.one_listing.proofs.Back.{AllWritable}
 use Rattle.one_listing.proofs.Cutting.{name-is, rest-there}
@@ -32,6 +28,8 @@ use Rattle.tree_write.proofs.Done.{writes}
 use Rattle.tree_round.specs.Demand.{SomeModes}
 use Rattle.tree_round.proofs.Returned.{AllGood, plain-good, flats-records}
 use Rattle.rewriting.specs.Demand.{rewrite, Passes}
+use Rattle.entry.specs.declared.Cursor.{Cursor}
+use Rattle.std.specs.Prelude.{Err, Ok, Result}
 
 abbrev pub AllFree : List ℕ → List EntryRecord → Type 0
 AllFree s [] = Unit {0}
@@ -45,10 +43,10 @@ plain_free h s zero at (x ∷ xs) q = tt
 plain_free h s (suc k) at [] q = tt
 plain_free h s (suc k) at (x ∷ xs) q = go (plain_free h s k) (x ∷ xs) q (decode h at (x ∷ xs)) refl
   where
-    go : ((i : ℕ) (c : List ℕ) → drop i s ≡ c → AllFree s (records_in (plain h k i c))) → (b : List ℕ) → drop at s ≡ b → (d : Decoded) → decode h at b ≡ d
+    go : ((i : ℕ) (c : List ℕ) → drop i s ≡ c → AllFree s (records_in (plain h k i c))) → (b : List ℕ) → drop at s ≡ b → (d : Result (EntryRecord × Cursor) Verdict) → decode h at b ≡ d
         → AllFree s (records_in (follow (plain h k) at b d))
-    go ih b q (Broken v) d = tt
-    go ih b q (Whole e next) d =
+    go ih b q (Err v) d = tt
+    go ih b q (Ok (e, next)) d =
         let p = decode-parts h at b e next d in
         (ap (free_of 0) (name-is h s at b q e next p) ∙ free-count 0 (drop p.size b), ih next.at (drop (next.at - at) b) (rest-there h s at b q e next p))
 
@@ -74,7 +72,7 @@ read_writable h s m = free_writable h s (records_in (listing h s)) (plain-good h
 -- ---- an object that is accepted
 
 module _ (h : ℕ) (s lent : List ℕ) (n : ℕ) (a : read_answer h s (listing h s) lent ≡ counted n) where
-  pub accepted : (gate_of h (length s) (many (length lent)) ≡ Open) × (tally 0 (listing h s) ≡ Total n) × (n ≤ many (length lent))
+  pub accepted : (gate_of h (length s) (many (length lent)) ≡ Ok tt) × (tally 0 (listing h s) ≡ Ok n) × (n ≤ many (length lent))
   accepted = answer-done (listing h s) h (length s) (many (length lent)) (many (length lent)) n (plain-refuses h s) a
 
   pub count-is : n ≡ length (records_in (listing h s))

@@ -15,7 +15,6 @@ use Rattle.mode_round.proofs.Again.{again-same, again_less}
 use Rattle.entry.specs.Record.{many}
 use Rattle.entry.specs.Entry.{Entry, entry_bytes, as_written, entry_of, entries_of}
 use Rattle.reading.specs.Listing.{Listing, listing, records_in, tally}
-use Rattle.reading.specs.declared.Counted.TheVariants.{Total}
 use Rattle.reading.proofs.Laws.{answer-counted, room-fine}
 use Rattle.one_listing.proofs.Back.{AllWritable, record_for, listed, read_written, names-listed}
 use Rattle.one_listing.specs.Again.{again_entry}
@@ -23,6 +22,7 @@ use Rattle.one_listing.proofs.Theorem.{listed_total}
 use Rattle.tree_round.specs.Demand.{SomeModes}
 use Rattle.rewriting.specs.Demand.{rewrite, times, Given, AcceptedAgain, SecondLasts}
 use Rattle.rewriting.proofs.Read.{read_writable, accepted, count-is, bounds}
+use Rattle.std.specs.Prelude.{Ok}
 
 -- ---- a mode as it reads again
 
@@ -110,7 +110,7 @@ module _ (h : ℕ) (es : List Entry) (f : AllWritable h es) (p : length es ≤ m
       → Given h (as_written es) lent (length es)
   given-written lent i small few fits =
       let z : 0 + length es ≡ length es = omega arith in
-      let t : tally 0 (listing h (as_written es)) ≡ Total (length es) = ap (tally 0) reads ∙ listed_total 0 0 es ∙ ap Total z in
+      let t : tally 0 (listing h (as_written es)) ≡ Ok (length es) = ap (tally 0) reads ∙ listed_total 0 0 es ∙ ap Ok z in
       record {
         answer = answer-counted (listing h (as_written es)) _ (many (length lent)) (gate_fine h (length (as_written es)) (many (length lent)) i small few) t
             ∙ room-fine (many (length lent)) (length es) fits;

@@ -1,5 +1,5 @@
 -- Why each condition is there, computed: rewritings of objects of one entry, with ids of 20 bytes. Assumes nothing.
-use Rattle.std.specs.Prelude.{ℕ, ◌≡◌, refl, List, [], ◌∷◌, ◌++◌, map, replicate}
+use Rattle.std.specs.Prelude.{ℕ, ◌≡◌, refl, List, [], ◌∷◌, ◌++◌, map, replicate, Err, Ok}
 use Prim.Native.String.{String}
 use Rattle.ground.specs.Basics.{ascii}
 use Rattle.ground.specs.Verdict.{broken}
@@ -11,7 +11,6 @@ use Rattle.entry.specs.Entry.{entry_bytes, as_written, entry_of}
 use Rattle.entry.specs.Decode.{decode_name, decode_mode, decode}
 use Rattle.entry.specs.declared.EntryRecord.{EntryRecord}
 use Rattle.reading.specs.Listing.{follow, plain, listing, records_in, tally}
-use Rattle.reading.specs.declared.Counted.TheVariants.{Total, Stopped}
 use Rattle.rewriting.specs.Demand.{rewrite, times}
 
 -- a mode text, the mode that it reads as, and the texts after three rewrites
@@ -59,12 +58,12 @@ unfolding rewrite times octal_from has_six text_len settle rest_at read_text rea
 examples_hold = refl
 
 -- each of them is accepted at last
-pub accepted_hold : map (λ (e : Example). tally 0 (listing 20 (object e.third))) examples ≡ map (λ (e : Example). Total 1) examples
+pub accepted_hold : map (λ (e : Example). tally 0 (listing 20 (object e.third))) examples ≡ map (λ (e : Example). Ok 1) examples
 unfolding octal_from has_six text_len settle rest_at read_text read_mode decode_name decode_mode decode follow plain tally
 accepted_hold = refl
 
 -- P14: mode 0 is written as `0`, and with this name and this id that is refused 3
-pub zero_lost : (times 20 1 (object "000000") ≡ object "0") × (tally 0 (listing 20 (object "0")) ≡ Stopped (broken 0 1))
+pub zero_lost : (times 20 1 (object "000000") ≡ object "0") × (tally 0 (listing 20 (object "0")) ≡ Err (broken 0 1))
 unfolding rewrite times octal_from has_six text_len settle rest_at read_text read_mode trimmed write_mode name_of id_of entry_bytes as_written entry_of
     decode_name decode_mode decode follow plain records_in tally
 zero_lost = (refl, refl)

@@ -11,7 +11,6 @@ use Rattle.ground.specs.Basics.{pick, ascii}
 use Rattle.ground.specs.Scan.{same_bytes, free_of}
 use Rattle.ground.specs.Verdict.{verdict, most_bytes, most_records, id_length, size_gate, gate_of, is_set}
 use Rattle.ground.specs.declared.Verdict.{Verdict}
-use Rattle.ground.specs.declared.Gate.TheVariants.{Open, Shut}
 use Rattle.ground.proofs.Laws.{and_left, and_right, gate_open}
 use Rattle.names.proofs.Laws.{plain-parts}
 use Rattle.mode.specs.Mode.{value_of, sort_of, executes, kind_of}
@@ -20,11 +19,11 @@ use Rattle.mode_table.specs.Table.{rows, row_at, written_of, find_text}
 use Rattle.mode_text.specs.Write.{shown}
 use Rattle.mode_text.specs.Write.{trimmed, write_mode, mode_text}
 use Rattle.mode_table.specs.declared.Written.{Written}
-use Rattle.mode_table.specs.declared.ModeFound.TheVariants as found
 use Rattle.rules.specs.Rules.{is_text, group_row, modes_of, permitted, name_number, bare_number}
 use Rattle.rules.specs.Gate.{rule_gate}
 use Rattle.rules.specs.Code.{is_group}
 pub use Rattle.names.proofs.Laws.{name-empty, number-bad, number-slash, number-slashless}
+use Rattle.std.specs.Prelude.{Err, None, Ok, Some, Result, ⊤}
 
 -- ---- a mode text
 
@@ -36,20 +35,20 @@ or-none : (a : Bool) → (a || false) ≡ a
 or-none true = refl
 or-none false = refl
 
-text-found : (t : List ℕ) (rs : List Written) (m : ℕ) → find_text t rs ≡ found.Mode m → is_text rs t ≡ true
+text-found : (t : List ℕ) (rs : List Written) (m : ℕ) → find_text t rs ≡ Some m → is_text rs t ≡ true
 text-found t [] m e = let z : ◌≡◌ {A = ℕ} 0 1 = cc in absurd (omega arith)
 text-found t (r ∷ rs) m e = go (text-found t rs m) (same_bytes t (shown r.text)) e
   where
-    go : (find_text t rs ≡ found.Mode m → is_text rs t ≡ true) → (v : Bool) → pick v (found.Mode r.mode) (find_text t rs) ≡ found.Mode m
+    go : (find_text t rs ≡ Some m → is_text rs t ≡ true) → (v : Bool) → pick v (Some r.mode) (find_text t rs) ≡ Some m
         → (v || is_text rs t) ≡ true
     go ih true e = refl
     go ih false e = ih e
 
-text-none : (t : List ℕ) (rs : List Written) → find_text t rs ≡ found.None → is_text rs t ≡ false
+text-none : (t : List ℕ) (rs : List Written) → find_text t rs ≡ None → is_text rs t ≡ false
 text-none t [] e = refl
 text-none t (r ∷ rs) e = go (text-none t rs) (same_bytes t (shown r.text)) e
   where
-    go : (find_text t rs ≡ found.None → is_text rs t ≡ false) → (v : Bool) → pick v (found.Mode r.mode) (find_text t rs) ≡ found.None
+    go : (find_text t rs ≡ None → is_text rs t ≡ false) → (v : Bool) → pick v (Some r.mode) (find_text t rs) ≡ None
         → (v || is_text rs t) ≡ false
     go ih true e = let z : ◌≡◌ {A = ℕ} 0 1 = cc in absurd (omega arith)
     go ih false e = ih e
@@ -76,10 +75,10 @@ module _ (k : ℕ) (t : List ℕ) where
       go true = rw e (or-none (same_bytes t (shown group_row.text)))
       go false = e
 
-  pub mode-found : (m : ℕ) → find_text t rows ≡ found.Mode m → is_text (modes_of k) t ≡ true
+  pub mode-found : (m : ℕ) → find_text t rows ≡ Some m → is_text (modes_of k) t ≡ true
   mode-found m e = texts_five (text-found t rows m e)
 
-  pub mode-none : find_text t rows ≡ found.None → is_text (modes_of k) t ≡ is_group k t
+  pub mode-none : find_text t rows ≡ None → is_text (modes_of k) t ≡ is_group k t
   mode-none e = texts-group (text-none t rows e)
 
   pub group-text : (eqb k 1 && same_bytes t (ascii "100664")) ≡ is_group k t
@@ -123,44 +122,44 @@ rule_known k h bytes records i = rw (set-made k i)
 
 -- with another it is shut, by 1 or by 19
 module _ (k h bytes records : ℕ) (other : is_set k ≡ false) where
-  pub rule_other : gate_of h 0 0 ≡ Open → rule_gate k h bytes records ≡ Shut (verdict 19 0)
+  pub rule_other : gate_of h 0 0 ≡ Ok tt → rule_gate k h bytes records ≡ Err (verdict 19 0)
   unfolding rule_gate gate_of
   rule_other e = rw other (go (id_length h) e)
     where
-      go : (v : Bool) → pick v (size_gate 0 0) (Shut (verdict 1 0)) ≡ Open → pick v (Shut (verdict 19 0)) (Shut (verdict 1 0)) ≡ Shut (verdict 19 0)
+      go : (v : Bool) → pick v (size_gate 0 0) (Err (verdict 1 0)) ≡ Ok tt → pick {A = Result ⊤ Verdict} v (Err (verdict 19 0)) (Err (verdict 1 0)) ≡ Err (verdict 19 0)
       go true e = refl
       go false e = let z : ◌≡◌ {A = ℕ} 0 1 = cc in absurd (omega arith)
 
-  pub rule_id : (v : Verdict) → gate_of h 0 0 ≡ Shut v → rule_gate k h bytes records ≡ Shut v
+  pub rule_id : (v : Verdict) → gate_of h 0 0 ≡ Err v → rule_gate k h bytes records ≡ Err v
   unfolding rule_gate gate_of size_gate
   rule_id v e = rw other (go (id_length h) e)
     where
-      go : (b : Bool) → pick b Open (Shut (verdict 1 0)) ≡ Shut v → pick b (Shut (verdict 19 0)) (Shut (verdict 1 0)) ≡ Shut v
+      go : (b : Bool) → pick {A = Result ⊤ Verdict} b (Ok tt) (Err (verdict 1 0)) ≡ Err v → pick {A = Result ⊤ Verdict} b (Err (verdict 19 0)) (Err (verdict 1 0)) ≡ Err v
       go true e = let z : ◌≡◌ {A = ℕ} 0 1 = cc in absurd (omega arith)
       go false e = e
 
 -- whatever it is shut with
 pub rule_shut : (P : Verdict → Type 0) → P (verdict 1 0) → P (verdict 19 0) → P (verdict 2 0) → (k h bytes records : ℕ) (v : Verdict)
-    → rule_gate k h bytes records ≡ Shut v → P v
+    → rule_gate k h bytes records ≡ Err v → P v
 unfolding rule_gate size_gate
 rule_shut P one nineteen two k h bytes records v e = go (id_length h) (is_set k) (leb bytes most_bytes && leb records most_records) e
   where
-    go : (a b c : Bool) → pick a (pick b (pick c Open (Shut (verdict 2 0))) (Shut (verdict 19 0))) (Shut (verdict 1 0)) ≡ Shut v → P v
+    go : (a b c : Bool) → pick {A = Result ⊤ Verdict} a (pick b (pick c (Ok tt) (Err (verdict 2 0))) (Err (verdict 19 0))) (Err (verdict 1 0)) ≡ Err v → P v
     go false b c e = let y : verdict 1 0 ≡ v = cc in rw y at one
     go true false c e = let y : verdict 19 0 ≡ v = cc in rw y at nineteen
     go true true false e = let y : verdict 2 0 ≡ v = cc in rw y at two
     go true true true e = let z : ◌≡◌ {A = ℕ} 0 1 = cc in absurd (omega arith)
 
 -- where it is open the rule set is one of the two
-pub rule_open : (k h bytes records : ℕ) → rule_gate k h bytes records ≡ Open → (k ≡ 1) ⊎ (k ≡ 2)
+pub rule_open : (k h bytes records : ℕ) → rule_gate k h bytes records ≡ Ok tt → (k ≡ 1) ⊎ (k ≡ 2)
 unfolding rule_gate
 rule_open k h bytes records e = go (id_length h) (is_set k) refl e
   where
-    go : (a b : Bool) → is_set k ≡ b → pick a (pick b (size_gate bytes records) (Shut (verdict 19 0))) (Shut (verdict 1 0)) ≡ Open → (k ≡ 1) ⊎ (k ≡ 2)
+    go : (a b : Bool) → is_set k ≡ b → pick a (pick b (size_gate bytes records) (Err (verdict 19 0))) (Err (verdict 1 0)) ≡ Ok tt → (k ≡ 1) ⊎ (k ≡ 2)
     go true true q e = set_is k q
     go true false q e = let z : ◌≡◌ {A = ℕ} 0 1 = cc in absurd (omega arith)
     go false b q e = let z : ◌≡◌ {A = ℕ} 0 1 = cc in absurd (omega arith)
 
 -- and the object is within its bound
-pub rule_bytes : (k h bytes records : ℕ) → rule_gate k h bytes records ≡ Open → bytes ≤ most_bytes
+pub rule_bytes : (k h bytes records : ℕ) → rule_gate k h bytes records ≡ Ok tt → bytes ≤ most_bytes
 rule_bytes k h bytes records e = (gate_open h bytes records (sym (rule_known k h bytes records (rule_open k h bytes records e)) ∙ e)).1

@@ -7,24 +7,24 @@ ghost use Rattle.rules.specs.Rules.{is_text, modes_of};
 ghost use Rattle.rules.specs.Gate.{rule_gate};
 ghost use Rattle.rules.specs.Code.{is_group};
 
-use ground::{FINE, Gate, RULE_SET, Verdict, bounds};
-use mode_table::{ModeFound, written_mode};
+use ground::{FINE, RULE_SET, Verdict, bounds};
+use mode_table::written_mode;
 pub use names::{name_number, reserved_number};
 use scan::same_bytes;
 
 // Refusals 1, 19 and 2: whether a call with a rule set may begin.
-pub fn rule_bounds(rules: u16, h: usize, bytes: usize, records: usize) -> Gate
+pub fn rule_bounds(rules: u16, h: usize, bytes: usize, records: usize) -> Result<(), Verdict>
     ensures { result ≡ rule_gate rules h bytes records }
 {
     if (rules == 1) | (rules == 2) {
         return bounds(h, bytes, records);
     }
     match bounds(h, 0, 0) {
-        Gate::Open => Gate::Shut(Verdict {
+        Ok(()) => Err(Verdict {
             number: RULE_SET,
             ..FINE
         }),
-        Gate::Shut(v) => Gate::Shut(v),
+        Err(v) => Err(v),
     }
 }
 
@@ -40,7 +40,7 @@ pub fn mode_permitted(rules: u16, text: &[u8]) -> bool
     ensures { result ≡ is_text (modes_of rules) text.now }
 {
     match written_mode(text) {
-        ModeFound::None => is_group(rules, text),
-        ModeFound::Mode(_) => true,
+        None => is_group(rules, text),
+        Some(_) => true,
     }
 }

@@ -1,25 +1,39 @@
 -- Laws of the scans: eight bytes of a list passed over, or stopped at, by the word that is made of them. Assumes nothing.
-use Prim.Native.Nat.{ℕ, zero, suc, ◌+◌, ◌<◌, ◌≤◌, min}
+use Prim.Native.Nat.{ℕ, zero, suc, ◌+◌, ◌-◌, ◌<◌, ◌≤◌, min}
 use mathlib.Core.Path.{◌≡◌, refl, sym, ap, ◌∙◌}
-use mathlib.Core.Bool.{Bool, true, false, not, ◌||◌, false≢true}
+use mathlib.Core.Bool.{Bool, true, false, not, ◌&&◌, ◌||◌, false≢true}
 use mathlib.Core.List.{List, [], ◌∷◌}
 use mathlib.Core.Logic.{⊎_elim}
+use native.Mathlib.Decide.{dec_lt}
+use native.Mathlib.Numerals.{add-one}
 use native.Mathlib.Omega.{arith}
 use lib.Bits.{bit_xor, xor_self}
 use lib.Dec.{eqb}
 use lib.ListN.{length, get_or, take, drop, length-drop}
 use lib.Seq.{drop-drop, get_or-drop}
-use borrow.Author.Tests.{eqb-true, eqb-false}
 use Rattle.ground.specs.Basics.{pick}
-use Rattle.ground.specs.Scan.{count_to, place_from, common_start}
-use Rattle.ground.proofs.Laws.{equal, count-take, count_at, place-from, place-next, common_same, common_differ, common_left, common_right}
+use Rattle.ground.specs.Scan.{count_to, place_from, common_start, free_of}
+use Rattle.ground.proofs.Laws.{equal, count-take, count_at, place-from, free_whole, whole_free, common_same, common_differ, common_left, common_right}
 use Rattle.scan.specs.Word.{WordOf, marks_of, zeros, FirstAt}
 use Rattle.scan.proofs.Word.{part_length, xors, xors_length, word_xors, xor-zero, zeros_all, zeros-some}
 
--- a byte more that is not x
-pub place-step : (x : ℕ) (s : List ℕ) (at k : ℕ) → at + k < length s → (get_or s (at + k) 0 ≡ x → ⊥) → place_from x s at ≡ place_from x s (at + k)
-    → place_from x s at ≡ place_from x s (at + (k + 1))
-place-step x s at k h n e = e ∙ place-next x s (at + k) h n ∙ ap (place_from x s) (omega arith)
+free_suc : (x : ℕ) (s : List ℕ) (k : ℕ) → k < length s → free_of x (take (suc k) s) ≡ (free_of x (take k s) && not (eqb (get_or s k 0) x))
+free_suc x [] k h = absurd (omega arith)
+free_suc x (b ∷ bs) zero h = go (eqb b x)
+  where
+    go : (v : Bool) → (not v && true) ≡ not v
+    go true = refl
+    go false = refl
+free_suc x (b ∷ bs) (suc k) h = go (eqb b x) (free_suc x bs k (omega arith))
+  where
+    go : (v : Bool) → free_of x (take (suc k) bs) ≡ (free_of x (take k bs) && not (eqb (get_or bs k 0) x))
+        → (not v && free_of x (take (suc k) bs)) ≡ ((not v && free_of x (take k bs)) && not (eqb (get_or bs k 0) x))
+    go true e = refl
+    go false e = e
+
+-- a byte more that is looked at
+pub free-step : (x : ℕ) (s : List ℕ) (k : ℕ) → k < length s → free_of x (take (k + 1) s) ≡ (free_of x (take k s) && not (eqb (get_or s k 0) x))
+free-step x s k h = rw (add-one k) (free_suc x s k h)
 
 -- an x is no further than where one stands
 pub place-most : (x : ℕ) (s : List ℕ) (at k : ℕ) → at + k < length s → get_or s (at + k) 0 ≡ x → place_from x s at ≤ at + k
@@ -41,10 +55,26 @@ place-over : (x : ℕ) (s : List ℕ) (i k : ℕ) → k ≤ count_to x (drop i s
 unfolding place_from
 place-over x s i k h = rw (← drop-drop k i s) (omega (arith, count-over x k (drop i s) h))
 
--- none of n bytes is x, nor then of fewer
-pub place-part : (x : ℕ) (s : List ℕ) (i n k : ℕ) → place_from x s i ≡ place_from x s (i + n) → k ≤ n → place_from x s i ≡ place_from x s (i + k)
+-- where none is x up to a place, none is up to one before it
+pub place-part : (x : ℕ) (s : List ℕ) (i k j : ℕ) → i ≤ k → k ≤ j → place_from x s i ≡ place_from x s j → place_from x s i ≡ place_from x s k
 unfolding place_from
-place-part x s i n k e h = place-over x s i k (omega (arith, e, place-from x s (i + n)))
+place-part x s i k j g h e =
+    place-over x s i (k - i) (omega (arith, e, place-from x s j)) ∙ ap (place_from x s) (omega arith)
+
+-- some bytes of which none is x
+pub place-clear : (x : ℕ) (s : List ℕ) (i k j : ℕ) → j ≡ i + k → j ≤ length s → free_of x (take k (drop i s)) ≡ true → place_from x s i ≡ place_from x s j
+place-clear x s i k j f h e =
+    place-over x s i k (omega (arith, whole_free x (take k (drop i s)) e, part_length s i k (omega arith), count-take x k (drop i s)))
+    ∙ ap (place_from x s) (sym f)
+
+-- some bytes of which one is x
+pub place-met : (x : ℕ) (s : List ℕ) (i k j : ℕ) → j ≡ i + k → j ≤ length s → free_of x (take k (drop i s)) ≡ false → place_from x s i < j
+unfolding place_from
+place-met x s i k j f h e =
+    elim (dec_lt (count_to x (drop i s)) k) [
+      | yes g ↦ omega arith
+      | no g ↦ absurd (false≢true (sym e ∙ free_whole x (take k (drop i s)) (omega (arith, part_length s i k (omega arith), count-take x k (drop i s)))))
+    ]
 
 -- the first mark stands where the first x stands
 zeros-marks : (x : ℕ) (bs : List ℕ) → zeros (marks_of x bs) ≡ count_to x bs
@@ -84,26 +114,19 @@ module _ (x : ℕ) (s : List ℕ) (i m : ℕ) (h : i + 8 ≤ length s) (p : Word
   pub place-among : (r : ℕ) → FirstAt m r → place_from x s i < i + 8 → place_from x s i ≡ i + r
   place-among r g l = place_in r g (λ e. absurd (omega (arith, place-past (i + 8) e refl, place-from x s (i + 8))))
 
--- ---- a block that has neither of two bytes, or one
+-- ---- a block that lacks both of two bytes, or one
 
-module _ (a b : ℕ) where
-  -- the first number is 0 where one of the two is not: the second is not
-  pub only-second : (not (eqb a 0) || not (eqb b 0)) ≡ true → not (eqb a 0) ≡ false → (a ≡ 0) × (b ≡ 0 → ⊥)
-  only-second t f = go (eqb a 0) refl (eqb b 0) refl t f
-    where
-      go : (x : Bool) → eqb a 0 ≡ x → (y : Bool) → eqb b 0 ≡ y → (not x || not y) ≡ true → not x ≡ false → (a ≡ 0) × (b ≡ 0 → ⊥)
-      go true p true q t f = absurd (false≢true t)
-      go true p false q t f = (eqb-true a 0 p, eqb-false b 0 q)
-      go false p y q t f = absurd (false≢true (sym f))
+-- it lacks the second: not the first
+pub only-first : (a b : Bool) → (not a || not b) ≡ true → b ≡ true → a ≡ false
+only-first true true t f = absurd (false≢true t)
+only-first true false t f = absurd (false≢true f)
+only-first false b t f = refl
 
-  -- neither is anything else
-  pub neither-some : (not (eqb a 0) || not (eqb b 0)) ≡ false → (a ≡ 0) × (b ≡ 0)
-  neither-some t = go (eqb a 0) refl (eqb b 0) refl t
-    where
-      go : (x : Bool) → eqb a 0 ≡ x → (y : Bool) → eqb b 0 ≡ y → (not x || not y) ≡ false → (a ≡ 0) × (b ≡ 0)
-      go true p true q t = (eqb-true a 0 p, eqb-true b 0 q)
-      go true p false q t = absurd (false≢true (sym t))
-      go false p y q t = absurd (false≢true (sym t))
+-- it lacks both
+pub neither-some : (a b : Bool) → (not a || not b) ≡ false → (a ≡ true) × (b ≡ true)
+neither-some true true t = (refl, refl)
+neither-some true false t = absurd (false≢true (sym t))
+neither-some false b t = absurd (false≢true (sym t))
 
 -- ---- how far two lists agree
 

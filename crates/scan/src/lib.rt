@@ -1,8 +1,8 @@
 // The scans of bytes: eight, sixteen and thirty-two at a time.
 #![tactic(auto)]
 
-ghost use Rattle.std.specs.Prelude.{◌≡◌, ◌+◌, ◌≤◌, ◌<◌, min, length, take, drop};
-ghost use Rattle.ground.specs.Scan.{count_to, place_from, common_start, same_bytes};
+ghost use Rattle.std.specs.Prelude.{◌≡◌, ◌+◌, ◌*◌, ◌≤◌, ◌<◌, min, length, take, drop, MatchOption};
+ghost use Rattle.ground.specs.Scan.{count_to, place_from, common_start, same_bytes, free_of};
 ghost use Rattle.scan.specs.Word.{WordOf, marks_of, Marked, FirstAt};
 
 use ground::shorter;
@@ -12,35 +12,22 @@ const HIGHS: u64 = 0x8080808080808080;
 
 const LOWS: u64 = 0x0101010101010101;
 
-// A byte as a number of eight bytes.
-fn wide(x: u8) -> u64
-    ensures same { result ≡ x }
-    ensures small { result < 256 }
-{
-    x as u64
-}
-
-// Four bytes as one number, the first lowest.
-fn four(s: &[u8], i: usize) -> u64
-    requires { i + 4 ≤ length s.now }
-    ensures made { WordOf (take 4 (drop i s.now)) result }
-    ensures small { result < 4294967296 }
-{
-    let a = wide(s[i]);
-    let b = wide(s[i + 1]);
-    let c = wide(s[i + 2]);
-    let d = wide(s[i + 3]);
-    a + b * 256 + c * 65536 + d * 16777216
-}
-
 // Eight bytes as one number, the first lowest.
 fn eight(s: &[u8], i: usize) -> u64
     requires { i + 8 ≤ length s.now }
     ensures { WordOf (take 8 (drop i s.now)) result }
 {
-    let low = four(s, i);
-    let high = four(s, i + 4);
-    low + high * 4294967296
+    // By index: so written they are read at once.
+    u64::from_le_bytes([
+        s[i],
+        s[i + 1],
+        s[i + 2],
+        s[i + 3],
+        s[i + 4],
+        s[i + 5],
+        s[i + 6],
+        s[i + 7],
+    ])
 }
 
 // 128 in the place of each of eight bytes that is 0.
@@ -55,7 +42,7 @@ fn marks_at(s: &[u8], i: usize, x: u8) -> u64
     requires { i + 8 ≤ length s.now }
     ensures { WordOf (marks_of x (take 8 (drop i s.now))) result }
 {
-    marks(eight(s, i) ^ (wide(x) * LOWS))
+    marks(eight(s, i) ^ (u64::from(x) * LOWS))
 }
 
 // Which of eight bytes is the first that is not 0, where there is one.
@@ -63,7 +50,7 @@ fn place(m: u64) -> usize
     ensures first { FirstAt m result }
     ensures most { result ≤ 8 }
 {
-    (u64::trailing_zeros(m) / 8) as usize
+    m.trailing_zeros() as usize / 8
 }
 
 // Where x stands next at or after a place, or where the bytes end, byte by byte.
@@ -71,14 +58,12 @@ fn find_last(s: &[u8], from: usize, x: u8) -> usize
     requires { from ≤ length s.now }
     ensures { result ≡ place_from x s.now from }
 {
-    let mut i = from;
-    while i < s.len() {
+    for i in from..s.len() {
         if s[i] == x {
             return i;
         }
-        i += 1;
     }
-    i
+    s.len()
 }
 
 // The same, eight bytes at a time.
@@ -97,53 +82,33 @@ fn find_near(s: &[u8], from: usize, x: u8) -> usize
     find_last(s, i, x)
 }
 
-// 0 where none of n bytes from a place on is x, and 1 where one is. The loop has no way out.
-fn among(s: &[u8], at: usize, n: usize, x: u8) -> u8
-    requires { at + n ≤ length s.now }
-    ensures none { result ≡ 0 → place_from x s.now at ≡ place_from x s.now (at + n) }
-    ensures some { (result ≡ 0 → ⊥) → place_from x s.now at < at + n }
+// Whether no byte is x, of a few: each is looked at, so that many are at once.
+pub fn lacks(s: &[u8], x: u8) -> bool
+    ensures { result ≡ free_of x s.now }
 {
-    let mut hit: u8 = 0;
-    let mut k: usize = 0;
-    while k < n {
-        if s[at + k] == x {
-            hit = 1;
+    let mut free = true;
+    for b in s {
+        free &= *b != x;
+    }
+    free
+}
+
+// The first x of so many times eight bytes that have one.
+fn first_of(s: &[u8], from: usize, words: usize, x: u8) -> usize
+    requires in_bounds { from + 8 * words ≤ length s.now }
+    requires found { place_from x s.now from < from + 8 * words }
+    ensures { result ≡ place_from x s.now from }
+{
+    let last = words - 1;
+    for k in 0..last {
+        let i = from + 8 * k;
+        let m = marks_at(s, i, x);
+        if m != 0 {
+            return i + place(m);
         }
-        k += 1;
     }
-    hit
-}
-
-// The first x of sixteen bytes that have one.
-fn first_of_16(s: &[u8], j: usize, x: u8) -> usize
-    requires j_in_bounds { j + 16 ≤ length s.now }
-    requires j_bound { place_from x s.now j < j + 16 }
-    ensures { result ≡ place_from x s.now j }
-{
-    let a = marks_at(s, j, x);
-    if a != 0 {
-        return j + place(a);
-    }
-    let j1 = j + 8;
-    j1 + place(marks_at(s, j1, x))
-}
-
-// The first x of thirty-two bytes that have one.
-fn first_of_32(s: &[u8], j: usize, x: u8) -> usize
-    requires j_in_bounds { j + 32 ≤ length s.now }
-    requires j_bound { place_from x s.now j < j + 32 }
-    ensures { result ≡ place_from x s.now j }
-{
-    let a = marks_at(s, j, x);
-    if a != 0 {
-        return j + place(a);
-    }
-    let j1 = j + 8;
-    let b = marks_at(s, j1, x);
-    if b != 0 {
-        return j1 + place(b);
-    }
-    first_of_16(s, j + 16, x)
+    let i = from + 8 * last;
+    i + place(marks_at(s, i, x))
 }
 
 // Where x stands next at or after a place, or where the bytes end (the place itself if that is past the end).
@@ -155,8 +120,8 @@ pub fn find_byte(s: &[u8], from: usize, x: u8) -> usize
     }
     let mut i = from;
     while 32 <= s.len() - i {
-        if among(s, i, 32, x) != 0 {
-            return first_of_32(s, i, x);
+        if !lacks(&s[i..i + 32], x) {
+            return first_of(s, i, 4, x);
         }
         i += 32;
     }
@@ -170,30 +135,24 @@ pub fn count_to(s: &[u8], x: u8) -> usize
     find_near(s, 0, x)
 }
 
-// The block of thirty-two bytes that has the next NUL at or after a place, or where the bytes end. The last block ends with them, and may
-// overlap the one before.
-fn skip(s: &[u8], from: usize) -> usize
+// The block of thirty-two bytes that has the next NUL at or after a place. The last block ends with the bytes, and may overlap the one before.
+fn skip(s: &[u8], from: usize) -> Option<usize>
     requires { from + 32 ≤ length s.now }
-    ensures inside { result ≤ length s.now }
-    ensures same { place_from 0 s.now from ≡ place_from 0 s.now result }
-    ensures stops { result < length s.now → (result + 32 ≤ length s.now) × (place_from 0 s.now result < result + 32) }
+    ensures { MatchOption result (place_from 0 s.now from ≡ length s.now) (λ at. (at + 32 ≤ length s.now) × (place_from 0 s.now from ≡ place_from 0 s.now at)
+        × (place_from 0 s.now at < at + 32)) }
 {
+    let last = s.len() - 32;
     let mut at = from;
-    let mut left = s.len() - from - 32;
-    loop {
-        if among(s, at, 32, 0) != 0 {
-            return at;
+    while at < last {
+        if !lacks(&s[at..at + 32], 0) {
+            return Some(at);
         }
-        if 32 <= left {
-            at += 32;
-            left -= 32;
-            continue;
-        }
-        if left == 0 {
-            return s.len();
-        }
-        at += left;
-        left = 0;
+        at += 32;
+    }
+    if lacks(&s[last..], 0) {
+        None
+    } else {
+        Some(last)
     }
 }
 
@@ -202,11 +161,10 @@ fn find_far(s: &[u8], from: usize) -> usize
     requires { from + 32 ≤ length s.now }
     ensures { result ≡ place_from 0 s.now from }
 {
-    let j = skip(s, from);
-    if s.len() <= j {
-        return s.len();
+    match skip(s, from) {
+        Some(at) => first_of(s, at, 4, 0),
+        None => s.len(),
     }
-    first_of_32(s, j, 0)
 }
 
 // Where NUL stands next at or after a place, as find_byte says it. Most names end in the first sixteen bytes.
@@ -219,8 +177,8 @@ pub fn find_nul(s: &[u8], from: usize) -> usize
     if s.len() - from < 48 {
         return find_near(s, from, 0);
     }
-    if among(s, from, 16, 0) != 0 {
-        return first_of_16(s, from, 0);
+    if !lacks(&s[from..from + 16], 0) {
+        return first_of(s, from, 2, 0);
     }
     find_far(s, from + 16)
 }
@@ -235,12 +193,14 @@ pub fn find_nul_or_slash(s: &[u8], from: usize) -> usize
     }
     let mut i = from;
     while 16 <= s.len() - i {
-        let slash = among(s, i, 16, b'/') != 0;
-        if slash | (among(s, i, 16, 0) != 0) {
+        let block = &s[i..i + 16];
+        let nul = !lacks(block, 0);
+        let slash = !lacks(block, b'/');
+        if nul | slash {
             if slash {
                 break;
             }
-            return first_of_16(s, i, 0);
+            return first_of(s, i, 2, 0);
         }
         i += 16;
     }
@@ -252,14 +212,12 @@ fn common_last(a: &[u8], b: &[u8], n: usize, from: usize) -> usize
     requires { (n ≡ min (length a.now) (length b.now)) × (from ≤ n) }
     ensures { result ≡ from + common_start (drop from a.now) (drop from b.now) }
 {
-    let mut i = from;
-    while i < n {
+    for i in from..n {
         if a[i] != b[i] {
             return i;
         }
-        i += 1;
     }
-    i
+    n
 }
 
 // How far two runs of bytes agree.
@@ -282,8 +240,5 @@ pub fn common_start(a: &[u8], b: &[u8]) -> usize
 pub fn same_bytes(a: &[u8], b: &[u8]) -> bool
     ensures { result ≡ same_bytes a.now b.now }
 {
-    if a.len() != b.len() {
-        return false;
-    }
-    common_start(a, b) == a.len()
+    a.len() == b.len() && common_start(a, b) == a.len()
 }

@@ -6,23 +6,23 @@ use native.Mathlib.Omega.{arith}
 use borrow.Author.Tests.{lt-ltb, le-ltb, ltb-true}
 use lib.Dec.{ltb}
 use Rattle.ground.specs.Basics.{pick}
-use Rattle.order.specs.declared.Order.{Order}
-use Rattle.order.specs.declared.Order.TheVariants.{Below, Same, Above}
 use Rattle.merge.specs.Merge.{by_order}
 use Rattle.seeking.specs.Index.{middle, halve, halved}
+use Rattle.std.specs.declared.cmp.Ordering.{Ordering}
+use Rattle.std.specs.declared.cmp.Ordering.TheVariants.{Equal, Greater, Less}
 
-by-order : (o : Order) (a a' b c c' : ℕ) → a ≡ a' → c ≡ c' → by_order o a b c ≡ by_order o a' b c'
-by-order Below a a' b c c' p q = p
-by-order Same a a' b c c' p q = refl
-by-order Above a a' b c c' p q = q
+by-order : (o : Ordering) (a a' b c c' : ℕ) → a ≡ a' → c ≡ c' → by_order o a b c ≡ by_order o a' b c'
+by-order Less a a' b c c' p q = p
+by-order Equal a a' b c c' p q = refl
+by-order Greater a a' b c c' p q = q
 
-halve-none : (f : ℕ → Order) (k low high : ℕ) → high ≤ low → halve f k low high ≡ low
+halve-none : (f : ℕ → Ordering) (k low high : ℕ) → high ≤ low → halve f k low high ≡ low
 unfolding halve
 halve-none f zero low high p = refl
 halve-none f (suc k) low high p = rw (le-ltb low high p)
 
 -- any number of halvings that is enough gives the same
-enough : (f : ℕ → Order) (k j low high : ℕ) → high - low ≤ k → high - low ≤ j → halve f k low high ≡ halve f j low high
+enough : (f : ℕ → Ordering) (k j low high : ℕ) → high - low ≤ k → high - low ≤ j → halve f k low high ≡ halve f j low high
 unfolding halve
 enough f zero j low high p q = halve-none f zero low high (omega arith) ∙ sym (halve-none f j low high (omega arith))
 enough f (suc k) zero low high p q = halve-none f (suc k) low high (omega arith)
@@ -38,7 +38,7 @@ enough f (suc k) (suc j) low high p q = go (λ a b u v. enough f k j a b u v) (l
         let l : low < high = ltb-true low high e in
         by-order (f m) _ _ m _ _ (ih (m + 1) high (omega arith) (omega arith)) (ih low m (omega arith) (omega arith))
 
-module _ (f : ℕ → Order) (low high : ℕ) where
+module _ (f : ℕ → Ordering) (low high : ℕ) where
   pub halved_end : high ≤ low → halved f low high ≡ low
   unfolding halved
   halved_end p = halve-none f (high - low) low high p
@@ -55,11 +55,11 @@ module _ (f : ℕ → Order) (low high : ℕ) where
             (by-order (f (middle low high)) _ _ (middle low high) _ _ (enough f (high - low) (high - (middle low high + 1)) (middle low high + 1) high (omega arith) (omega arith))
             (enough f (high - low) (middle low high - low) low (middle low high) (omega arith) (omega arith)))
 
-    pub halved-below : f (middle low high) ≡ Below → halved f low high ≡ halved f (middle low high + 1) high
+    pub halved-below : f (middle low high) ≡ Less → halved f low high ≡ halved f (middle low high + 1) high
     halved-below e = turn ∙ rw e
 
-    pub halved-same : f (middle low high) ≡ Same → halved f low high ≡ middle low high
+    pub halved-same : f (middle low high) ≡ Equal → halved f low high ≡ middle low high
     halved-same e = turn ∙ rw e
 
-    pub halved_above : f (middle low high) ≡ Above → halved f low high ≡ halved f low (middle low high)
+    pub halved_above : f (middle low high) ≡ Greater → halved f low high ≡ halved f low (middle low high)
     halved_above e = turn ∙ rw e

@@ -16,19 +16,17 @@ use Rattle.frame.specs.Frame.{head_of, frame_at, Frames, done, fault, frame, onw
 use Rattle.frame.specs.Place.{id_in, first_of, place_of}
 use Rattle.frame.specs.declared.Header.{Header}
 use Rattle.frame.specs.declared.Frame.{Frame}
-use Rattle.frame.specs.declared.Framed.{Framed}
-use Rattle.frame.specs.declared.Framed.TheVariants.{Whole, Broken}
-use Rattle.frame.specs.declared.Placed.TheVariants.{At}
 use Rattle.frame.proofs.Laws.{frame-inside, place-good}
 use Rattle.twice.specs.Ids.{ids_in, among, repeats}
 use Rattle.indexing.specs.Indexing.{elements_in}
 use Rattle.seeking.specs.Index.{looked, seek_at, seek_in, place_in, IsIndex}
+use Rattle.std.specs.Prelude.{None, Option, Some}
 
 -- an element stands for an object, and a walk for that object's id ends there
 record Stands (h : ℕ) (s id : List ℕ) (l : Frames) (x : ℕ) : Type 0 where
   object : Frame
-  framed : frame_at h (x / 2) (drop (x / 2) s) ≡ Whole object
-  first : same_bytes (id_in h s object) id ≡ true → first_of h s id l ≡ At object
+  framed : frame_at h (x / 2) (drop (x / 2) s) ≡ Some object
+  first : same_bytes (id_in h s object) id ≡ true → first_of h s id l ≡ Some object
   listed : same_bytes (id_in h s object) id ≡ true → among id (ids_in h s l) ≡ true
 
 or_left : (a b : Bool) → (a || b) ≡ false → a ≡ false
@@ -53,10 +51,10 @@ stands h s id zero at x r m = none (eqb at (length s)) m
 stands h s id (suc n) at x r m = go (λ (b : ℕ) u v. stands h s id n b x u v) (frame_at h at (drop at s)) refl r m
   where
     go : ((b : ℕ) → repeats (ids_in h s (frames h s n b)) ≡ false → Memᴰ x (elements_in (frames h s n b)) → Stands h s id (frames h s n b) x)
-        → (d : Framed) → frame_at h at (drop at s) ≡ d → repeats (ids_in h s (onward (frames h s n) d)) ≡ false → Memᴰ x (elements_in (onward (frames h s n) d))
+        → (d : Option Frame) → frame_at h at (drop at s) ≡ d → repeats (ids_in h s (onward (frames h s n) d)) ≡ false → Memᴰ x (elements_in (onward (frames h s n) d))
         → Stands h s id (onward (frames h s n) d) x
-    go ih Broken e r m = absurd (Memᴰ.not-nil m)
-    go ih (Whole g) e r m = ⊎_elim here there (Memᴰ.cases_cons m)
+    go ih None e r m = absurd (Memᴰ.not-nil m)
+    go ih (Some g) e r m = ⊎_elim here there (Memᴰ.cases_cons m)
       where
         l : Frames
         l = frames h s n g.end
@@ -96,7 +94,7 @@ pub sought : (s id : List ℕ) (k : Header) (index : List ℕ) → IsIndex s k i
 unfolding seek_in seek_at looked
 sought s id k index x = go (place_in k.h s index id) (ltb (place_in k.h s index id) (length index)) refl
   where
-    shown : (f : Frame) (t : Bool) → same_bytes (id_in k.h s f) id ≡ t → (same_bytes (id_in k.h s f) id ≡ true → place_of s id ≡ At f) → pick t (At f) (place_of s id) ≡ place_of s id
+    shown : (f : Frame) (t : Bool) → same_bytes (id_in k.h s f) id ≡ t → (same_bytes (id_in k.h s f) id ≡ true → place_of s id ≡ Some f) → pick t (Some f) (place_of s id) ≡ place_of s id
     shown f true e g = sym (g e)
     shown f false e g = refl
 

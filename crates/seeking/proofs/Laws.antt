@@ -9,18 +9,15 @@ use lib.ListN.{length, get_or, take, drop}
 use Rattle.ground.specs.Basics.{pick}
 use Rattle.ground.specs.Scan.{same_bytes}
 use Rattle.order.specs.Order.{name_order}
-use Rattle.order.specs.declared.Order.{Order}
 use Rattle.frame.specs.Frame.{frame_at}
 use Rattle.frame.specs.Place.{id_in, place_of}
 use Rattle.frame.specs.declared.Frame.{Frame}
-use Rattle.frame.specs.declared.Framed.{Framed}
-use Rattle.frame.specs.declared.Framed.TheVariants.{Whole, Broken}
-use Rattle.frame.specs.declared.Placed.{Placed}
-use Rattle.frame.specs.declared.Placed.TheVariants.{At}
 use Rattle.frame.proofs.Laws.{frame-inside, id_part, place_inside}
 use Rattle.seeking.specs.Index.{looked, seek_at, seek_in, place_in}
+use Rattle.std.specs.Prelude.{None, Option, Some}
+use Rattle.std.specs.declared.cmp.Ordering.{Ordering}
 
-pub order_part : (o : Order) (x y id : List ℕ) → o ≡ name_order x false id false → x ≡ y → o ≡ name_order y false id false
+pub order_part : (o : Ordering) (x y id : List ℕ) → o ≡ name_order x false id false → x ≡ y → o ≡ name_order y false id false
 order_part o x y id e q = e ∙ ap (λ (z : List ℕ). name_order z false id false) q
 
 module _ (h : ℕ) (s index id : List ℕ) (i : ℕ) (e : i ≡ place_in h s index id) where
@@ -28,20 +25,20 @@ module _ (h : ℕ) (s index id : List ℕ) (i : ℕ) (e : i ≡ place_in h s ind
   unfolding seek_in seek_at
   seek_out g = rw (← e, le-ltb i (length index) g)
 
-  module _ (g : i < length index) (d : Framed) (q : d ≡ frame_at h (get_or index i 0 / 2) (drop (get_or index i 0 / 2) s)) where
+  module _ (g : i < length index) (d : Option Frame) (q : d ≡ frame_at h (get_or index i 0 / 2) (drop (get_or index i 0 / 2) s)) where
     seek_is : looked h s id d ≡ seek_in h s index id
     unfolding seek_in seek_at
     seek_is = rw (← e, lt-ltb i (length index) g, ← q)
 
-    pub seek_broken : d ≡ Broken → place_of s id ≡ seek_in h s index id
+    pub seek_broken : d ≡ None → place_of s id ≡ seek_in h s index id
     unfolding looked
     seek_broken k = ap (looked h s id) (sym k) ∙ seek_is
 
-    module _ (f : Frame) (k : d ≡ Whole f) where
-      whole_is : looked h s id (Whole f) ≡ seek_in h s index id
+    module _ (f : Frame) (k : d ≡ Some f) where
+      whole_is : looked h s id (Some f) ≡ seek_in h s index id
       whole_is = ap (looked h s id) (sym k) ∙ seek_is
 
-      pub seek_here : same_bytes (take (f.id + h - f.id) (drop f.id s)) id ≡ true → At f ≡ seek_in h s index id
+      pub seek_here : same_bytes (take (f.id + h - f.id) (drop f.id s)) id ≡ true → Some f ≡ seek_in h s index id
       unfolding looked
       seek_here t = let u : same_bytes (id_in h s f) id ≡ true = rw (id_part h s f) at t in sym (rw u) ∙ whole_is
 
@@ -52,11 +49,11 @@ module _ (h : ℕ) (s index id : List ℕ) (i : ℕ) (e : i ≡ place_in h s ind
 pub short-at : (a n x all : ℕ) → a ≡ min n all → n ≡ x / 2 → a ≡ min (x / 2) all
 short-at a n x all e q = e ∙ rw q
 
-pub seek_framed : (h : ℕ) (s : List ℕ) (d : Framed) (at x : ℕ) → d ≡ frame_at h at (drop at s) → at ≡ x / 2 → d ≡ frame_at h (x / 2) (drop (x / 2) s)
+pub seek_framed : (h : ℕ) (s : List ℕ) (d : Option Frame) (at x : ℕ) → d ≡ frame_at h at (drop at s) → at ≡ x / 2 → d ≡ frame_at h (x / 2) (drop (x / 2) s)
 seek_framed h s d at x e q = e ∙ rw q
 
 -- an object that was found lies inside the bundle, also where an index proposed it
-pub seek_inside : (h : ℕ) (s index id : List ℕ) (p : Placed) (f : Frame) → p ≡ seek_in h s index id → p ≡ At f → (f.start ≤ f.end) × (f.end ≤ length s)
+pub seek_inside : (h : ℕ) (s index id : List ℕ) (p : Option Frame) (f : Frame) → p ≡ seek_in h s index id → p ≡ Some f → (f.start ≤ f.end) × (f.end ≤ length s)
 unfolding seek_in seek_at looked
 seek_inside h s index id p f e k = go (ltb i (length index)) (sym e ∙ k)
   where
@@ -66,7 +63,7 @@ seek_inside h s index id p f e k = go (ltb i (length index)) (sym e ∙ k)
     x : ℕ
     x = get_or index i 0 / 2
 
-    chosen : (g : Frame) → frame_at h x (drop x s) ≡ Whole g → (t : Bool) → pick t (At g) (place_of s id) ≡ At f → (f.start ≤ f.end) × (f.end ≤ length s)
+    chosen : (g : Frame) → frame_at h x (drop x s) ≡ Some g → (t : Bool) → pick t (Some g) (place_of s id) ≡ Some f → (f.start ≤ f.end) × (f.end ≤ length s)
     chosen g w true q =
         let r : g ≡ f = cc in
         let j = frame-inside h x s g w in
@@ -74,10 +71,10 @@ seek_inside h s index id p f e k = go (ltb i (length index)) (sym e ∙ k)
         rw r at y
     chosen g w false q = place_inside s id f q
 
-    framed : (d : Framed) → frame_at h x (drop x s) ≡ d → looked h s id d ≡ At f → (f.start ≤ f.end) × (f.end ≤ length s)
-    framed Broken w q = place_inside s id f q
-    framed (Whole g) w q = chosen g w (same_bytes (id_in h s g) id) q
+    framed : (d : Option Frame) → frame_at h x (drop x s) ≡ d → looked h s id d ≡ Some f → (f.start ≤ f.end) × (f.end ≤ length s)
+    framed None w q = place_inside s id f q
+    framed (Some g) w q = chosen g w (same_bytes (id_in h s g) id) q
 
-    go : (t : Bool) → pick t (looked h s id (frame_at h x (drop x s))) (place_of s id) ≡ At f → (f.start ≤ f.end) × (f.end ≤ length s)
+    go : (t : Bool) → pick t (looked h s id (frame_at h x (drop x s))) (place_of s id) ≡ Some f → (f.start ≤ f.end) × (f.end ≤ length s)
     go true q = framed (frame_at h x (drop x s)) refl q
     go false q = place_inside s id f q

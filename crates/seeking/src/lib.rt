@@ -7,10 +7,11 @@ ghost use Rattle.order.specs.Order.{name_order};
 ghost use Rattle.seeking.specs.Index.{id_at, place_in, seek_in};
 
 use finding::find_object;
-use frame::{Framed, Placed, frame_at};
+use frame::{Frame, frame_at};
 use ground::shorter;
-use order::{Order, name_order};
+use order::name_order;
 use scan::same_bytes;
+use std::cmp::Ordering;
 
 // The place that an element stands for.
 fn place_of(x: u32) -> usize
@@ -20,7 +21,7 @@ fn place_of(x: u32) -> usize
 }
 
 // How the id at an element's place stands to an id.
-fn order_at(bundle: &[u8], h: usize, x: u32, id: &[u8]) -> Order
+fn order_at(bundle: &[u8], h: usize, x: u32, id: &[u8]) -> Ordering
     ensures { result ≡ name_order (id_at h bundle.now x) false id.now false }
 {
     let all = bundle.len();
@@ -38,12 +39,12 @@ fn place_in(bundle: &[u8], h: usize, index: &[u32], id: &[u8]) -> usize
     while low < high {
         let middle = low + (high - low) / 2;
         match order_at(bundle, h, index[middle], id) {
-            Order::Below => {
+            Ordering::Less => {
                 low = middle + 1;
                 continue;
             }
-            Order::Same => return middle,
-            Order::Above => {
+            Ordering::Equal => return middle,
+            Ordering::Greater => {
                 high = middle;
                 continue;
             }
@@ -53,7 +54,7 @@ fn place_in(bundle: &[u8], h: usize, index: &[u32], id: &[u8]) -> usize
 }
 
 // The object of an id, where an index proposes it or else where a walk along the bundle meets it.
-pub fn seek_object(bundle: &[u8], h: usize, index: &[u32], id: &[u8]) -> Placed
+pub fn seek_object(bundle: &[u8], h: usize, index: &[u32], id: &[u8]) -> Option<Frame>
     ensures { result ≡ seek_in h bundle.now index.now id.now }
 {
     let i = place_in(bundle, h, index, id);
@@ -62,12 +63,12 @@ pub fn seek_object(bundle: &[u8], h: usize, index: &[u32], id: &[u8]) -> Placed
     }
     let at = place_of(index[i]);
     match frame_at(bundle, h, at) {
-        Framed::Broken => find_object(bundle, id),
-        Framed::Whole(f) => {
+        None => find_object(bundle, id),
+        Some(f) => {
             let start = f.id;
             let end = start + h;
             if same_bytes(&bundle[start..end], id) {
-                return Placed::At(f);
+                return Some(f);
             }
             find_object(bundle, id)
         }

@@ -13,8 +13,6 @@ use lib.Dec.{ltb}
 use lib.ListN.{length, get_or}
 use borrow.Author.Tests.{lt-ltb, ltb-false}
 use Rattle.order.specs.Order.{name_order, opposite}
-use Rattle.order.specs.declared.Order.{Order}
-use Rattle.order.specs.declared.Order.TheVariants.{Below, Same, Above}
 use Rattle.order.proofs.Laws.{order_self, order_flip}
 use Rattle.ground.specs.Scan.{same_bytes}
 use Rattle.ground.proofs.Laws.{equal, same_test, same_true, same_refl}
@@ -23,6 +21,8 @@ use Rattle.keys.specs.Key.{decide, below_by}
 use Rattle.sorting.specs.Repeats.{has, repeats, touches}
 use Rattle.sorting.proofs.Sorted.{up_trans, perm_sym, sort_perm, sort-ascends, ascends_pair}
 use Rattle.keys.proofs.Keys.{plain-same, key_strict}
+use Rattle.std.specs.declared.cmp.Ordering.{Ordering}
+use Rattle.std.specs.declared.cmp.Ordering.TheVariants.{Equal, Greater, Less}
 
 -- ---- members
 
@@ -71,30 +71,30 @@ module _ (key : ℕ → List ℕ) where
   -- ---- two elements, the second not below the first
 
   -- the keys do not fall
-  pub up_keys : (x y : ℕ) → UpTo (below_by key) x y → name_order (key y) false (key x) false ≡ Below → ⊥
+  pub up_keys : (x y : ℕ) → UpTo (below_by key) x y → name_order (key y) false (key x) false ≡ Less → ⊥
   unfolding below_by
-  up_keys x y u e = false≢true (sym u ∙ ap (λ (o : Order). decide o (ltb y x)) e)
+  up_keys x y u e = false≢true (sym u ∙ ap (λ (o : Ordering). decide o (ltb y x)) e)
 
   -- of one key the element is not smaller
   pub up_same : (x y : ℕ) → UpTo (below_by key) x y → key x ≡ key y → x ≤ y
   unfolding below_by
   up_same x y u e =
-      let z : name_order (key y) false (key x) false ≡ Same = rw e (order_self (key y) false) in
-      ltb-false y x (ap (λ (o : Order). decide o (ltb y x)) (sym z) ∙ u)
+      let z : name_order (key y) false (key x) false ≡ Equal = rw e (order_self (key y) false) in
+      ltb-false y x (ap (λ (o : Ordering). decide o (ltb y x)) (sym z) ∙ u)
 
   -- of one key the smaller element is below the other
   pub same-below : (x y : ℕ) → key x ≡ key y → x < y → below_by key x y ≡ true
   unfolding below_by
-  same-below x y e h = rw e (ap (λ (o : Order). decide o (ltb x y)) (order_self (key y) false) ∙ lt-ltb x y h)
+  same-below x y e h = rw e (ap (λ (o : Ordering). decide o (ltb x y)) (order_self (key y) false) ∙ lt-ltb x y h)
 
   -- what stands between two of one key has that key
   pub between : (x y z : ℕ) → UpTo (below_by key) x y → UpTo (below_by key) y z → key x ≡ key z → key y ≡ key z
   between x y z u v e = go (name_order (key y) false (key z) false) refl
     where
-      go : (o : Order) → name_order (key y) false (key z) false ≡ o → key y ≡ key z
-      go Below f = absurd (up_keys x y u (rw e f))
-      go Same f = plain-same (key y) (key z) f
-      go Above f = absurd (up_keys y z v (order_flip (key y) false (key z) false ∙ ap opposite f))
+      go : (o : Ordering) → name_order (key y) false (key z) false ≡ o → key y ≡ key z
+      go Less f = absurd (up_keys x y u (rw e f))
+      go Equal f = plain-same (key y) (key z) f
+      go Greater f = absurd (up_keys y z v (order_flip (key y) false (key z) false ∙ ap opposite f))
 
   -- ---- in the sorted list
 

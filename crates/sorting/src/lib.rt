@@ -35,11 +35,8 @@ fn sift(text: &[u8], mark: u8, width: usize, list: &mut [u32], from: usize, n: u
     let mut i = from;
     while i < n / 2 {
         let c = larger(text, mark, width, list, i, n);
-        let x = list[i];
-        let y = list[c];
-        if below(text, mark, width, x, y) {
-            list[i] = y;
-            list[c] = x;
+        if below(text, mark, width, list[i], list[c]) {
+            list.swap(i, c);
             i = c;
         } else {
             return;
@@ -53,9 +50,7 @@ fn heapify(text: &[u8], mark: u8, width: usize, list: &mut [u32])
     ensures heap { Heap (below_by (key_at text.now mark width)) list.new 0 (length list.old) }
 {
     let n = list.len();
-    let mut k = n / 2;
-    while 0 < k {
-        k -= 1;
+    for k in (0..n / 2).rev() {
         sift(text, mark, width, list, k, n);
     }
 }
@@ -65,13 +60,8 @@ fn settle(text: &[u8], mark: u8, width: usize, list: &mut [u32])
     requires { Heap (below_by (key_at text.now mark width)) list.old 0 (length list.old) }
     ensures { list.new ≡ sort_by (below_by (key_at text.now mark width)) list.old }
 {
-    let mut m = list.len();
-    while 1 < m {
-        m -= 1;
-        let x = list[0];
-        let y = list[m];
-        list[0] = y;
-        list[m] = x;
+    for m in (1..list.len()).rev() {
+        list.swap(0, m);
         sift(text, mark, width, list, 0, m);
     }
 }
@@ -80,14 +70,7 @@ fn settle(text: &[u8], mark: u8, width: usize, list: &mut [u32])
 fn in_order(text: &[u8], mark: u8, width: usize, list: &[u32]) -> bool
     ensures { result ≡ true → Ascends (below_by (key_at text.now mark width)) list.now }
 {
-    let mut i: usize = 1;
-    while i < list.len() {
-        if below(text, mark, width, list[i], list[i - 1]) {
-            return false;
-        }
-        i += 1;
-    }
-    true
+    list.is_sorted_by(|x, y| !below(text, mark, width, *y, *x))
 }
 
 // Sorts a list of elements: each is twice a place in the text, and one more for a folder. An element's bytes begin past the

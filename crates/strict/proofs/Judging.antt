@@ -11,18 +11,12 @@ use Rattle.ground.specs.Basics.{pick}
 use Rattle.ground.specs.Scan.{free_of}
 use Rattle.ground.specs.Verdict.{verdict}
 use Rattle.ground.specs.declared.Verdict.{Verdict}
-use Rattle.order.specs.declared.Order.{Order}
-use Rattle.order.specs.declared.Order.TheVariants.{Below, Same, Above}
 use Rattle.entry.specs.Record.{name_of, folder_of}
 use Rattle.entry.specs.Entry.{Entry, entry_of}
 use Rattle.entry.specs.declared.EntryRecord.{EntryRecord}
 use Rattle.entry.specs.declared.Cursor.{Cursor}
-use Rattle.entry.specs.declared.Decoded.{Decoded}
-use Rattle.entry.specs.declared.Decoded.TheVariants.{Whole, Broken}
 use Rattle.doubles.specs.Doubles.{named_before}
 use Rattle.doubles.specs.Stack.{place_of, marks_of}
-use Rattle.doubles.specs.declared.Placed.{Placed}
-use Rattle.doubles.specs.declared.Placed.TheVariants.{Fine, NotAfter, Double}
 use Rattle.doubles.proofs.Theorem.{Ascends, name_bytes}
 use Rattle.doubles.proofs.Stacking.{marks-length}
 use Rattle.doubles.proofs.Placing.{Tracks, tracks_first, Told, told}
@@ -31,37 +25,40 @@ use Rattle.rules.specs.Rules.{is_text, judge, or_else, modes_of, name_number, ba
 use Rattle.rules.proofs.Laws.{number_free}
 use Rattle.strict.specs.Strict.{text_of}
 use Rattle.strict.specs.Code.{LastWithin, last_of, entry_no, seen_by, after_at, marks_after, Roomy}
-use Rattle.strict.specs.declared.Last.{Last}
-use Rattle.strict.specs.declared.Last.TheVariants.{Nothing, After}
-use Rattle.strict.specs.declared.Seen.TheVariants.{Kept, Refused}
+use Rattle.doubles.specs.declared.Misplaced.{Misplaced}
+use Rattle.doubles.specs.declared.Misplaced.TheVariants.{Double, NotAfter}
+use Rattle.std.specs.Prelude.{Err, None, Ok, Option, Result, Some}
+use Rattle.std.specs.declared.cmp.Ordering.{Ordering}
+use Rattle.std.specs.declared.cmp.Ordering.TheVariants.{Equal, Greater, Less}
+use Rattle.ground.proofs.Pairs.{ok_parts}
 
 -- ---- an entry after the one before
 
 -- the entry before lies inside
-pub last_within : (len : ℕ) {last : Last} {p : EntryRecord} → last ≡ After p → LastWithin len last → (p.name_start ≤ p.name_end) × (p.name_end ≤ len)
+pub last_within : (len : ℕ) {last : Option EntryRecord} {p : EntryRecord} → last ≡ Some p → LastWithin len last → (p.name_start ≤ p.name_end) × (p.name_end ≤ len)
 last_within len q w = rw q at w
 
 -- what is answered, and the marks afterwards
-abbrev pub Stood : List ℕ → List ℕ → ℕ → Last → EntryRecord → Placed → List ℕ → Type 0
+abbrev pub Stood : List ℕ → List ℕ → ℕ → Option EntryRecord → EntryRecord → Result ℕ Misplaced → List ℕ → Type 0
 Stood s a n last e r b = (r ≡ after_at s a n last e) × (b ≡ marks_after s a n last e)
 
 module _ (s a : List ℕ) (n : ℕ) (e : EntryRecord) where
-  pub stood-first : {last : Last} → last ≡ Nothing → Stood s a n last e (Fine 0) a
+  pub stood-first : {last : Option EntryRecord} → last ≡ None → Stood s a n last e (Ok 0) a
   unfolding after_at marks_after
   stood-first q = (rw q, rw q)
 
   -- by what the leaves answer that place the two
-  pub stood-by : {last : Last} (p : EntryRecord) {x y : Bool} {r : Placed} {b : List ℕ} → last ≡ After p → x ≡ folder_of p → y ≡ folder_of e
+  pub stood-by : {last : Option EntryRecord} (p : EntryRecord) {x y : Bool} {r : Result ℕ Misplaced} {b : List ℕ} → last ≡ Some p → x ≡ folder_of p → y ≡ folder_of e
       → (r ≡ place_of a n (name_of s p) x (name_of s e) y) × (b ≡ marks_of a n (name_of s p) x (name_of s e) y) → Stood s a n last e r b
   unfolding after_at marks_after
   stood-by p q f g o = (rw (q, ← f, ← g) o.0, rw (q, ← f, ← g) o.1)
 
-pub after-length : (s a : List ℕ) (n : ℕ) (last : Last) (e : EntryRecord) → length (marks_after s a n last e) ≡ length a
+pub after-length : (s a : List ℕ) (n : ℕ) (last : Option EntryRecord) (e : EntryRecord) → length (marks_after s a n last e) ≡ length a
 unfolding marks_after
-after-length s a n Nothing e = refl
-after-length s a n (After p) e = marks-length a n (name_of s p) (folder_of p) (name_of s e) (folder_of e)
+after-length s a n None e = refl
+after-length s a n (Some p) e = marks-length a n (name_of s p) (folder_of p) (name_of s e) (folder_of e)
 
-pub after_same : (s a : List ℕ) (n : ℕ) (last : Last) (e : EntryRecord) {b : List ℕ} {k : ℕ} → b ≡ marks_after s a n last e → length a ≡ k → length b ≡ k
+pub after_same : (s a : List ℕ) (n : ℕ) (last : Option EntryRecord) (e : EntryRecord) {b : List ℕ} {k : ℕ} → b ≡ marks_after s a n last e → length a ≡ k → length b ≡ k
 after_same s a n last e q p = ap length q ∙ after-length s a n last e ∙ p
 
 -- ---- an entry by itself
@@ -98,37 +95,35 @@ module _ (k : ℕ) (s : List ℕ) (at : ℕ) (e : EntryRecord) where
 
 -- ---- an entry as it is seen
 
-module _ (k : ℕ) (s : List ℕ) (at : ℕ) (d : Decoded) where
-  pub seen-broken : {v : Verdict} → d ≡ Broken v → Refused v ≡ seen_by k s at d
+module _ (k : ℕ) (s : List ℕ) (at : ℕ) (d : Result (EntryRecord × Cursor) Verdict) where
+  pub seen-broken : {v : Verdict} → d ≡ Err v → Err v ≡ seen_by k s at d
   seen-broken q = rw q
 
-  module _ (e : EntryRecord) (next : Cursor) (q : d ≡ Whole e next) (number : ℕ) (j : number ≡ entry_no k s at e) where
-    pub seen-bad : (number ≡ 0 → ⊥) → Refused (verdict number at) ≡ seen_by k s at d
+  module _ (e : EntryRecord) (next : Cursor) (q : d ≡ Ok (e, next)) (number : ℕ) (j : number ≡ entry_no k s at e) where
+    pub seen-bad : (number ≡ 0 → ⊥) → Err (verdict number at) ≡ seen_by k s at d
     seen-bad z = rw (q, ← j, ne_eqb number 0 z)
 
-    pub seen-good : number ≡ 0 → Kept e next ≡ seen_by k s at d
+    pub seen-good : number ≡ 0 → Ok (e, next) ≡ seen_by k s at d
     seen-good z = rw (q, ← j, z)
 
 -- one that is kept was decoded, and nothing is said of it by itself
-pub seen-kept : (k : ℕ) (s : List ℕ) (at : ℕ) (d : Decoded) (e : EntryRecord) (next : Cursor) → seen_by k s at d ≡ Kept e next
-    → (d ≡ Whole e next) × (0 ≡ entry_no k s at e)
-seen-kept k s at (Whole a b) e next q = go (eqb (entry_no k s at a) 0) refl q
+pub seen-kept : (k : ℕ) (s : List ℕ) (at : ℕ) (d : Result (EntryRecord × Cursor) Verdict) (e : EntryRecord) (next : Cursor) → seen_by k s at d ≡ Ok (e, next)
+    → (d ≡ Ok (e, next)) × (0 ≡ entry_no k s at e)
+seen-kept k s at (Ok (a, b)) e next q = go (eqb (entry_no k s at a) 0) refl q
   where
-    go : (v : Bool) → eqb (entry_no k s at a) 0 ≡ v → pick v (Kept a b) (Refused (verdict (entry_no k s at a) at)) ≡ Kept e next
-        → (Whole a b ≡ Whole e next) × (0 ≡ entry_no k s at e)
+    go : (v : Bool) → eqb (entry_no k s at a) 0 ≡ v → pick {A = Result (EntryRecord × Cursor) Verdict} v (Ok (a, b)) (Err (verdict (entry_no k s at a) at)) ≡ Ok (e, next)
+        → (◌≡◌ {A = Result (EntryRecord × Cursor) Verdict} (Ok (a, b)) (Ok (e, next))) × (0 ≡ entry_no k s at e)
     go true p q =
-        let x : a ≡ e = cc in
-        let y : b ≡ next = cc in
-        (rw (x, y), sym (eqb-true (entry_no k s at a) 0 p) ∙ ap (entry_no k s at) x)
+        (q, sym (eqb-true (entry_no k s at a) 0 p) ∙ ap (entry_no k s at) (ok_parts q).0)
     go false p q = let z : ◌≡◌ {A = ℕ} 0 1 = cc in absurd (omega arith)
-seen-kept k s at (Broken v) e next q = let z : ◌≡◌ {A = ℕ} 0 1 = cc in absurd (omega arith)
+seen-kept k s at (Err v) e next q = let z : ◌≡◌ {A = ℕ} 0 1 = cc in absurd (omega arith)
 
 -- ---- its place among the entries that were read before, the nearest first
 
-below-not : (o : Order) → (o ≡ Below → ⊥) → is_below o ≡ false
-below-not Below n = absurd (n refl)
-below-not Same n = refl
-below-not Above n = refl
+below-not : (o : Ordering) → (o ≡ Less → ⊥) → is_below o ≡ false
+below-not Less n = absurd (n refl)
+below-not Equal n = refl
+below-not Greater n = refl
 
 module _ (h : ℕ) (s a : List ℕ) (n : ℕ) (seen : List EntryRecord) (t : Tracks a n (map (entry_of h s) seen)) (up : Ascends (map (entry_of h s) seen))
     (few : name_bytes (map (entry_of h s) seen) ≤ length s) (room : Roomy (length s) (length a)) (e : EntryRecord) where
@@ -147,33 +142,33 @@ module _ (h : ℕ) (s a : List ℕ) (n : ℕ) (seen : List EntryRecord) (t : Tra
       told a n (entry_of h s p) (map (entry_of h s) ps) v u (entry_of h s e) (length s) w room.1 (omega (arith, room.0))
 
   -- an entry that does not stand after is refused 7
-  pub place-not-after : after_at s a n (last_of seen) e ≡ NotAfter → after_number before (entry_of h s e) ≡ 7
+  pub place-not-after : after_at s a n (last_of seen) e ≡ Err NotAfter → after_number before (entry_of h s e) ≡ 7
   unfolding after_at after_number is_after stands_before entry_of folder_of
   place-not-after q = go seen tells q
     where
-      go : (seen : List EntryRecord) → ((p : EntryRecord) (ps : List EntryRecord) → seen ≡ p ∷ ps → At p ps) → after_at s a n (last_of seen) e ≡ NotAfter
+      go : (seen : List EntryRecord) → ((p : EntryRecord) (ps : List EntryRecord) → seen ≡ p ∷ ps → At p ps) → after_at s a n (last_of seen) e ≡ Err NotAfter
           → after_number (map (entry_of h s) seen) (entry_of h s e) ≡ 7
       go [] w q = let y : ◌≡◌ {A = ℕ} 0 1 = cc in absurd (omega arith)
       go (p ∷ ps) w q = rw (below-not _ ((w p ps refl).not_after q))
 
   -- one that does, and whose name was there before, 17
-  pub place_double : after_at s a n (last_of seen) e ≡ Double → after_number before (entry_of h s e) ≡ 17
+  pub place_double : after_at s a n (last_of seen) e ≡ Err Double → after_number before (entry_of h s e) ≡ 17
   unfolding after_at after_number is_after stands_before entry_of folder_of
   place_double q = go seen tells q
     where
-      go : (seen : List EntryRecord) → ((p : EntryRecord) (ps : List EntryRecord) → seen ≡ p ∷ ps → At p ps) → after_at s a n (last_of seen) e ≡ Double
+      go : (seen : List EntryRecord) → ((p : EntryRecord) (ps : List EntryRecord) → seen ≡ p ∷ ps → At p ps) → after_at s a n (last_of seen) e ≡ Err Double
           → after_number (map (entry_of h s) seen) (entry_of h s e) ≡ 17
       go [] w q = let y : ◌≡◌ {A = ℕ} 0 1 = cc in absurd (omega arith)
       go (p ∷ ps) w q = let d = (w p ps refl).double q in rw (d.0, d.1)
 
   -- one that stands fine is one that the rules permit there, and the marks go on with it
-  pub place-fine : (j : ℕ) → after_at s a n (last_of seen) e ≡ Fine j
+  pub place-fine : (j : ℕ) → after_at s a n (last_of seen) e ≡ Ok j
       → (after_number before (entry_of h s e) ≡ 0) × Tracks (marks_after s a n (last_of seen) e) j (entry_of h s e ∷ before) × Ascends (entry_of h s e ∷ before)
   unfolding after_at marks_after after_number is_after stands_before named_before entry_of folder_of
   place-fine j q = go seen up tells q
     where
       go : (seen : List EntryRecord) → Ascends (map (entry_of h s) seen) → ((p : EntryRecord) (ps : List EntryRecord) → seen ≡ p ∷ ps → At p ps)
-          → after_at s a n (last_of seen) e ≡ Fine j
+          → after_at s a n (last_of seen) e ≡ Ok j
           → (after_number (map (entry_of h s) seen) (entry_of h s e) ≡ 0) × Tracks (marks_after s a n (last_of seen) e) j (entry_of h s e ∷ map (entry_of h s) seen)
           × Ascends (entry_of h s e ∷ map (entry_of h s) seen)
       go [] up w q = let y : 0 ≡ j = cc in (refl, subst (λ (i : ℕ). Tracks a i (entry_of h s e ∷ [])) y (tracks_first a (entry_of h s e)), (tt, tt))

@@ -19,9 +19,9 @@ use Rattle.rules.proofs.Quick.{mode_quick}
 use Rattle.reading.proofs.Front.{name_starts, name-ends, name-whole}
 use Rattle.strict.specs.Strict.{text_of}
 use Rattle.strict.specs.Code.{NameKept, seen_at}
-use Rattle.strict.specs.declared.Seen.TheVariants.{Kept}
 use Rattle.strict.proofs.Judging.{entry_named, seen-good}
 use Rattle.strict.proofs.Strictly.{decoded_free}
+use Rattle.std.specs.Prelude.{Ok}
 
 -- a scan that stops at a NUL
 module _ (s : List ℕ) (start end : ℕ) (q : end ≡ min (place_from 0 s start) (place_from 47 s start)) (l : end < length s) (z : get_or s end 0 ≡ 0) where
@@ -57,8 +57,7 @@ module _ (h : ℕ) (s : List ℕ) (at code : ℕ) (q : code ≡ quick_at s at) (
 
     -- what is laid out so is the entry there, and it is kept
     pub scan_kept : (k : ℕ) → NameKept h s (at + code % 16) end
-        → Kept (record { mode = code / 16; name_start = at + code % 16; name_end = end; id_start = end + 1; text_start = at })
-        (record { at = end + 1 + h })
+        → Ok (record { mode = code / 16; name_start = at + code % 16; name_end = end; id_start = end + 1; text_start = at }, record { at = end + 1 + h })
         ≡ seen_at k h s at
     unfolding text_of name_of
     scan_kept k w =

@@ -1,5 +1,5 @@
 -- Strict reading: a listing, cut at the first entry that its rules do not permit (docs/FORMAT.md, "Strict reading"). Assumes nothing.
-use Rattle.std.specs.Prelude.{ℕ, ◌-◌, List, [], ◌∷◌, length, eqb, leb}
+use Rattle.std.specs.Prelude.{ℕ, ◌-◌, List, [], ◌∷◌, length, eqb, leb, Err, Result}
 use Rattle.ground.specs.Basics.{pick, part}
 use Rattle.ground.specs.Verdict.{verdict, stored, most_bytes}
 use Rattle.ground.specs.declared.Answer.{Answer}
@@ -10,8 +10,7 @@ use Rattle.rules.specs.Rules.{Rules, judge, git_rules}
 use Rattle.rules.specs.Gate.{rule_gate}
 use Rattle.reading.specs.Listing.{Listing, done, stop, entry, listing, records_in, flats, tally}
 use Rattle.reading.specs.Whole.{answer_of}
-use Rattle.reading.specs.declared.Counted.{Counted}
-use Rattle.reading.specs.declared.Counted.TheVariants.{Stopped}
+use Rattle.ground.specs.declared.Verdict.{Verdict}
 
 -- the mode text of an entry at a place: all that stands before the space ahead of its name
 unfoldable pub text_of : List ℕ → ℕ → EntryRecord → List ℕ
@@ -30,8 +29,8 @@ abbrev pub strictly : Rules → ℕ → List ℕ → Listing
 strictly R h s = cut R h s [] (listing h s)
 
 -- how many entries are counted by a rule set, or the refusal; 2 for an object over its bound
-unfoldable pub strict_count : ℕ → ℕ → List ℕ → Counted
-strict_count k h s = pick (leb (length s) most_bytes) (tally 0 (strictly (git_rules k) h s)) (Stopped (verdict 2 0))
+unfoldable pub strict_count : ℕ → ℕ → List ℕ → Result ℕ Verdict
+strict_count k h s = pick (leb (length s) most_bytes) (tally 0 (strictly (git_rules k) h s)) (Err (verdict 2 0))
 
 -- ---- by a rule set, into a lent list
 

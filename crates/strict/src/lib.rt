@@ -1,51 +1,42 @@
 // A whole tree object that keeps the strict rules, into lent records (docs/FORMAT.md, "Strict reading").
 #![tactic(auto)]
 
-ghost use Rattle.std.specs.Prelude.{◌≡◌, true, ◌≤◌, length};
+ghost use Rattle.std.specs.Prelude.{◌≡◌, Err, true, ◌≤◌, length};
 ghost use Rattle.ground.specs.Scan.{free_of};
 ghost use Rattle.ground.specs.Verdict.{verdict, most_bytes};
 ghost use Rattle.entry.specs.Record.{name_of};
 ghost use Rattle.rules.specs.Rules.{git_rules};
 ghost use Rattle.reading.specs.Listing.{tally};
-ghost use Rattle.reading.specs.declared.Counted.TheVariants.{Stopped};
 ghost use Rattle.strict.specs.Strict.{strictly, strict_count, strict_answer, strict_records};
 ghost use Rattle.strict.specs.Code.{Within, LastWithin, NameKept, entry_no, seen_at, after_at, marks_after, Roomy};
 
-use doubles::{Placed, place_entry};
-use entry::{Cursor, Decoded, EntryRecord};
+use doubles::{Misplaced, place_entry};
+use entry::{Cursor, EntryRecord};
 use entry_record::{WIDTH, is_folder};
 use ground::{
-    Answer, BOUND, DONE, FINE, Gate, MODE_TEXT, MOST_BYTES, MOST_RECORDS, ORDER, SAME_NAME, Verdict,
+    Answer, BOUND, DONE, FINE, MODE_TEXT, MOST_BYTES, MOST_RECORDS, ORDER, SAME_NAME, Verdict,
 };
 use mode_code::quick_code;
-use reading::{Counted, finish};
+use reading::finish;
 use rules::{mode_permitted, name_number, reserved_number, rule_bounds};
 use scan::find_nul_or_slash;
 
-// The entry before the one that is read.
-#[derive(Clone, Copy)]
-enum Last {
-    Nothing,
-    After(EntryRecord),
-}
-
-// An entry that keeps the rules by itself, with the cursor past it, or a refusal.
-#[derive(Clone, Copy)]
-enum Seen {
-    Kept(EntryRecord, Cursor),
-    Refused(Verdict),
-}
-
 // Where an entry stands after the one before, with n names open among the marks.
-fn after_entry(s: &[u8], marks: &mut [u32], n: usize, last: Last, e: EntryRecord) -> Placed
+fn after_entry(
+    s: &[u8],
+    marks: &mut [u32],
+    n: usize,
+    last: Option<EntryRecord>,
+    e: EntryRecord,
+) -> Result<usize, Misplaced>
     requires last_within { LastWithin (length s.now) last }
     requires name_start_bound { (e.name_start ≤ e.name_end) × (e.name_end ≤ length s.now) }
     ensures placed { result ≡ after_at s.now marks.old n last e }
     ensures marks { marks.new ≡ marks_after s.now marks.old n last e }
 {
     match last {
-        Last::Nothing => Placed::Fine(0),
-        Last::After(p) => {
+        None => Ok(0),
+        Some(p) => {
             let from = p.name_start;
             let to = p.name_end;
             let start = e.name_start;
@@ -78,23 +69,23 @@ fn entry_number(rules: u16, s: &[u8], at: usize, e: EntryRecord) -> usize
 }
 
 // The entry at a place, if it keeps the rules by itself: decoded, then judged.
-fn judged_at(rules: u16, s: &[u8], h: usize, at: usize) -> Seen
+fn judged_at(rules: u16, s: &[u8], h: usize, at: usize) -> Result<(EntryRecord, Cursor), Verdict>
     ensures { result ≡ seen_at rules h s.now at }
 {
     let c = Cursor { at };
     match c.decode(s, h) {
-        Decoded::Whole(e, next) => {
+        Ok((e, next)) => {
             let number = entry_number(rules, s, at, e);
             if number != DONE {
-                return Seen::Refused(Verdict {
+                return Err(Verdict {
                     number,
                     place: at,
                     ..FINE
                 });
             }
-            Seen::Kept(e, next)
+            Ok((e, next))
         }
-        Decoded::Broken(v) => Seen::Refused(v),
+        Err(v) => Err(v),
     }
 }
 
@@ -113,7 +104,7 @@ fn is_kept(s: &[u8], h: usize, start: usize, end: usize) -> bool
 }
 
 // The same in one scan of the name where the mode is one of those written and there is nothing to refuse; any other entry is decoded and judged.
-fn seen_at(rules: u16, s: &[u8], h: usize, at: usize) -> Seen
+fn seen_at(rules: u16, s: &[u8], h: usize, at: usize) -> Result<(EntryRecord, Cursor), Verdict>
     ensures { result ≡ seen_at rules h s.now at }
 {
     let code = quick_code(s, at);
@@ -125,7 +116,7 @@ fn seen_at(rules: u16, s: &[u8], h: usize, at: usize) -> Seen
     if is_kept(s, h, name_start, name_end) {
         let id_start = name_end + 1;
         let next = id_start + h;
-        return Seen::Kept(
+        return Ok((
             EntryRecord {
                 mode: code / 16,
                 name_start,
@@ -134,16 +125,16 @@ fn seen_at(rules: u16, s: &[u8], h: usize, at: usize) -> Seen
                 text_start: at,
             },
             Cursor { at: next },
-        );
+        ));
     }
     judged_at(rules, s, h, at)
 }
 
 // Refused: by a number, at a place.
-fn stopped(number: usize, place: usize) -> Counted
-    ensures { result ≡ Stopped (verdict number place) }
+fn stopped(number: usize, place: usize) -> Result<usize, Verdict>
+    ensures { result ≡ Err (verdict number place) }
 {
-    Counted::Stopped(Verdict {
+    Err(Verdict {
         number,
         place,
         ..FINE
@@ -151,45 +142,47 @@ fn stopped(number: usize, place: usize) -> Counted
 }
 
 // The first pass of the strict reader, with marks enough for the names that can be open at once.
-fn count_marked(rules: u16, s: &[u8], h: usize, marks: &mut [u32]) -> Counted
+fn count_marked(rules: u16, s: &[u8], h: usize, marks: &mut [u32]) -> Result<usize, Verdict>
     requires { Roomy (length s.now) (length marks.old) }
     ensures { result ≡ tally 0 (strictly (git_rules rules) h s.now) }
 {
     let mut at: usize = 0;
     let mut n: usize = 0;
     let mut held: usize = 0;
-    let mut last = Last::Nothing;
+    let mut last = None;
     while at < s.len() {
         if MOST_RECORDS <= n {
             return stopped(BOUND, 0);
         }
         match seen_at(rules, s, h, at) {
-            Seen::Kept(e, next) => {
+            Ok((e, next)) => {
                 match after_entry(s, marks, held, last, e) {
-                    Placed::NotAfter => {
-                        return stopped(ORDER, at);
-                    }
-                    Placed::Double => {
-                        return stopped(SAME_NAME, at);
-                    }
-                    Placed::Fine(k) => {
+                    Err(why) => match why {
+                        Misplaced::NotAfter => {
+                            return stopped(ORDER, at);
+                        }
+                        Misplaced::Double => {
+                            return stopped(SAME_NAME, at);
+                        }
+                    },
+                    Ok(k) => {
                         held = k;
-                        last = Last::After(e);
+                        last = Some(e);
                         at = next.at;
                         n += 1;
                     }
                 }
             }
-            Seen::Refused(v) => {
-                return Counted::Stopped(v);
+            Err(v) => {
+                return Err(v);
             }
         }
     }
-    Counted::Total(n)
+    Ok(n)
 }
 
 // An object of at most 2,079 bytes: at most 64 names are open at once.
-fn count_few(rules: u16, s: &[u8], h: usize) -> Counted
+fn count_few(rules: u16, s: &[u8], h: usize) -> Result<usize, Verdict>
     requires { length s.now ≤ 2079 }
     ensures { result ≡ tally 0 (strictly (git_rules rules) h s.now) }
 {
@@ -198,7 +191,7 @@ fn count_few(rules: u16, s: &[u8], h: usize) -> Counted
 }
 
 // An object of at most 128 KiB: at most 512 names are open at once.
-fn count_small(rules: u16, s: &[u8], h: usize) -> Counted
+fn count_small(rules: u16, s: &[u8], h: usize) -> Result<usize, Verdict>
     requires { length s.now ≤ 131072 }
     ensures { result ≡ tally 0 (strictly (git_rules rules) h s.now) }
 {
@@ -208,7 +201,7 @@ fn count_small(rules: u16, s: &[u8], h: usize) -> Counted
 
 // An object of at most 8 MiB: at most 4,096 names are open at once. The call of itself is never reached. It is there because the
 // compiler lays no function that calls itself into its callers: only an object of such length takes this one's stack.
-fn count_medium(rules: u16, s: &[u8], h: usize) -> Counted
+fn count_medium(rules: u16, s: &[u8], h: usize) -> Result<usize, Verdict>
     requires { length s.now ≤ 8388608 }
     ensures { result ≡ tally 0 (strictly (git_rules rules) h s.now) }
 {
@@ -220,7 +213,7 @@ fn count_medium(rules: u16, s: &[u8], h: usize) -> Counted
 }
 
 // An object of any length within the bound: at most 46,341 names are open at once. It calls itself as `count_medium` does.
-fn count_large(rules: u16, s: &[u8], h: usize) -> Counted
+fn count_large(rules: u16, s: &[u8], h: usize) -> Result<usize, Verdict>
     requires { length s.now ≤ most_bytes }
     ensures { result ≡ tally 0 (strictly (git_rules rules) h s.now) }
 {
@@ -232,7 +225,7 @@ fn count_large(rules: u16, s: &[u8], h: usize) -> Counted
 }
 
 // The first pass, with no more marks than an object of this length can need.
-fn count_strict(rules: u16, s: &[u8], h: usize) -> Counted
+fn count_strict(rules: u16, s: &[u8], h: usize) -> Result<usize, Verdict>
     requires { length s.now ≤ most_bytes }
     ensures { result ≡ tally 0 (strictly (git_rules rules) h s.now) }
 {
@@ -249,7 +242,7 @@ fn count_strict(rules: u16, s: &[u8], h: usize) -> Counted
 }
 
 // How many entries an object has that keeps the strict rules by a rule set, or its refusal; 2 for an object over its bound.
-pub fn strict_count(bytes: &[u8], h: usize, rules: u16) -> Counted
+pub fn strict_count(bytes: &[u8], h: usize, rules: u16) -> Result<usize, Verdict>
     ensures { result ≡ strict_count rules h bytes.now }
 {
     if MOST_BYTES < bytes.len() {
@@ -265,10 +258,10 @@ pub fn read_tree_strict(bytes: &[u8], h: usize, rules: u16, records: &mut [usize
 {
     let room = records.len() / WIDTH;
     match rule_bounds(rules, h, bytes.len(), room) {
-        Gate::Shut(v) => Answer {
+        Err(v) => Answer {
             verdict: v,
             count: 0,
         },
-        Gate::Open => finish(bytes, h, count_strict(rules, bytes, h), records),
+        Ok(()) => finish(bytes, h, count_strict(rules, bytes, h), records),
     }
 }

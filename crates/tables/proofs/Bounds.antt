@@ -9,7 +9,6 @@ use lib.Dec.{leb}
 use lib.ListN.{length}
 use borrow.Author.Tests.{leb-true, leb-false}
 use Rattle.ground.specs.Verdict.{refused, size_gate, gate_of, most_bytes}
-use Rattle.ground.specs.declared.Gate.TheVariants.{Shut}
 use Rattle.ground.proofs.Laws.{size-bytes, size-records, gate_id}
 use Rattle.output.specs.Output.{fitted, gated}
 use Rattle.mode.proofs.Laws.{alone-shut}
@@ -38,16 +37,17 @@ use Rattle.commit_write.specs.Write as write
 use Rattle.walk.specs.Lent as lent
 use Rattle.difference.specs.Whole as difference
 use Rattle.tables.specs.Bounds.{Over, OneLength, two, OverLaws}
+use Rattle.std.specs.Prelude.{Err}
 
-size-over : (bytes records : ℕ) → Over bytes records → size_gate bytes records ≡ Shut two
+size-over : (bytes records : ℕ) → Over bytes records → size_gate bytes records ≡ Err two
 size-over bytes records (inl p) = size-bytes bytes records p
 size-over bytes records (inr p) = go (leb bytes most_bytes) refl
   where
-    go : (b : Bool) → leb bytes most_bytes ≡ b → size_gate bytes records ≡ Shut two
+    go : (b : Bool) → leb bytes most_bytes ≡ b → size_gate bytes records ≡ Err two
     go true q = size-records bytes records (leb-true bytes most_bytes q) p
     go false q = size-bytes bytes records (leb-false bytes most_bytes q)
 
-gate_over : (h bytes records : ℕ) → OneLength h → Over bytes records → gate_of h bytes records ≡ Shut two
+gate_over : (h bytes records : ℕ) → OneLength h → Over bytes records → gate_of h bytes records ≡ Err two
 gate_over h bytes records i o = gate_id h bytes records i ∙ size-over bytes records o
 
 -- ---- each call, behind its gate

@@ -1,10 +1,9 @@
 -- Bundles and paths by example: a table of what `follow_path` answers, each of its numbers in its case with its place, which the definitions compute; and
 -- the header of either version. Assumes nothing.
-use Rattle.std.specs.Prelude.{ℕ, ◌≡◌, refl, List, [], ◌∷◌, ◌++◌, map, length, drop, replicate}
+use Rattle.std.specs.Prelude.{ℕ, ◌≡◌, refl, List, [], ◌∷◌, ◌++◌, map, length, drop, replicate, Err}
 use Prim.Native.String.{String}
 use Rattle.ground.specs.Basics.{ascii}
 use Rattle.ground.specs.Verdict.{verdict, id_length, size_gate, is_set}
-use Rattle.ground.specs.declared.Gate.TheVariants.{Shut}
 use Rattle.mode_text.specs.Read.{read_text}
 use Rattle.mode.specs.Read.{octal_from, has_six, text_len, settle, rest_at, read_mode}
 use Rattle.entry.specs.Record.{name_of, id_of}
@@ -106,7 +105,7 @@ unfolding table head_of by_version by_rules fields_at is_set id_length size_gate
 table-holds = refl
 
 -- 2 for each of the three buffers is the gate's: `Numbers` has its bounds
-pub over : (s root path : List ℕ) → follow_from s root path (Shut (verdict 2 0)) ≡ refused_with (verdict 2 0)
+pub over : (s root path : List ℕ) → follow_from s root path (Err (verdict 2 0)) ≡ refused_with (verdict 2 0)
 unfolding follow_from
 over s root path = refl
 

@@ -10,7 +10,6 @@ use lib.Seq.{sets, drop-cons, length-take-le, take_at}
 use Rattle.ground.specs.Basics.{part}
 use Rattle.ground.specs.Verdict.{counted, id_length, gate_of, most_bytes, stored}
 use Rattle.ground.specs.declared.Answer.{Answer}
-use Rattle.ground.specs.declared.Gate.TheVariants.{Open}
 use Rattle.ground.proofs.Laws.{id-is, id_small, gate_fine, stored-done, sets_append, part-from}
 use Rattle.output.specs.Output.{fitted}
 use Rattle.output.proofs.Laws.{fitted-fine}
@@ -26,6 +25,7 @@ use Rattle.text_form.specs.Form.{front_len, name_from}
 use Rattle.text_record.specs.Record.{front_mode, name_in, name_end, id_in, text_number, entry_in}
 use Rattle.text_record.proofs.Shape.{shape, lower-hex}
 use Rattle.text_import.specs.Code.{AllRead, all_bytes}
+use Rattle.std.specs.Prelude.{Ok}
 
 -- ---- an id
 
@@ -37,7 +37,7 @@ module _ (d : List ℕ) (h : ℕ) (x : is_hex d ≡ true) (l : length d ≡ 2 * 
       → (length after ≡ 32) × (take h after ≡ bytes_of d)
   id-kept id after n a =
       let w = id_small h (id-is h i) in
-      let o : gate_of h (length id) 0 ≡ Open = gate_fine h (length id) 0 (id-is h i) (omega (arith, n)) (omega arith) in
+      let o : gate_of h (length id) 0 ≡ Ok tt = gate_fine h (length id) 0 (id-is h i) (omega (arith, n)) (omega arith) in
       let r : id_answer d (length id) ≡ counted (length d / 2) =
       id_open d (length id) h half_is o ∙ ap (λ (a : Answer). fitted (length id) a) (read-hex d x)
       ∙ fitted-fine (length id) (counted (length d / 2)) refl (omega (arith, w.1, n, l)) in

@@ -13,8 +13,6 @@ use Rattle.ground.specs.Basics.{pick}
 use Rattle.ground.specs.Verdict.{verdict, refused, most_records, id_length, most_bytes, gate_of, stored}
 use Rattle.ground.specs.declared.Verdict.{Verdict}
 use Rattle.ground.specs.declared.Answer.{Answer}
-use Rattle.ground.specs.declared.Gate.{Gate}
-use Rattle.ground.specs.declared.Gate.TheVariants.{Open, Shut}
 use Rattle.ground.proofs.Laws.{gate_open, gate_fine, gate_shut, id-made, id-is, sets_front, stored_refused}
 use Rattle.output.specs.Output.{fitted}
 use Rattle.output.proofs.Laws.{refused-both, gated-shut, gated_open}
@@ -25,6 +23,7 @@ use Rattle.text_import.specs.Code.{elements_in, gathered}
 use Rattle.text_import.specs.Lent.{too_many, lent_by, lent_answer, front_in_order, left_by, by_gate, lent_list}
 use Rattle.text_import.proofs.Walk.{read-few}
 use Rattle.text_import.proofs.Whole.{Both, elements-many, unread, all_read}
+use Rattle.std.specs.Prelude.{Err, Ok, Result, ⊤}
 
 -- ---- the three ways
 
@@ -136,35 +135,35 @@ LentWhole k h s out list r after left =
     × ((after ≡ stored (lent_answer k h s (length out) (length list)).verdict (imported (texts k h s)) out) × (left ≡ lent_list k h s list))
 
 module _ (k h : ℕ) (s : List ℕ) where
-  pub lent_open : gate_of h (length s) 0 ≡ Open → (room size : ℕ) → lent_answer k h s room size ≡ lent_by (texts k h s) room size
+  pub lent_open : gate_of h (length s) 0 ≡ Ok tt → (room size : ℕ) → lent_answer k h s room size ≡ lent_by (texts k h s) room size
   unfolding lent_answer
   lent_open g room size = gated_open _ _ g
 
   module _ (out list : List ℕ) where
-    pub lent-shut : (v : Verdict) → gate_of h (length s) 0 ≡ Shut v → LentWhole k h s out list (refused v) out list
+    pub lent-shut : (v : Verdict) → gate_of h (length s) 0 ≡ Err v → LentWhole k h s out list (refused v) out list
     unfolding lent_answer lent_list
     lent-shut v g =
         let n : v.number ≡ 0 → ⊥ =
         λ z. ⊎_elim (λ q. omega (arith, z, ap (λ (x : Verdict). x.number) q)) (λ q. omega (arith, z, ap (λ (x : Verdict). x.number) q))
         (gate_shut h (length s) 0 v g) in
         let b = refused-both (refused v) (imported (texts k h s)) out (gated-shut _ v (lent_by (texts k h s) (length out) (length list)) g) n in
-        (b.0, (b.1, sym (ap (λ (x : Gate). by_gate x (left_by s (texts k h s) list) list) g)))
+        (b.0, (b.1, sym (ap (λ (x : Result ⊤ Verdict). by_gate x (left_by s (texts k h s) list) list) g)))
 
-    pub lent-whole : gate_of h (length s) 0 ≡ Open → (r : Answer) (after left : List ℕ) → Lent s (texts k h s) out list r after left
+    pub lent-whole : gate_of h (length s) 0 ≡ Ok tt → (r : Answer) (after left : List ℕ) → Lent s (texts k h s) out list r after left
         → LentWhole k h s out list r after left
     unfolding lent_list
     lent-whole g r after left b =
         let e = lent_open g (length out) (length list) in
         let f : left_by s (texts k h s) list ≡ by_gate (gate_of h (length s) 0) (left_by s (texts k h s) list) list =
-        sym (ap (λ (x : Gate). by_gate x (left_by s (texts k h s) list) list) g) in
+        sym (ap (λ (x : Result ⊤ Verdict). by_gate x (left_by s (texts k h s) list) list) g) in
         (b.0 ∙ sym e, (b.1.0 ∙ ap (λ (x : Answer). stored x.verdict (imported (texts k h s)) out) (sym e), b.1.1 ∙ f))
 
-  pub lent_began : gate_of h (length s) 0 ≡ Open → (id_length h ≡ true) × (length s ≤ most_bytes)
+  pub lent_began : gate_of h (length s) 0 ≡ Ok tt → (id_length h ≡ true) × (length s ≤ most_bytes)
   lent_began g = let o = gate_open h (length s) 0 g in (id-made h o.0, o.1)
 
   -- the gate is open where the bounds are kept
   module _ (i : id_length h ≡ true) (short : length s ≤ most_bytes) where
-    gate : gate_of h (length s) 0 ≡ Open
+    gate : gate_of h (length s) 0 ≡ Ok tt
     gate = gate_fine h (length s) 0 (id-is h i) short (omega arith)
 
     module _ (out : List ℕ) (size : ℕ) (r : Answer) (after : List ℕ) (p : r ≡ lent_answer k h s (length out) size)

@@ -16,8 +16,6 @@ use Rattle.ground.specs.declared.Verdict.{Verdict}
 use Rattle.ground.proofs.Laws.{and_left, and_right, equal, same_test, same_true, same_refl}
 use Rattle.mode.specs.Mode.{is_tree}
 use Rattle.order.specs.Order.{name_order}
-use Rattle.order.specs.declared.Order.{Order}
-use Rattle.order.specs.declared.Order.TheVariants.{Below, Same, Above}
 use Rattle.order.proofs.Laws.{order_self, order_same}
 use Rattle.entry.specs.Entry.{Entry}
 use Rattle.keys.specs.Key.{name_at, folder, slash, key_at}
@@ -28,6 +26,8 @@ use Rattle.text_repeats.proofs.Least.{Least}
 use Rattle.text_import.specs.Import.{Texts, done, stop, one, is_same, compare_same, name_same, any_before, repeated}
 use Rattle.text_import.specs.Code.{places_in}
 use Rattle.text_import.proofs.Places.{mem-map, map-mem, Good, place-good, place_inside, el, element_range, element_half, element_odd, name-there, name-plain, key-there}
+use Rattle.std.specs.declared.cmp.Ordering.{Ordering}
+use Rattle.std.specs.declared.cmp.Ordering.TheVariants.{Equal, Greater, Less}
 
 -- elements of one name and sort have one key
 pub same_key : (s : List ℕ) (x y : ℕ) → same_record s x y ≡ true → key_at s 9 0 x ≡ key_at s 9 0 y
@@ -47,10 +47,10 @@ bits_same : (a : Bool) → eqb (pick a 1 0) (pick a 1 0) ≡ true
 bits_same true = refl
 bits_same false = refl
 
-is_same_lem : (o : Order) → is_same o ≡ true → o ≡ Same
-is_same_lem Below e = absurd (false≢true e)
-is_same_lem Same e = refl
-is_same_lem Above e = absurd (false≢true e)
+is_same_lem : (o : Ordering) → is_same o ≡ true → o ≡ Equal
+is_same_lem Less e = absurd (false≢true e)
+is_same_lem Equal e = refl
+is_same_lem Greater e = absurd (false≢true e)
 
 module _ (k h : ℕ) (s : List ℕ) where
   abbrev E : ℕ → Entry
@@ -80,7 +80,7 @@ module _ (k h : ℕ) (s : List ℕ) where
     key-same z =
         let a : name_in h (drop p s) ++ slash (tree f p) ≡ name_in h (drop q s) ++ slash (tree g q) =
         sym (key-there k h s p e f) ∙ z ∙ key-there k h s q d g in
-        let o : name_order (name_in h (drop p s)) (tree f p) (name_in h (drop q s)) (tree g q) ≡ Same =
+        let o : name_order (name_in h (drop p s)) (tree f p) (name_in h (drop q s)) (tree g q) ≡ Equal =
         sym (key_names (name_in h (drop p s)) (tree f p) (name_in h (drop q s)) (tree g q) (name-plain k h s p e) (name-plain k h s q d))
         ∙ ap (λ (l : List ℕ). name_order l false (name_in h (drop q s) ++ slash (tree g q)) false) a
         ∙ order_self (name_in h (drop q s) ++ slash (tree g q)) false in

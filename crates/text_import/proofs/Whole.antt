@@ -14,14 +14,11 @@ use Rattle.ground.specs.Basics.{pick}
 use Rattle.ground.specs.Verdict.{verdict, fine, counted, refused, most_bytes, most_records, id_length, stored}
 use Rattle.ground.specs.declared.Verdict.{Verdict}
 use Rattle.ground.specs.declared.Answer.{Answer}
-use Rattle.ground.specs.declared.Gate.TheVariants.{Open, Shut}
 use Rattle.ground.proofs.Laws.{equal, gate_open, id-made}
 use Rattle.output.specs.Output.{fitted}
 use Rattle.output.proofs.Laws.{fitted-bad, fitted_short, fitted-fine, refused-both, done-both, gated-shut, gated_open}
 use Rattle.mode.specs.Mode.{is_tree}
 use Rattle.order.specs.Order.{is_below, name_order}
-use Rattle.order.specs.declared.Order.{Order}
-use Rattle.order.specs.declared.Order.TheVariants.{Below, Same, Above}
 use Rattle.entry.specs.Entry.{Entry, as_written}
 use Rattle.rules.specs.Rules.{stands_before}
 use Rattle.rules.specs.Gate.{rule_gate}
@@ -42,6 +39,9 @@ use Rattle.text_import.proofs.Walk.{read-few}
 use Rattle.text_import.proofs.Places.{mem-map, map-mem, good-texts, place-good, el, elements_are, entries_are, element_range, element_half, elements-once, name-plain, key-there}
 use Rattle.text_import.proofs.Repeats.{S, same_key, key-same, name_agrees, order_agrees, first, low, small}
 use Rattle.text_import.proofs.Pairs.{is-pair}
+use Rattle.std.specs.Prelude.{Err, Ok}
+use Rattle.std.specs.declared.cmp.Ordering.{Ordering}
+use Rattle.std.specs.declared.cmp.Ordering.TheVariants.{Equal, Greater, Less}
 
 pub elements-many : (t : Texts) → length (elements_in t) ≡ length (entries_in t)
 unfolding elements_in entries_in
@@ -49,7 +49,7 @@ elements-many done = refl
 elements-many (stop v) = refl
 elements-many (one at e l) = ap suc (elements-many l)
 
-same-order : (d e : Entry) → name_order d.name (is_tree d.mode) e.name (is_tree e.mode) ≡ Same → compare_same d e ≡ true
+same-order : (d e : Entry) → name_order d.name (is_tree d.mode) e.name (is_tree e.mode) ≡ Equal → compare_same d e ≡ true
 unfolding compare_same
 same-order d e p = ap is_same p
 
@@ -126,19 +126,19 @@ module _ (k h : ℕ) (s : List ℕ) (short : length s ≤ most_bytes) where
         → below_by (key_at s 9 0) (el k h s true p) (el k h s true q) ≡ stands_before (entry_in k h (drop p s)) (entry_in k h (drop q s))
     unfolding below_by stands_before entry_in
     agree p q a b =
-        ap (λ (o : Order). decide o (ltb (el k h s true p) (el k h s true q)))
+        ap (λ (o : Ordering). decide o (ltb (el k h s true p) (el k h s true q)))
         (ap (λ (l : List ℕ). name_order l false (key_at s 9 0 (el k h s true q)) false) (key-there k h s p (good p a) true)
         ∙ ap (λ (l : List ℕ). name_order (name_in h (drop p s) ++ slash (true && is_tree (entry_in k h (drop p s)).mode)) false l false) (key-there k h s q (good q b) true)
         ∙ key_names (name_in h (drop p s)) (is_tree (entry_in k h (drop p s)).mode) (name_in h (drop q s)) (is_tree (entry_in k h (drop q s)).mode) (name-plain k h s p (good p a)) (name-plain k h s q (good q b)))
         ∙ go (name_order (name_in h (drop p s)) (is_tree (entry_in k h (drop p s)).mode) (name_in h (drop q s)) (is_tree (entry_in k h (drop q s)).mode)) refl
         (ltb (el k h s true p) (el k h s true q)) refl
       where
-        go : (o : Order) → name_order (name_in h (drop p s)) (is_tree (entry_in k h (drop p s)).mode) (name_in h (drop q s)) (is_tree (entry_in k h (drop q s)).mode) ≡ o
+        go : (o : Ordering) → name_order (name_in h (drop p s)) (is_tree (entry_in k h (drop p s)).mode) (name_in h (drop q s)) (is_tree (entry_in k h (drop q s)).mode) ≡ o
             → (t : Bool) → ltb (el k h s true p) (el k h s true q) ≡ t → decide o t ≡ is_below o
-        go Below e t f = refl
-        go Above e t f = refl
-        go Same e false f = refl
-        go Same e true f =
+        go Less e t f = refl
+        go Greater e t f = refl
+        go Equal e false f = refl
+        go Equal e true f =
             let l = ltb-true (el k h s true p) (el k h s true q) f in
             absurd (⊎_elim (λ y. omega (arith, l, ap (el k h s true) y))
             (λ (y : p ≡ q → ⊥).
@@ -255,11 +255,11 @@ unfolding gathered
 all_read k h s a q z = (sym (ap (λ (x : Answer). x.verdict.number) q) ∙ z, sym (ap (λ (x : Answer). x.count) q))
 
 module _ (k h : ℕ) (s : List ℕ) (room m : ℕ) (e : m ≡ max (length s) room) where
-  pub import_shut : (v : Verdict) → rule_gate k h m 0 ≡ Shut v → import_answer k h s room ≡ refused v
+  pub import_shut : (v : Verdict) → rule_gate k h m 0 ≡ Err v → import_answer k h s room ≡ refused v
   unfolding import_answer
   import_shut v g = gated-shut _ v _ (ap (λ (x : ℕ). rule_gate k h x 0) (sym e) ∙ g)
 
-  module _ (g : rule_gate k h m 0 ≡ Open) where
+  module _ (g : rule_gate k h m 0 ≡ Ok tt) where
     pub import-open : import_answer k h s room ≡ fitted room (counted_of (texts k h s))
     unfolding import_answer
     import-open = gated_open _ _ (ap (λ (x : ℕ). rule_gate k h x 0) (sym e) ∙ g)

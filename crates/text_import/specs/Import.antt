@@ -8,13 +8,13 @@ use Rattle.ground.specs.declared.Answer.{Answer}
 use Rattle.output.specs.Output.{gated, fitted}
 use Rattle.mode.specs.Mode.{is_tree}
 use Rattle.order.specs.Order.{name_order}
-use Rattle.order.specs.declared.Order.{Order}
-use Rattle.order.specs.declared.Order.TheVariants.{Below, Same, Above}
 use Rattle.entry.specs.Entry.{Entry, as_written}
 use Rattle.rules.specs.Rules.{stands_before}
 use Rattle.rules.specs.Gate.{rule_gate}
 use Rattle.sorting.specs.Sort.{sort_by}
 use Rattle.text_record.specs.Record.{text_number, entry_in, size_in}
+use Rattle.std.specs.declared.cmp.Ordering.{Ordering}
+use Rattle.std.specs.declared.cmp.Ordering.TheVariants.{Equal, Greater, Less}
 
 -- the records in turn, each with the position of its first byte and its entry; then the end of the text, or the refusal that reading met
 pub data Texts : Type 0 where
@@ -50,10 +50,10 @@ ending (one at e l) = ending l
 -- ---- after all records
 
 -- two entries compare 0 in Git's order
-abbrev pub is_same : Order → Bool
-is_same Below = false
-is_same Same = true
-is_same Above = false
+abbrev pub is_same : Ordering → Bool
+is_same Less = false
+is_same Equal = true
+is_same Greater = false
 
 unfoldable pub compare_same : Entry → Entry → Bool
 compare_same d e = is_same (name_order d.name (is_tree d.mode) e.name (is_tree e.mode))

@@ -1,16 +1,15 @@
 -- Importing with memory lent for an element of each record. Assumes nothing.
-use Rattle.std.specs.Prelude.{ℕ, Bool, ◌&&◌, List, ◌++◌, eqb, ltb, length, take, drop}
+use Rattle.std.specs.Prelude.{ℕ, Bool, ◌&&◌, List, ◌++◌, eqb, ltb, length, take, drop, Err, Ok, Result, ⊤}
 use Rattle.std.proofs.lemmas.List.Edits.{sets}
 use Rattle.ground.specs.Basics.{pick}
 use Rattle.ground.specs.Verdict.{verdict, refused, gate_of}
 use Rattle.ground.specs.declared.Answer.{Answer}
-use Rattle.ground.specs.declared.Gate.{Gate}
-use Rattle.ground.specs.declared.Gate.TheVariants.{Open, Shut}
 use Rattle.output.specs.Output.{gated, fitted}
 use Rattle.keys.specs.Key.{key_at, below_by}
 use Rattle.sorting.specs.Sort.{sort_by}
 use Rattle.text_import.specs.Import.{Texts, texts, entries_in, ending, counted_of}
 use Rattle.text_import.specs.Code.{elements_in}
+use Rattle.ground.specs.declared.Verdict.{Verdict}
 
 -- a text that was read to its end has more records than the memory has places
 unfoldable pub too_many : Texts → ℕ → Bool
@@ -36,9 +35,9 @@ left_by s t list =
     (sets list 0 (elements_in t))
 
 -- it is left alone where a bound is passed
-abbrev pub by_gate : Gate → List ℕ → List ℕ → List ℕ
-by_gate Open l list = l
-by_gate (Shut v) l list = list
+abbrev pub by_gate : Result ⊤ Verdict → List ℕ → List ℕ → List ℕ
+by_gate (Ok tt) l list = l
+by_gate (Err v) l list = list
 
 unfoldable pub lent_list : ℕ → ℕ → List ℕ → List ℕ → List ℕ
 lent_list k h s list = by_gate (gate_of h (length s) 0) (left_by s (texts k h s) list) list

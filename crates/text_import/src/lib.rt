@@ -18,9 +18,7 @@ ghost use Rattle.text_import.specs.Import.{texts, ending, imported, counted_of};
 ghost use Rattle.text_import.specs.Code.{element_of, elements_in, halted, gathered, AllRead, all_bytes};
 ghost use Rattle.text_import.specs.Lent.{lent_by, lent_answer, left_by, lent_list};
 
-use ground::{
-    Answer, BOUND, DONE, FEW_RECORDS, FINE, Gate, MOST_RECORDS, SHORT_OUTPUT, Verdict, bounds,
-};
+use ground::{Answer, BOUND, DONE, FEW_RECORDS, FINE, MOST_RECORDS, SHORT_OUTPUT, Verdict, bounds};
 use id_of_hex::id_of_hex;
 use mode::EntryMode;
 use output::{put, put_ended};
@@ -149,12 +147,10 @@ fn write_all(out: &mut [u8], text: &[u8], h: usize, rules: u16, list: &[u32]) ->
     ensures value { result ≡ length (all_bytes rules h text.now list.now) }
     ensures out_after { out.new ≡ sets out.old 0 (all_bytes rules h text.now list.now) }
 {
-    let mut i: usize = 0;
     let mut at: usize = 0;
-    while i < list.len() {
-        let place = place_of(list[i]);
+    for x in list {
+        let place = place_of(*x);
         at = write_one(out, at, &text[place..], h, rules);
-        i += 1;
     }
     at
 }
@@ -221,10 +217,10 @@ pub fn import_lent(text: &[u8], h: usize, rules: u16, out: &mut [u8], list: &mut
     ensures list { list.new ≡ lent_list rules h text.now list.old }
 {
     match bounds(h, text.len(), 0) {
-        Gate::Shut(v) => Answer {
+        Err(v) => Answer {
             verdict: v,
             count: 0,
         },
-        Gate::Open => import_open(text, h, rules, out, list),
+        Ok(()) => import_open(text, h, rules, out, list),
     }
 }

@@ -12,8 +12,6 @@ use borrow.Author.Tests.{eq-eqb, ne_eqb, lt-ltb, le-ltb}
 use Rattle.ground.specs.Basics.{pick}
 use Rattle.ground.specs.declared.Verdict.{Verdict}
 use Rattle.order.specs.Order.{then_by, next, name_order}
-use Rattle.order.specs.declared.Order.{Order}
-use Rattle.order.specs.declared.Order.TheVariants.{Below}
 use Rattle.order.proofs.Laws.{by_lt, by-eq}
 use Rattle.keys.specs.Key.{name_at, key_at, below_by, decide}
 use Rattle.keys.specs.Strict.{Strict}
@@ -23,6 +21,8 @@ use Rattle.mend_kept.specs.Code.{Lowest}
 use Rattle.text_repeats.specs.Least.{same_record, least_next, told}
 use Rattle.text_repeats.proofs.Laws.{told_order}
 use Rattle.text_pairs.specs.Pairs.{count_below, same_at, same_before, beside_of, least_with, least_pair, judged_by}
+use Rattle.std.specs.declared.cmp.Ordering.{Ordering}
+use Rattle.std.specs.declared.cmp.Ordering.TheVariants.{Less}
 
 -- ---- how many are below
 
@@ -64,10 +64,10 @@ module _ (below : ℕ → ℕ → Bool) (strict : Strict below) (l : List ℕ) (
 
 -- ---- a folder is above the file of its name
 
-short-below : (n : List ℕ) → name_order (n ++ []) false (n ++ 47 ∷ []) false ≡ Below
+short-below : (n : List ℕ) → name_order (n ++ []) false (n ++ 47 ∷ []) false ≡ Less
 unfolding name_order next
 short-below [] = by_lt (omega arith)
-short-below (x ∷ n) = ap (λ (o : Order). then_by o (name_order (n ++ []) false (n ++ 47 ∷ []) false)) (by-eq refl) ∙ short-below n
+short-below (x ∷ n) = ap (λ (o : Ordering). then_by o (name_order (n ++ []) false (n ++ 47 ∷ []) false)) (by-eq refl) ∙ short-below n
 
 pub folder-over : (s : List ℕ) (x : ℕ) → x % 2 ≡ 0 → below_by (key_at s 9 0) x (x + 1) ≡ true
 unfolding below_by key_at name_at
@@ -75,7 +75,7 @@ folder-over s x e =
     let a : eqb (x % 2) 1 ≡ false = ne_eqb (x % 2) 1 (λ z. omega (arith, e, z)) in
     let b : eqb ((x + 1) % 2) 1 ≡ true = eq-eqb ((x + 1) % 2) 1 (omega (arith, e)) in
     let c : (x + 1) / 2 ≡ x / 2 = omega (arith, e) in
-    rw (a, b, c) (ap (λ (o : Order). decide o (ltb x (x + 1))) (short-below (name_at s 9 0 x)))
+    rw (a, b, c) (ap (λ (o : Ordering). decide o (ltb x (x + 1))) (short-below (name_at s 9 0 x)))
 
 -- so it is where it stands at a place
 pub above : (s : List ℕ) (x : ℕ) → x % 2 ≡ 0 → {y : ℕ} → y ≡ x + 1 → below_by (key_at s 9 0) x y ≡ true
@@ -143,17 +143,12 @@ module _ (below same : ℕ → ℕ → Bool) (l : List ℕ) where
     with_file e = sym (ap (λ (b : Bool). pick b least (min least (beside_of same l (count_below below l (z - 1)) (z - 1)))) (eq-eqb (z % 2) 0 e))
 
     module _ (e : z % 2 ≡ 0 → ⊥) {k r : ℕ} (p : k ≡ count_below below l (z - 1)) (q : r ≡ beside_of same l k (z - 1)) where
-      folder : min least r ≡ least_with below same l z least
+      pub with_other : {v : ℕ} → v ≡ min r least → v ≡ least_with below same l z least
       unfolding least_with
-      folder =
-          ap (min least) (q ∙ ap (λ (i : ℕ). beside_of same l i (z - 1)) p)
+      with_other m =
+          let turned : min r least ≡ min least r = omega arith in
+          m ∙ turned ∙ ap (min least) (q ∙ ap (λ (i : ℕ). beside_of same l i (z - 1)) p)
           ∙ sym (ap (λ (b : Bool). pick b least (min least (beside_of same l (count_below below l (z - 1)) (z - 1)))) (ne_eqb (z % 2) 0 e))
-
-      pub with_less : r < least → r ≡ least_with below same l z least
-      with_less m = let w : r ≡ min least r = omega arith in w ∙ folder
-
-      pub with-more : least ≤ r → least ≡ least_with below same l z least
-      with-more m = let w : least ≡ min least r = omega arith in w ∙ folder
 
   pub pair-on : (j m : ℕ) → j < length l → {r : ℕ} → r ≡ least_with below same l (get_or l j 0) m
       → least_pair below same l (drop j l) m ≡ least_pair below same l (drop (j + 1) l) r

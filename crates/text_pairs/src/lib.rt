@@ -19,18 +19,7 @@ fn search(text: &[u8], list: &[u32], x: u32) -> usize
     requires { Ascends (below_by (key_at text.now 9 0)) list.now }
     ensures { result ≡ count_below (below_by (key_at text.now 9 0)) list.now x }
 {
-    let mut low: usize = 0;
-    let mut high: usize = list.len();
-    while low < high {
-        let mid = low + (high - low) / 2;
-        let y = list[mid];
-        if below(text, b'\t', 0, y, x) {
-            low = mid + 1;
-        } else {
-            high = mid;
-        }
-    }
-    low
+    list.partition_point(|y| below(text, b'\t', 0, *y, x))
 }
 
 // The same for the file of the name of the folder at a place: as many as stand before the folder, where the last of them is below.
@@ -53,20 +42,14 @@ fn file_place(text: &[u8], list: &[u32], j: usize, x: u32) -> usize
 fn same_at(text: &[u8], list: &[u32], i: usize, x: u32) -> bool
     ensures { result ≡ same_at (same_record text.now) list.now i x }
 {
-    if list.len() <= i {
-        return false;
-    }
-    same_record(text, list[i], x)
+    i < list.len() && same_record(text, list[i], x)
 }
 
 // Whether the element before a place has them.
 fn same_before(text: &[u8], list: &[u32], i: usize, x: u32) -> bool
     ensures { result ≡ same_before (same_record text.now) list.now i x }
 {
-    if i == 0 {
-        return false;
-    }
-    same_at(text, list, i - 1, x)
+    0 < i && same_at(text, list, i - 1, x)
 }
 
 // An element, where it has the name and sort of another; or NONE.
@@ -74,9 +57,10 @@ fn if_same(text: &[u8], y: u32, x: u32) -> usize
     ensures { result ≡ pick (same_record text.now y x) y 4294967296 }
 {
     if same_record(text, y, x) {
-        return y as usize;
+        y as usize
+    } else {
+        NONE
     }
-    NONE
 }
 
 // The larger of an element and the one beside its place that has its name and sort, or NONE.
@@ -104,11 +88,7 @@ fn pair_here(text: &[u8], list: &[u32], j: usize, least: usize) -> usize
     }
     let x = z - 1;
     let k = file_place(text, list, j, x);
-    let r = beside(text, list, k, x);
-    if r < least {
-        return r;
-    }
-    least
+    beside(text, list, k, x).min(least)
 }
 
 // The least element that is the later of a folder and a file of one name, as if neither were a folder; or NONE.
@@ -117,10 +97,8 @@ fn least_pair(text: &[u8], list: &[u32]) -> usize
     ensures { result ≡ least_pair (below_by (key_at text.now 9 0)) (same_record text.now) list.now list.now 4294967296 }
 {
     let mut least = NONE;
-    let mut j: usize = 0;
-    while j < list.len() {
+    for j in 0..list.len() {
         least = pair_here(text, list, j, least);
-        j += 1;
     }
     least
 }

@@ -39,10 +39,7 @@ fn name_at(text: &[u8], x: u32) -> &[u8]
 pub fn same_record(text: &[u8], x: u32, y: u32) -> bool
     ensures { result ≡ same_record text.now x y }
 {
-    if x % 2 != y % 2 {
-        return false;
-    }
-    same_bytes(name_at(text, x), name_at(text, y))
+    x % 2 == y % 2 && same_bytes(name_at(text, x), name_at(text, y))
 }
 
 // The smaller of a number and the second of two elements, where they have one name and sort; else the number.
@@ -60,12 +57,8 @@ pub fn least_repeat(text: &[u8], list: &[u32]) -> usize
     ensures { result ≡ least_next (same_record text.now) list.now 4294967296 }
 {
     let mut least = NONE;
-    let mut i: usize = 1;
-    while i < list.len() {
-        let x = list[i - 1];
-        let y = list[i];
-        least = repeat_here(text, x, y, least);
-        i += 1;
+    for i in 1..list.len() {
+        least = repeat_here(text, list[i - 1], list[i], least);
     }
     least
 }

@@ -8,23 +8,23 @@ use Rattle.ground.specs.Verdict.{verdict, fine, broken, is_part}
 use Rattle.entry.specs.Decode.{decode, no_entry, step_over, step_from, step_of}
 use Rattle.entry.specs.declared.EntryRecord.{EntryRecord}
 use Rattle.entry.specs.declared.Cursor.{Cursor}
-use Rattle.entry.specs.declared.Decoded.{Decoded}
-use Rattle.entry.specs.declared.Decoded.TheVariants.{Whole, Broken}
 use Rattle.entry.specs.declared.Step.{Step}
 use Rattle.entry.proofs.Laws.{decode_three}
 use Rattle.call.specs.Call.{none, ◌and◌, Fits}
 use Rattle.tree_calls.specs.Calls.{of_step, of_decoded}
 use Rattle.tree_calls.specs.First.{OfEntries}
 use Rattle.call.proofs.Laws.{answers_once, Of, done, zero, wider, keeps-reads, keeps-stores, each_within, each_gate}
+use Rattle.ground.specs.declared.Verdict.{Verdict}
+use Rattle.std.specs.Prelude.{Err, Ok, Result}
 
 -- every way to decode: an entry, or 3 at its first byte with one of the three parts
-pub each_decoded : (Q : Decoded → Type 0) → ((e : EntryRecord) (next : Cursor) → Q (Whole e next)) → (h at : ℕ) (b : List ℕ)
-    → ((k : ℕ) → is_part k ≡ true → Q (Broken (broken at k))) → Q (decode h at b)
+pub each_decoded : (Q : Result (EntryRecord × Cursor) Verdict → Type 0) → ((e : EntryRecord) (next : Cursor) → Q (Ok (e, next))) → (h at : ℕ) (b : List ℕ)
+    → ((k : ℕ) → is_part k ≡ true → Q (Err (broken at k))) → Q (decode h at b)
 each_decoded Q whole h at b three = go (decode h at b) refl
   where
-    go : (d : Decoded) → decode h at b ≡ d → Q d
-    go (Whole e next) q = whole e next
-    go (Broken v) q = let w = decode_three h at b v q in rw w.1 (three w.0 w.2)
+    go : (d : Result (EntryRecord × Cursor) Verdict) → decode h at b ≡ d → Q d
+    go (Ok (e, next)) q = whole e next
+    go (Err v) q = let w = decode_three h at b v q in rw w.1 (three w.0 w.2)
 
 -- every way to step: 1 or 2 with the cursor as given, nothing at the end, 3 inside the object with the cursor at the end, an entry
 pub each_step : (Q : Step → Type 0) (h : ℕ) (s : List ℕ) (c : Cursor) → Q (no_entry (verdict 1 0) c) → Q (no_entry (verdict 2 0) c) → Q (no_entry fine c)

@@ -6,21 +6,21 @@ use lib.Dec.{leb}
 use lib.ListN.{length}
 use Rattle.ground.specs.Verdict.{id_length, most_records}
 use Rattle.reading.specs.Listing.{listing, tally}
-use Rattle.reading.specs.declared.Counted.{Counted}
-use Rattle.reading.specs.declared.Counted.TheVariants.{Total, Stopped}
 use Rattle.reading.proofs.Laws.{tally_stops, plain_stops}
 use Rattle.listing_text.specs.Text.{longest, tally_verdict, listed_of, listed}
 use Rattle.listing_text.specs.declared.Listed.{Listed}
 use Rattle.tree_calls.specs.First.{OfListing}
 use Rattle.call.proofs.Laws.{same, one_list, Lists, keeps-stores, each-pick}
+use Rattle.ground.specs.declared.Verdict.{Verdict}
+use Rattle.std.specs.Prelude.{Err, Ok, Result}
 
 abbrev numbers : List ℕ
 numbers = 0 ∷ 1 ∷ 2 ∷ 3 ∷ []
 
-tally-listed : (h : ℕ) (s : List ℕ) (c : Counted) → tally 0 (listing h s) ≡ c → Lists numbers (tally_verdict c)
+tally-listed : (h : ℕ) (s : List ℕ) (c : Result ℕ Verdict) → tally 0 (listing h s) ≡ c → Lists numbers (tally_verdict c)
 unfolding tally_verdict
-tally-listed h s (Total n) q = refl
-tally-listed h s (Stopped v) q = tally_stops (Lists numbers) 0 (listing h s) v (plain_stops (Lists numbers) refl (λ at k p. p) h most_records 0 s) q
+tally-listed h s (Ok n) q = refl
+tally-listed h s (Err v) q = tally_stops (Lists numbers) 0 (listing h s) v (plain_stops (Lists numbers) refl (λ at k p. p) h most_records 0 s) q
 
 listing-listed : (h : ℕ) (s : List ℕ) → Lists numbers (listed h s).verdict
 unfolding listed_of listed

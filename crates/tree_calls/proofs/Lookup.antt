@@ -12,11 +12,9 @@ use lib.ListN.{length}
 use Rattle.ground.specs.Basics.{pick}
 use Rattle.ground.specs.Verdict.{verdict, fine, gate_of}
 use Rattle.ground.specs.declared.Verdict.{Verdict}
-use Rattle.ground.specs.declared.Gate.TheVariants.{Open, Shut}
 use Rattle.ground.proofs.Laws.{stored_refused}
 use Rattle.output.specs.Output.{gated}
 use Rattle.entry.specs.declared.EntryRecord.{EntryRecord}
-use Rattle.order.specs.declared.Order.TheVariants.{Below, Same, Above}
 use Rattle.lookup.specs.Halving.{Met, bad, met, found, absent, declined, mid, search_from}
 use Rattle.lookup.specs.Lookup.{compare_entry, compare_at, behind, lookup_in, afterwards, any_in}
 use Rattle.probe.specs.Probe.{aimed_of, stopped_of, start_of, moved_of, ready, probe_step, answer_of}
@@ -32,6 +30,8 @@ use Rattle.call.specs.Deeds.{of_answer}
 use Rattle.tree_calls.specs.Calls.{of_looked}
 use Rattle.tree_calls.specs.First.{OfLookup}
 use Rattle.call.proofs.Laws.{answers_once, same, Of, done, zero, wider, added, keeps-reads, keeps-writes, hands_on, each-pick, each_gate}
+use Rattle.std.specs.Prelude.{Err, Ok}
+use Rattle.std.specs.declared.cmp.Ordering.TheVariants.{Equal, Greater, Less}
 
 -- every way to search among n records: found, 15, 10 at a record
 each_search : (Q : Looked → Type 0) → ((i c : ℕ) → Q (found i c)) → ((c : ℕ) → Q (absent c))
@@ -107,9 +107,9 @@ step_fits object name q p e handed f =
   where
     go : (m : Met) → Fits (0 ∷ 10 ∷ 15 ∷ handed) (of_looked (moved_of p m).looked)
     go bad = zero refl refl
-    go (met Below) = aimed_fits handed _ _ _
-    go (met Same) = done refl refl
-    go (met Above) = aimed_fits handed _ _ _
+    go (met Less) = aimed_fits handed _ _ _
+    go (met Equal) = done refl refl
+    go (met Greater) = aimed_fits handed _ _ _
 
 pub any-fits : (h : ℕ) (object : List ℕ) (records : List EntryRecord) (name : List ℕ) → Fits (0 ∷ 1 ∷ 2 ∷ 10 ∷ 15 ∷ []) (of_looked (any_in h object records name))
 any-fits h object records name =
@@ -127,7 +127,7 @@ pub many-fits : (h : ℕ) (object records names sought : List ℕ) (numbers : �
 unfolding many_answer first_gate gated
 many-fits h object records names sought numbers =
     each_gate (λ g. Fits all (of_answer (gated (and_room n (many numbers) g) (unless_bad (first_bad f 0 qs) n))))
-    (each-pick (λ g. Fits all (of_answer (gated g (unless_bad (first_bad f 0 qs) n)))) (leb n (many numbers)) Open (Shut (verdict 4 n))
+    (each-pick (λ g. Fits all (of_answer (gated g (unless_bad (first_bad f 0 qs) n)))) (leb n (many numbers)) (Ok tt) (Err (verdict 4 n))
     (each_first (λ v. Fits all (of_answer (unless_bad v n))) (done refl refl) (λ i. zero refl refl) f 0 qs) (zero refl refl))
     (zero refl refl) (zero refl refl) h _ _
   where

@@ -12,13 +12,14 @@ use Rattle.ground.specs.Verdict.{verdict, broken, is_part}
 use Rattle.ground.specs.declared.Verdict.{Verdict}
 use Rattle.entry.specs.Entry.{Entry, entry_of}
 use Rattle.entry.specs.Decode.{decode}
-use Rattle.entry.specs.declared.Decoded.{Decoded}
-use Rattle.entry.specs.declared.Decoded.TheVariants.{Whole, Broken}
 use Rattle.entry.proofs.Laws.{decode-parts, decode_three}
 use Rattle.reading.specs.Listing.{Listing, done, stop, entry, follow, plain}
 use Rattle.rules.specs.Rules.{Rules, judge}
 use Rattle.strict.specs.Strict.{text_of, cut}
 use Rattle.reading.proofs.Laws.{Stops}
+use Rattle.entry.specs.declared.Cursor.{Cursor}
+use Rattle.entry.specs.declared.EntryRecord.{EntryRecord}
+use Rattle.std.specs.Prelude.{Err, Ok, Result}
 
 -- each entry begins inside so many bytes, and what the listing stops with has the property P
 abbrev pub Placed : (Verdict → Type 0) → ℕ → Listing → Type 0
@@ -40,13 +41,13 @@ plain-placed P n two three h zero at (x ∷ xs) l = two
 plain-placed P n two three h (suc left) at [] l = tt
 plain-placed P n two three h (suc left) at (x ∷ xs) l = go (plain-placed P n two three h left) (x ∷ xs) l (omega arith) (decode h at (x ∷ xs)) refl
   where
-    go : ((i : ℕ) (b : List ℕ) → i + length b ≤ n → Placed P n (plain h left i b)) → (b : List ℕ) → at + length b ≤ n → at < n → (d : Decoded)
+    go : ((i : ℕ) (b : List ℕ) → i + length b ≤ n → Placed P n (plain h left i b)) → (b : List ℕ) → at + length b ≤ n → at < n → (d : Result (EntryRecord × Cursor) Verdict)
         → decode h at b ≡ d
         → Placed P n (follow (plain h left) at b d)
-    go ih b l m (Whole e next) q =
+    go ih b l m (Ok (e, next)) q =
         let p = decode-parts h at b e next q in
         (m, ih next.at (drop (next.at - at) b) (omega (arith, p.past, p.inside, length-drop p.size b, length-drop (next.at - at) b)))
-    go ih b l m (Broken v) q = let w = decode_three h at b v q in rw w.1 (three at w.0 m w.2)
+    go ih b l m (Err v) q = let w = decode_three h at b v q in rw w.1 (three at w.0 m w.2)
 
 -- a listing cut by rules stops so too, or with what they say where an entry begins
 pub cut-placed : (P : Verdict → Type 0) (n : ℕ) (R : Rules)

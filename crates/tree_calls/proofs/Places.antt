@@ -11,7 +11,6 @@ use Rattle.entry.specs.Record.{many, records_of}
 use Rattle.entry.specs.Decode.{decode, step_of}
 use Rattle.entry.specs.declared.EntryRecord.{EntryRecord}
 use Rattle.entry.specs.declared.Cursor.{Cursor}
-use Rattle.entry.specs.declared.Decoded.{Decoded}
 use Rattle.entry.specs.declared.Step.{Step}
 use Rattle.reading.specs.Listing.{listing}
 use Rattle.reading.specs.Whole.{read_answer}
@@ -28,10 +27,12 @@ use Rattle.tree_calls.proofs.Lookup.{each-looked}
 use Rattle.tree_calls.proofs.Writing.{each-size-asked, each-written, each-header}
 use Rattle.call.proofs.Laws.{never, Indexed, Short, Wrote}
 use Rattle.tree_calls.specs.Places.{TreePlaces}
+use Rattle.ground.specs.declared.Verdict.{Verdict}
+use Rattle.std.specs.Prelude.{Result}
 
-decode-place : (h at : ℕ) (b : List ℕ) (x : Decoded) → x ≡ decode h at b → (of_decoded x).verdict.number ≡ 3 → (of_decoded x).verdict.place ≡ at
+decode-place : (h at : ℕ) (b : List ℕ) (x : Result (EntryRecord × Cursor) Verdict) → x ≡ decode h at b → (of_decoded x).verdict.number ≡ 3 → (of_decoded x).verdict.place ≡ at
 decode-place h at b x q =
-    subst (λ (y : Decoded). (of_decoded y).verdict.number ≡ 3 → (of_decoded y).verdict.place ≡ at) (sym q)
+    subst (λ (y : Result (EntryRecord × Cursor) Verdict). (of_decoded y).verdict.number ≡ 3 → (of_decoded y).verdict.place ≡ at) (sym q)
     (each_decoded (λ y. (of_decoded y).verdict.number ≡ 3 → (of_decoded y).verdict.place ≡ at) (λ e next z. absurd (omega arith)) h at b (λ k p z. refl))
 
 step-place : (h : ℕ) (s : List ℕ) (c : Cursor) (x : Step) → x ≡ step_of h s c → x.verdict.number ≡ 3

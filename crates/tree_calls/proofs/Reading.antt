@@ -8,8 +8,6 @@ use lib.ListN.{length}
 use Rattle.ground.specs.Basics.{pick}
 use Rattle.ground.specs.Verdict.{verdict, broken, is_part, counted, refused, most_records}
 use Rattle.ground.specs.declared.Answer.{Answer}
-use Rattle.ground.specs.declared.Gate.{Gate}
-use Rattle.ground.specs.declared.Gate.TheVariants.{Open, Shut}
 use Rattle.ground.proofs.Laws.{stored_refused}
 use Rattle.entry.specs.Record.{many}
 use Rattle.doubles.specs.Doubles.{named_before}
@@ -18,8 +16,6 @@ use Rattle.rules.specs.Gate.{rule_gate}
 use Rattle.rules.proofs.Laws.{rule_shut}
 use Rattle.reading.specs.Listing.{Listing, listing, tally}
 use Rattle.reading.specs.Whole.{in_room, answer_of, read_answer}
-use Rattle.reading.specs.declared.Counted.{Counted}
-use Rattle.reading.specs.declared.Counted.TheVariants.{Total, Stopped}
 use Rattle.reading.proofs.Laws.{Stops, tally_stops}
 use Rattle.strict.specs.Strict.{strictly, strict_answer}
 use Rattle.call.specs.Call.{none, ◌and◌, Fits}
@@ -27,6 +23,8 @@ use Rattle.call.specs.Deeds.{of_answer, of_gate}
 use Rattle.tree_calls.specs.First.{OfReading}
 use Rattle.call.proofs.Laws.{answers_once, Of, done, zero, wider, keeps-reads, keeps-writes, keeps-stores, each_within, each_gate}
 use Rattle.tree_calls.proofs.Placed.{Placed, placed_stops, plain-placed, cut-placed}
+use Rattle.ground.specs.declared.Verdict.{Verdict}
+use Rattle.std.specs.Prelude.{Err, Ok, Result, ⊤}
 
 -- every way to read: a count, 1, 2, 3 inside the object, 4 with more than there is room for; strictly also 19, and 5, 6, 18, 7 and 17 inside the object
 module _ (Q : Answer → Type 0) (h : ℕ) (s lent : List ℕ) (count : (n : ℕ) → Q (counted n)) (one : Q (refused (verdict 1 0))) (two : Q (refused (verdict 2 0)))
@@ -40,9 +38,9 @@ module _ (Q : Answer → Type 0) (h : ℕ) (s lent : List ℕ) (count : (n : ℕ
   each-counted : (l : Listing) → Ends l → Q (in_room room (tally 0 l))
   each-counted l e = go (tally 0 l) refl
     where
-      go : (k : Counted) → tally 0 l ≡ k → Q (in_room room k)
-      go (Total n) q = each_within Q n room (counted n) (refused (verdict 4 n)) (λ p. count n) (four n)
-      go (Stopped v) q = tally_stops (λ v. Q (refused v)) 0 l v e q
+      go : (k : Result ℕ Verdict) → tally 0 l ≡ k → Q (in_room room k)
+      go (Ok n) q = each_within Q n room (counted n) (refused (verdict 4 n)) (λ p. count n) (four n)
+      go (Err v) q = tally_stops (λ v. Q (refused v)) 0 l v e q
 
   placed : Placed (λ v. Q (refused v)) (length s) (listing h s)
   placed = plain-placed (λ v. Q (refused v)) (length s) two three h most_records 0 s (omega arith)
@@ -75,9 +73,9 @@ module _ (Q : Answer → Type 0) (h : ℕ) (s lent : List ℕ) (count : (n : ℕ
     unfolding answer_of
     each-strict = go (rule_gate k h (length s) room) refl
       where
-        go : (g : Gate) → rule_gate k h (length s) room ≡ g → Q (answer_of g (strictly (git_rules k) h s) room)
-        go Open q = each-counted (strictly (git_rules k) h s) strict-ends
-        go (Shut v) q = rule_shut (λ v. Q (refused v)) one nineteen two k h (length s) room v q
+        go : (g : Result ⊤ Verdict) → rule_gate k h (length s) room ≡ g → Q (answer_of g (strictly (git_rules k) h s) room)
+        go (Ok tt) q = each-counted (strictly (git_rules k) h s) strict-ends
+        go (Err v) q = rule_shut (λ v. Q (refused v)) one nineteen two k h (length s) room v q
 
 pub plain_fits : (h : ℕ) (s lent : List ℕ) → Fits (0 ∷ 1 ∷ 2 ∷ 3 ∷ 4 ∷ []) (of_answer (read_answer h s (listing h s) lent))
 plain_fits h s lent =
@@ -99,9 +97,9 @@ strict-counts k h s lent =
 rule_gate_fits : (k h bytes records : ℕ) → Fits (0 ∷ 1 ∷ 2 ∷ 19 ∷ []) (of_gate (rule_gate k h bytes records))
 rule_gate_fits k h bytes records = go (rule_gate k h bytes records) refl
   where
-    go : (g : Gate) → rule_gate k h bytes records ≡ g → Fits (0 ∷ 1 ∷ 2 ∷ 19 ∷ []) (of_gate g)
-    go Open q = done refl refl
-    go (Shut v) q = rule_shut (λ w. Fits (0 ∷ 1 ∷ 2 ∷ 19 ∷ []) (of_gate (Shut w))) (zero refl refl) (zero refl refl) (zero refl refl) k h bytes records v q
+    go : (g : Result ⊤ Verdict) → rule_gate k h bytes records ≡ g → Fits (0 ∷ 1 ∷ 2 ∷ 19 ∷ []) (of_gate g)
+    go (Ok tt) q = done refl refl
+    go (Err v) q = rule_shut (λ w. Fits (0 ∷ 1 ∷ 2 ∷ 19 ∷ []) (of_gate (Err w))) (zero refl refl) (zero refl refl) (zero refl refl) k h bytes records v q
 
 pub of_reading : OfReading
 of_reading = record {

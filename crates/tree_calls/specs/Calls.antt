@@ -1,11 +1,9 @@
 -- The public calls on trees, each by its own contract, and what the answers of those that refuse say: entries, reading, lookup, writing, the text of a
 -- listing. Assumes nothing.
-use Rattle.std.specs.Prelude.{List, [], ◌∷◌}
+use Rattle.std.specs.Prelude.{List, [], ◌∷◌, Err, Ok, Result}
 use Rattle.ground.specs.Basics.{pick}
 use Rattle.entry.specs.Record.{flat}
 use Rattle.entry.specs.Decode.{decoded_verdict}
-use Rattle.entry.specs.declared.Decoded.{Decoded}
-use Rattle.entry.specs.declared.Decoded.TheVariants.{Whole, Broken}
 use Rattle.entry.specs.declared.Step.{Step}
 use Rattle.lookup.specs.declared.Looked.{Looked}
 use Rattle.output.proofs as output
@@ -28,11 +26,14 @@ use Rattle.loose_header.proofs as loose
 use Rattle.call.specs.Call.{Call, call, Input, Said, Deed}
 use Rattle.call.specs.Walked.{Walked}
 use Rattle.call.specs.Deeds.{of_verdict, of_answer, of_gate, reads, stores, writes}
+use Rattle.entry.specs.declared.Cursor.{Cursor}
+use Rattle.entry.specs.declared.EntryRecord.{EntryRecord}
+use Rattle.ground.specs.declared.Verdict.{Verdict}
 
 -- the record of an entry that was read
-abbrev pub of_decoded : Decoded → Said
-of_decoded (Whole e next) = record { verdict = decoded_verdict (Whole e next); counts = flat e }
-of_decoded (Broken v) = of_verdict (decoded_verdict (Broken v))
+abbrev pub of_decoded : Result (EntryRecord × Cursor) Verdict → Said
+of_decoded (Ok (e, next)) = record { verdict = decoded_verdict (Ok (e, next)); counts = flat e }
+of_decoded (Err v) = of_verdict (decoded_verdict (Err v))
 
 -- whether an entry was found, and its record
 abbrev pub of_step : Step → Said

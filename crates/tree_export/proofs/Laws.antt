@@ -11,7 +11,6 @@ use Rattle.ground.specs.Basics.{pick}
 use Rattle.ground.specs.Verdict.{verdict, fine, counted, refused, most_bytes, most_records, id_length, gate_of, stored}
 use Rattle.ground.specs.declared.Verdict.{Verdict}
 use Rattle.ground.specs.declared.Answer.{Answer}
-use Rattle.ground.specs.declared.Gate.TheVariants.{Open, Shut}
 use Rattle.ground.proofs.Laws.{id-is, id_small, gate_fine, sets_append, stored-done, id-made, gate_open}
 use Rattle.output.specs.Output.{fitted}
 use Rattle.output.proofs.Laws.{fitted-fine, gated_open, gated-shut}
@@ -24,8 +23,6 @@ use Rattle.rules.specs.Gate.{rule_gate}
 use Rattle.rules.proofs.Laws.{rule_known, rule_open}
 use Rattle.reading.specs.Listing.{listing, tally}
 use Rattle.reading.specs.Whole.{in_room}
-use Rattle.reading.specs.declared.Counted.{Counted}
-use Rattle.reading.specs.declared.Counted.TheVariants.{Total, Stopped}
 use Rattle.reading.proofs.Laws.{Stops, tally_stops, plain_stops, answer-counted}
 use Rattle.strict.specs.Strict.{strictly, strict_answer}
 use Rattle.strict.proofs.Laws.{cut_stops, cut-refuses}
@@ -36,6 +33,7 @@ use Rattle.tree_text.specs.declared.Front.{Front}
 use Rattle.tree_text.proofs.Laws.{front-is}
 use Rattle.tree_export.specs.Export.{text_in, counted_in, export_answer}
 use Rattle.tree_export.specs.Code.{Added, settled}
+use Rattle.std.specs.Prelude.{Err, Ok, Result}
 
 -- ---- one piece after another
 
@@ -55,7 +53,7 @@ digits-done : (id lent : List ℕ) (h : ℕ) → length id ≡ h → id_length h
 digits-done id lent h e i l =
     let j = id-is h i in
     let k = id_small h j in
-    let g : gate_of (length id) (length lent) 0 ≡ Open = gate_fine (length id) (length lent) 0 (rw e j) (omega arith) (omega arith) in
+    let g : gate_of (length id) (length lent) 0 ≡ Ok tt = gate_fine (length id) (length lent) 0 (rw e j) (omega arith) (omega arith) in
     let a = hex_open id (length lent) g ∙ fitted-fine (length lent) (counted (2 * length id)) refl (omega arith) in
     ap (λ (x : Answer). x.verdict.number) a
 
@@ -139,21 +137,21 @@ strict-not-four k h s =
     (λ before text e at z. not-four (is_text (modes_of k) text) (permitted e.name) (is_dot_git e.name) (is_after before e) (named_before before e.name))
     h s [] (listing h s) (plain_stops NotFour (λ q. omega arith) (λ at j p q. omega arith) h most_records 0 s)
 
-pub stops_not-four : (k h : ℕ) (s : List ℕ) (v : Verdict) → tally 0 (strictly (git_rules k) h s) ≡ Stopped v → v.number ≡ 4 → ⊥
+pub stops_not-four : (k h : ℕ) (s : List ℕ) (v : Verdict) → tally 0 (strictly (git_rules k) h s) ≡ Err v → v.number ≡ 4 → ⊥
 stops_not-four k h s v t = tally_stops NotFour 0 (strictly (git_rules k) h s) v (strict-not-four k h s) t
 
-module _ (k h : ℕ) (s lent : List ℕ) (a : Answer) (p : a ≡ strict_answer k h s lent) (l : length lent ≡ 1) (g : rule_gate k h (length s) 0 ≡ Open) where
-  without_room : (c : Counted) → tally 0 (strictly (git_rules k) h s) ≡ c → a ≡ in_room 0 c
+module _ (k h : ℕ) (s lent : List ℕ) (a : Answer) (p : a ≡ strict_answer k h s lent) (l : length lent ≡ 1) (g : rule_gate k h (length s) 0 ≡ Ok tt) where
+  without_room : (c : Result ℕ Verdict) → tally 0 (strictly (git_rules k) h s) ≡ c → a ≡ in_room 0 c
   without_room c t = p ∙ rw l (answer-counted (strictly (git_rules k) h s) (rule_gate k h (length s) 0) 0 g t)
 
   pub settled-some : a.verdict.number ≡ 4 → fine ≡ settled (tally 0 (strictly (git_rules k) h s))
   settled-some f = go (tally 0 (strictly (git_rules k) h s)) refl
     where
-      go : (c : Counted) → tally 0 (strictly (git_rules k) h s) ≡ c → fine ≡ settled c
-      go (Total n) t = refl
-      go (Stopped v) t =
+      go : (c : Result ℕ Verdict) → tally 0 (strictly (git_rules k) h s) ≡ c → fine ≡ settled c
+      go (Ok n) t = refl
+      go (Err v) t =
           absurd
-          (tally_stops NotFour 0 (strictly (git_rules k) h s) v (strict-not-four k h s) t (sym (ap (λ (x : Answer). x.verdict.number) (without_room (Stopped v) t)) ∙ f))
+          (tally_stops NotFour 0 (strictly (git_rules k) h s) v (strict-not-four k h s) t (sym (ap (λ (x : Answer). x.verdict.number) (without_room (Err v) t)) ∙ f))
 
   pub settled_other : (a.verdict.number ≡ 4 → ⊥) → a.verdict ≡ settled (tally 0 (strictly (git_rules k) h s))
   settled_other f = go (tally 0 (strictly (git_rules k) h s)) refl
@@ -162,15 +160,15 @@ module _ (k h : ℕ) (s lent : List ℕ) (a : Answer) (p : a ≡ strict_answer k
       few n true z = refl
       few n false z = absurd (z refl)
 
-      go : (c : Counted) → tally 0 (strictly (git_rules k) h s) ≡ c → a.verdict ≡ settled c
-      go (Total n) t =
-          let e = without_room (Total n) t in
+      go : (c : Result ℕ Verdict) → tally 0 (strictly (git_rules k) h s) ≡ c → a.verdict ≡ settled c
+      go (Ok n) t =
+          let e = without_room (Ok n) t in
           ap (λ (x : Answer). x.verdict) e ∙ few n (leb n 0) (λ z. f (ap (λ (x : Answer). x.verdict.number) e ∙ z))
-      go (Stopped v) t = ap (λ (x : Answer). x.verdict) (without_room (Stopped v) t)
+      go (Err v) t = ap (λ (x : Answer). x.verdict) (without_room (Err v) t)
 
 -- ---- the measure
 
-stops_bad : (k h : ℕ) (s : List ℕ) (v : Verdict) → tally 0 (strictly (git_rules k) h s) ≡ Stopped v → v.number ≡ 0 → ⊥
+stops_bad : (k h : ℕ) (s : List ℕ) (v : Verdict) → tally 0 (strictly (git_rules k) h s) ≡ Err v → v.number ≡ 0 → ⊥
 stops_bad k h s v t = tally_stops (λ (w : Verdict). w.number ≡ 0 → ⊥) 0 (strictly (git_rules k) h s) v (cut-refuses (git_rules k) h s) t
 
 module _ (k h : ℕ) (s : List ℕ) (v : Verdict) (p : v ≡ settled (tally 0 (strictly (git_rules k) h s))) where
@@ -178,17 +176,17 @@ module _ (k h : ℕ) (s : List ℕ) (v : Verdict) (p : v ≡ settled (tally 0 (s
   unfolding counted_in
   measured-bad n = go (tally 0 (strictly (git_rules k) h s)) p
     where
-      go : (c : Counted) → v ≡ settled c → refused v ≡ counted_in h s c
-      go (Total m) q = absurd (n (ap (λ (x : Verdict). x.number) q))
-      go (Stopped w) q = ap refused q
+      go : (c : Result ℕ Verdict) → v ≡ settled c → refused v ≡ counted_in h s c
+      go (Ok m) q = absurd (n (ap (λ (x : Verdict). x.number) q))
+      go (Err w) q = ap refused q
 
   pub measured-fine : v.number ≡ 0 → (n : ℕ) → n ≡ 0 + length (text_in h s) → counted n ≡ counted_in h s (tally 0 (strictly (git_rules k) h s))
   unfolding counted_in
   measured-fine z n e = go (tally 0 (strictly (git_rules k) h s)) refl p
     where
-      go : (c : Counted) → tally 0 (strictly (git_rules k) h s) ≡ c → v ≡ settled c → counted n ≡ counted_in h s c
-      go (Total m) t q = ap counted (omega (arith, e))
-      go (Stopped w) t q = absurd (stops_bad k h s w t (sym (ap (λ (x : Verdict). x.number) q) ∙ z))
+      go : (c : Result ℕ Verdict) → tally 0 (strictly (git_rules k) h s) ≡ c → v ≡ settled c → counted n ≡ counted_in h s c
+      go (Ok m) t q = ap counted (omega (arith, e))
+      go (Err w) t q = absurd (stops_bad k h s w t (sym (ap (λ (x : Verdict). x.number) q) ∙ z))
 
 -- where it is done it is the length of the text
 pub counted-length : (h : ℕ) (s : List ℕ) (k : ℕ)
@@ -196,40 +194,40 @@ pub counted-length : (h : ℕ) (s : List ℕ) (k : ℕ)
 unfolding counted_in
 counted-length h s k = go (tally 0 (strictly (git_rules k) h s)) refl
   where
-    go : (c : Counted) → tally 0 (strictly (git_rules k) h s) ≡ c → (counted_in h s c).verdict.number ≡ 0 → (counted_in h s c).count ≡ length (text_in h s)
-    go (Total n) t z = refl
-    go (Stopped v) t z = absurd (stops_bad k h s v t z)
+    go : (c : Result ℕ Verdict) → tally 0 (strictly (git_rules k) h s) ≡ c → (counted_in h s c).verdict.number ≡ 0 → (counted_in h s c).count ≡ length (text_in h s)
+    go (Ok n) t z = refl
+    go (Err v) t z = absurd (stops_bad k h s v t z)
 
 -- and every entry was counted
 pub counted_total : (h : ℕ) (s : List ℕ) (k : ℕ)
-    → (counted_in h s (tally 0 (strictly (git_rules k) h s))).verdict.number ≡ 0 → (n : ℕ) × (tally 0 (strictly (git_rules k) h s) ≡ Total n)
+    → (counted_in h s (tally 0 (strictly (git_rules k) h s))).verdict.number ≡ 0 → (n : ℕ) × (tally 0 (strictly (git_rules k) h s) ≡ Ok n)
 unfolding counted_in
 counted_total h s k = go (tally 0 (strictly (git_rules k) h s)) refl
   where
-    go : (c : Counted) → tally 0 (strictly (git_rules k) h s) ≡ c → (counted_in h s c).verdict.number ≡ 0 → (n : ℕ) × (tally 0 (strictly (git_rules k) h s) ≡ Total n)
-    go (Total n) t z = (n, t)
-    go (Stopped v) t z = absurd (stops_bad k h s v t z)
+    go : (c : Result ℕ Verdict) → tally 0 (strictly (git_rules k) h s) ≡ c → (counted_in h s c).verdict.number ≡ 0 → (n : ℕ) × (tally 0 (strictly (git_rules k) h s) ≡ Ok n)
+    go (Ok n) t z = (n, t)
+    go (Err v) t z = absurd (stops_bad k h s v t z)
 
 -- ---- the answer
 
 module _ (k h : ℕ) (s : List ℕ) (room m : ℕ) (e : m ≡ max (length s) room) where
-  pub export_shut : (v : Verdict) → rule_gate k h m 0 ≡ Shut v → export_answer k h s room ≡ refused v
+  pub export_shut : (v : Verdict) → rule_gate k h m 0 ≡ Err v → export_answer k h s room ≡ refused v
   unfolding export_answer
   export_shut v g = gated-shut _ v _ (ap (λ (x : ℕ). rule_gate k h x 0) (sym e) ∙ g)
 
-  pub export_open : rule_gate k h m 0 ≡ Open → export_answer k h s room ≡ fitted room (counted_in h s (tally 0 (strictly (git_rules k) h s)))
+  pub export_open : rule_gate k h m 0 ≡ Ok tt → export_answer k h s room ≡ fitted room (counted_in h s (tally 0 (strictly (git_rules k) h s)))
   unfolding export_answer
   export_open g = gated_open _ _ (ap (λ (x : ℕ). rule_gate k h x 0) (sym e) ∙ g)
 
   -- what a gate that is open says
-  pub began : rule_gate k h m 0 ≡ Open → (rule_gate k h (length s) 0 ≡ Open) × (id_length h ≡ true) × (length s ≤ most_bytes)
+  pub began : rule_gate k h m 0 ≡ Ok tt → (rule_gate k h (length s) 0 ≡ Ok tt) × (id_length h ≡ true) × (length s ≤ most_bytes)
   began g =
       let i = rule_open k h m 0 g in
       let o = gate_open h m 0 (sym (rule_known k h m 0 i) ∙ g) in
       (rule_known k h (length s) 0 i ∙ gate_fine h (length s) 0 o.0 (omega (arith, o.1)) (omega arith), id-made h o.0, omega (arith, o.1))
 
 -- the same of a call on the object alone
-pub began_here : (k h : ℕ) (s : List ℕ) → rule_gate k h (length s) 0 ≡ Open → (id_length h ≡ true) × (length s ≤ most_bytes)
+pub began_here : (k h : ℕ) (s : List ℕ) → rule_gate k h (length s) 0 ≡ Ok tt → (id_length h ≡ true) × (length s ≤ most_bytes)
 began_here k h s g =
     let o = gate_open h (length s) 0 (sym (rule_known k h (length s) 0 (rule_open k h (length s) 0 g)) ∙ g) in
     (id-made h o.0, o.1)

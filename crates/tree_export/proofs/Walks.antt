@@ -13,13 +13,13 @@ use Rattle.entry.specs.Decode.{decode}
 use Rattle.entry.specs.Entry.{entries_of, entry_of}
 use Rattle.entry.specs.declared.EntryRecord.{EntryRecord}
 use Rattle.entry.specs.declared.Cursor.{Cursor}
-use Rattle.entry.specs.declared.Decoded.TheVariants.{Whole, Broken}
 use Rattle.entry.proofs.Laws.{decode-inside}
 use Rattle.reading.specs.Listing.{Listing, records_in}
 use Rattle.reading.proofs.Laws.{rest_at, rest_end, none_full, none_left, whole_here}
 use Rattle.tree_text.specs.Text.{record_text, as_text}
 use Rattle.tree_export.specs.Export.{text_in}
 use Rattle.tree_export.specs.Code.{Added}
+use Rattle.std.specs.Prelude.{Err, Ok}
 
 -- the text of what is read past a place
 abbrev pub text_from : ℕ → List ℕ → Listing → List ℕ
@@ -49,10 +49,10 @@ module _ (h : ℕ) (s out : List ℕ) (at n : ℕ) (now : List ℕ) (p : ℕ) (w
   pub walking_full : most_records ≤ n → Added out 0 (text_in h s) now p
   walking_full l = ended (none_full h s at n l)
 
-  pub walking_broken : n < most_records → {v : Verdict} → decode h at (drop at s) ≡ Broken v → Added out 0 (text_in h s) now p
+  pub walking_broken : n < most_records → {v : Verdict} → decode h at (drop at s) ≡ Err v → Added out 0 (text_in h s) now p
   walking_broken l d = ended (none_left h s at n l d)
 
-  pub walking_more : n < most_records → (e : EntryRecord) (next : Cursor) → decode h at (drop at s) ≡ Whole e next → (after : List ℕ) (q : ℕ)
+  pub walking_more : n < most_records → (e : EntryRecord) (next : Cursor) → decode h at (drop at s) ≡ Ok (e, next) → (after : List ℕ) (q : ℕ)
       → Added now p (record_text (entry_of h s e)) after q × (q ≤ p + 1073741905) → Walking h s out next.at (n + 1) after q
   unfolding records_in as_text
   walking_more l e next d after q a =
@@ -67,6 +67,6 @@ module _ (h : ℕ) (s out : List ℕ) (at n : ℕ) (now : List ℕ) (p : ℕ) (w
       }
 
 -- an entry that was decoded lies inside
-pub inside : (h : ℕ) (s : List ℕ) (at : ℕ) (e : EntryRecord) (next : Cursor) → decode h at (drop at s) ≡ Whole e next
+pub inside : (h : ℕ) (s : List ℕ) (at : ℕ) (e : EntryRecord) (next : Cursor) → decode h at (drop at s) ≡ Ok (e, next)
     → (e.name_start ≤ e.name_end) × (e.name_end ≤ length s) × (e.id_start + h ≤ length s)
 inside h s at e next d = let i = decode-inside h s at e next d in (i.1, omega (arith, i.2, i.3, i.4), omega (arith, i.3, i.4))

@@ -1,9 +1,8 @@
 // A strict tree object as the text that `git mktree -z` takes (docs/FORMAT.md, "Text").
 #![tactic(auto)]
 
-ghost use Rattle.std.specs.Prelude.{◌≡◌, true, [], ◌∷◌, ◌++◌, ◌+◌, ◌≤◌, length};
+ghost use Rattle.std.specs.Prelude.{◌≡◌, Ok, true, [], ◌∷◌, ◌++◌, ◌+◌, ◌≤◌, length};
 ghost use Rattle.ground.specs.Verdict.{most_bytes, id_length, stored};
-ghost use Rattle.ground.specs.declared.Gate.{Gate};
 ghost use Rattle.entry.specs.Entry.{entry_of};
 ghost use Rattle.rules.specs.Rules.{git_rules};
 ghost use Rattle.rules.specs.Gate.{rule_gate};
@@ -14,8 +13,8 @@ ghost use Rattle.tree_text.specs.Text.{front_text, record_text};
 ghost use Rattle.tree_export.specs.Export.{text_in, counted_in, export_answer};
 ghost use Rattle.tree_export.specs.Code.{Added, settled};
 
-use entry::{Cursor, Decoded, EntryRecord};
-use ground::{Answer, DONE, FEW_RECORDS, FINE, Gate, MOST_RECORDS, Verdict, longer};
+use entry::{Cursor, EntryRecord};
+use ground::{Answer, DONE, FEW_RECORDS, FINE, MOST_RECORDS, Verdict, longer};
 use hex_of_id::hex_of_id;
 use output::{fit, put, put_ended};
 use rules::rule_bounds;
@@ -75,12 +74,12 @@ fn walk(s: &[u8], h: usize, out: &mut [u8]) -> usize
             return p;
         }
         match c.decode(s, h) {
-            Decoded::Whole(e, next) => {
+            Ok((e, next)) => {
                 p = put_record(out, p, s, h, e);
                 c = next;
                 n += 1;
             }
-            Decoded::Broken(_) => {
+            Err(_) => {
                 return p;
             }
         }
@@ -90,7 +89,7 @@ fn walk(s: &[u8], h: usize, out: &mut [u8]) -> usize
 
 // The verdict of strict reading with room enough: with none, 4 says that there are entries and no refusal.
 fn settle(bytes: &[u8], h: usize, rules: u16) -> Verdict
-    requires { rule_gate rules h (length bytes.now) 0 ≡ Gate.Open }
+    requires { rule_gate rules h (length bytes.now) 0 ≡ Ok tt }
     ensures { result ≡ settled (tally 0 (strictly (git_rules rules) h bytes.now)) }
 {
     let mut none = [0usize; 1];
@@ -105,7 +104,7 @@ fn settle(bytes: &[u8], h: usize, rules: u16) -> Verdict
 
 // The length of the text, or the refusal of strict reading.
 fn measure(bytes: &[u8], h: usize, rules: u16) -> Answer
-    requires { rule_gate rules h (length bytes.now) 0 ≡ Gate.Open }
+    requires { rule_gate rules h (length bytes.now) 0 ≡ Ok tt }
     ensures { result ≡ counted_in h bytes.now (tally 0 (strictly (git_rules rules) h bytes.now)) }
 {
     let verdict = settle(bytes, h, rules);
@@ -127,13 +126,13 @@ pub fn export_tree(bytes: &[u8], h: usize, rules: u16, out: &mut [u8]) -> Answer
     ensures out { out.new ≡ stored (export_answer rules h bytes.now (length out.old)).verdict (text_in h bytes.now) out.old }
 {
     match rule_bounds(rules, h, longer(bytes.len(), out.len()), 0) {
-        Gate::Shut(v) => {
+        Err(v) => {
             return Answer {
                 verdict: v,
                 count: 0,
             };
         }
-        Gate::Open => {}
+        Ok(()) => {}
     }
     let a = fit(out.len(), measure(bytes, h, rules));
     let number = a.verdict.number;

@@ -3,21 +3,22 @@
 #![tactic(auto)]
 
 ghost use Rattle.std.specs.Prelude.{◌≡◌, true, ◌≤◌, length};
-ghost use Rattle.ground.specs.Verdict.{most_bytes, id_length, stored};
+ghost use Rattle.ground.specs.Verdict.{most_bytes, most_records, id_length, stored};
 ghost use Rattle.output.specs.Output.{fitted};
 ghost use Rattle.text_import.specs.Import.{texts, imported, counted_of, import_answer};
 ghost use Rattle.text_import.specs.Lent.{lent_answer};
 
-use ground::{Answer, FEW_RECORDS, Gate, MOST_BYTES, longer};
+use ground::{Answer, FEW_RECORDS, MOST_BYTES, longer};
 use rules::rule_bounds;
 use text_import::import_lent;
 
-// With room for few records: 4 where there are more.
-fn import_small(text: &[u8], h: usize, rules: u16, out: &mut [u8]) -> Answer
-    ensures answer { result ≡ lent_answer rules h text.now (length out.old) 1024 }
-    ensures out { out.new ≡ stored (lent_answer rules h text.now (length out.old) 1024).verdict (imported (texts rules h text.now)) out.old }
+// With room for N records in a list of its own: 4 where there are more. N is a parameter, so no proof computes so long a list.
+fn import_own<const N: usize>(text: &[u8], h: usize, rules: u16, out: &mut [u8]) -> Answer
+    requires { N ≤ most_records }
+    ensures answer { result ≡ lent_answer rules h text.now (length out.old) N }
+    ensures out { out.new ≡ stored (lent_answer rules h text.now (length out.old) N).verdict (imported (texts rules h text.now)) out.old }
 {
-    let mut list = [0u32; 1024];
+    let mut list = [0u32; N];
     import_lent(text, h, rules, out, &mut list)
 }
 
@@ -31,8 +32,7 @@ fn import_large(text: &[u8], h: usize, rules: u16, out: &mut [u8]) -> Answer
     if MOST_BYTES < text.len() {
         return import_large(text, h, rules, out);
     }
-    let mut list = [0u32; 1048576];
-    import_lent(text, h, rules, out, &mut list)
+    import_own::<1048576>(text, h, rules, out)
 }
 
 // Imports a text, once its bounds are seen.
@@ -41,7 +41,7 @@ fn import_open(text: &[u8], h: usize, rules: u16, out: &mut [u8]) -> Answer
     ensures answer { result ≡ fitted (length out.old) (counted_of (texts rules h text.now)) }
     ensures out { out.new ≡ stored (fitted (length out.old) (counted_of (texts rules h text.now))).verdict (imported (texts rules h text.now)) out.old }
 {
-    let a = import_small(text, h, rules, out);
+    let a = import_own::<1024>(text, h, rules, out);
     let verdict = a.verdict;
     let number = verdict.number;
     if number != FEW_RECORDS {
@@ -57,10 +57,10 @@ pub fn import_tree(text: &[u8], h: usize, rules: u16, out: &mut [u8]) -> Answer
     ensures out { out.new ≡ stored (import_answer rules h text.now (length out.old)).verdict (imported (texts rules h text.now)) out.old }
 {
     match rule_bounds(rules, h, longer(text.len(), out.len()), 0) {
-        Gate::Shut(v) => Answer {
+        Err(v) => Answer {
             verdict: v,
             count: 0,
         },
-        Gate::Open => import_open(text, h, rules, out),
+        Ok(()) => import_open(text, h, rules, out),
     }
 }

@@ -8,7 +8,6 @@ use mathlib.Core.List.{List, [], ◌∷◌, ◌++◌}
 use lib.ListN.{length, take, drop}
 use lib.Seq.{take_at, drop-drop}
 use Rattle.ground.specs.Verdict.{gate_of, stored, most_records}
-use Rattle.ground.specs.declared.Gate.TheVariants.{Open}
 use Rattle.ground.specs.declared.Answer.{Answer}
 use Rattle.ground.proofs.Laws.{stored-done}
 use Rattle.mode_round.proofs.Space.{read_small}
@@ -16,14 +15,11 @@ use Rattle.entry.specs.Record.{width, many, records_of, well_formed, folder_of}
 use Rattle.entry.specs.Entry.{Entry, entry_of, entries_of}
 use Rattle.entry.specs.Decode.{decode}
 use Rattle.entry.specs.declared.EntryRecord.{EntryRecord}
-use Rattle.entry.specs.declared.Decoded.{Decoded}
-use Rattle.entry.specs.declared.Decoded.TheVariants.{Whole, Broken}
 use Rattle.entry.proofs.Laws.{decode-inside, decode-parts, well_made}
 use Rattle.reading.specs.Listing.{Listing, listing, follow, plain, records_in, flats, tally}
 use Rattle.rules.specs.Rules.{Rules}
 use Rattle.strict.specs.Strict.{strictly}
 use Rattle.reading.specs.Whole.{read_answer, read_records}
-use Rattle.reading.specs.declared.Counted.TheVariants.{Total}
 use Rattle.reading.proofs.Laws.{answer-done, tally-length, flats-length}
 use Rattle.strict.proofs.Laws.{cut-refuses, strict-plain}
 use Rattle.one_listing.specs.Sound.{Sound, Ascending, Before}
@@ -32,6 +28,9 @@ use Rattle.one_listing.specs.Demand.{Accepts}
 use Rattle.one_listing.proofs.Theorem.{accepts_sound, records-stored}
 use Rattle.lookup.specs.Lookup.{nth, Sorted}
 use Rattle.tree_round.specs.Demand.{returned}
+use Rattle.entry.specs.declared.Cursor.{Cursor}
+use Rattle.ground.specs.declared.Verdict.{Verdict}
+use Rattle.std.specs.Prelude.{Err, Ok, Result}
 
 -- ---- what they are
 
@@ -42,7 +41,7 @@ flats-records (r ∷ rs) = ap (λ (l : List EntryRecord). r ∷ l) (flats-record
 
 module _ (R : Rules) (h : ℕ) (s lent : List ℕ) (es : List Entry) (a : Accepts R h s lent es) where
   -- the call began, the listing was counted to its end, and there was room
-  pub accepted : (gate_of h (length s) (many (length lent)) ≡ Open) × (tally 0 (strictly R h s) ≡ Total (length es)) × (length es ≤ many (length lent))
+  pub accepted : (gate_of h (length s) (many (length lent)) ≡ Ok tt) × (tally 0 (strictly R h s) ≡ Ok (length es)) × (length es ≤ many (length lent))
   accepted = answer-done (strictly R h s) h (length s) (many (length lent)) (many (length lent)) (length es) (cut-refuses R h s) a.answer
 
   pub plain-is : strictly R h s ≡ listing h s
@@ -89,11 +88,11 @@ plain-good h s zero at (x ∷ xs) q = tt
 plain-good h s (suc k) at [] q = tt
 plain-good h s (suc k) at (x ∷ xs) q = go (plain-good h s k) (x ∷ xs) q (decode h at (x ∷ xs)) refl
   where
-    go : ((i : ℕ) (c : List ℕ) → drop i s ≡ c → AllGood h (length s) (records_in (plain h k i c))) → (b : List ℕ) → drop at s ≡ b → (d : Decoded) → decode h at b ≡ d
+    go : ((i : ℕ) (c : List ℕ) → drop i s ≡ c → AllGood h (length s) (records_in (plain h k i c))) → (b : List ℕ) → drop at s ≡ b → (d : Result (EntryRecord × Cursor) Verdict) → decode h at b ≡ d
         → AllGood h (length s) (records_in (follow (plain h k) at b d))
-    go ih b q (Broken v) d = tt
-    go ih b q (Whole e next) d =
-        let w : decode h at (drop at s) ≡ Whole e next = ap (decode h at) q ∙ d in
+    go ih b q (Err v) d = tt
+    go ih b q (Ok (e, next)) d =
+        let w : decode h at (drop at s) ≡ Ok (e, next) = ap (decode h at) q ∙ d in
         let i = decode-inside h s at e next w in
         let p = decode-parts h at b e next d in
         let z : at + (next.at - at) ≡ next.at = omega arith in

@@ -16,7 +16,6 @@ use Rattle.entry.proofs.Laws.{well_parts}
 use Rattle.reading.specs.Listing.{Listing, listing, records_in, tally}
 use Rattle.rules.specs.Rules.{Rules}
 use Rattle.reading.specs.Whole.{read_answer, read_records}
-use Rattle.reading.specs.declared.Counted.TheVariants.{Total}
 use Rattle.reading.proofs.Laws.{answer-counted, room-fine}
 use Rattle.one_listing.specs.Lawful.{RulesOk}
 use Rattle.one_listing.proofs.Back.{Writable, AllWritable, listed, read_written, names-listed, listed-length}
@@ -26,6 +25,7 @@ use Rattle.tree_write.proofs.Laws.{refusal_free, refusal_well, free-name, id_len
 use Rattle.tree_write.proofs.Done.{began, done-passes, done-fits, writes}
 use Rattle.tree_round.specs.Demand.{returned, PlainToo, Rewrites, SomeModes, ReadsBack}
 use Rattle.tree_round.proofs.Returned.{accepted, plain-is, count-is, returned-is, entries_are, AllGood, plain-good, EachNamed, sound-named}
+use Rattle.std.specs.Prelude.{Ok}
 
 pub plain_too : (R : Rules) → PlainToo R
 plain_too R h s lent es a = (
@@ -85,7 +85,7 @@ reads_back h bytes records lent room n d some fits few =
     let k : length es ≡ length rs = length-map rs (entry_of h bytes) in
     let l : listing h (as_written es) ≡ listed 0 es = read_written h most_records 0 es w (omega (arith, k)) in
     let c : length (records_in (listing h (as_written es))) ≡ length rs = ap (λ (x : Listing). length (records_in x)) l ∙ listed-length 0 es ∙ k in
-    let t : tally 0 (listing h (as_written es)) ≡ Total (length rs) = ap (tally 0) l ∙ listed_total 0 0 es ∙ ap Total (let y : 0 + length es ≡ length rs = omega arith in y) in
+    let t : tally 0 (listing h (as_written es)) ≡ Ok (length rs) = ap (tally 0) l ∙ listed_total 0 0 es ∙ ap Ok (let y : 0 + length es ≡ length rs = omega arith in y) in
     let a : read_answer h (as_written es) (listing h (as_written es)) lent ≡ counted (length rs)
     = answer-counted (listing h (as_written es)) _ (many (length lent)) (gate_fine h (length (as_written es)) (many (length lent)) o.0 (omega (arith, done-fits h bytes records room z, o.1)) few) t
     ∙ room-fine (many (length lent)) (length rs) fits in

@@ -11,16 +11,16 @@ use lib.ListN.{length}
 use Rattle.ground.specs.Verdict.{gate_of, counted, most_bytes, most_records}
 use Rattle.ground.proofs.Laws.{gate_open, gate_fine}
 use Rattle.ground.specs.declared.Answer.{Answer}
-use Rattle.ground.specs.declared.Gate.TheVariants.{Open}
 use Rattle.output.specs.Output.{fitted}
 use Rattle.output.proofs.Laws.{fitted-fine, fitted-done, gated_open, gated-done}
 use Rattle.entry.specs.Record.{records_of}
 use Rattle.tree_write.specs.Write.{written, judged, measured, tree_size, tree_answer}
 use Rattle.tree_write.proofs.Laws.{measured-fine, measured-length, measured-size}
+use Rattle.std.specs.Prelude.{Ok}
 
 module _ (h : ℕ) (bytes records : List ℕ) (room : ℕ) (z : (tree_answer h bytes records room).verdict.number ≡ 0) where
   -- the call began
-  pub began : gate_of h (max (length bytes) room) (length (records_of records)) ≡ Open
+  pub began : gate_of h (max (length bytes) room) (length (records_of records)) ≡ Ok tt
   unfolding tree_answer
   began = gated-done h (max (length bytes) room) (length (records_of records)) _ z
 

@@ -17,7 +17,6 @@ use Rattle.ground.specs.Verdict.{verdict, counted, refused, gate_of, most_bytes,
 use Rattle.ground.proofs.Laws.{is_false, equal, id_small, gate_open, sets_append, free_whole, whole_free}
 use Rattle.ground.specs.declared.Verdict.{Verdict}
 use Rattle.ground.specs.declared.Answer.{Answer}
-use Rattle.ground.specs.declared.Gate.TheVariants.{Open, Shut}
 use Rattle.output.specs.Output.{fitted}
 use Rattle.output.proofs.Laws.{fitted-done, gated-shut, gated_open}
 use Rattle.mode_text.specs.Write.{six_digits, trimmed, write_mode}
@@ -27,6 +26,7 @@ use Rattle.entry.specs.Entry.{entry_bytes, as_written, entry_of}
 use Rattle.entry.proofs.Laws.{records-many, well_parts}
 use Rattle.entry.specs.declared.EntryRecord.{EntryRecord}
 use Rattle.tree_write.specs.Write.{written, entry_size, refusal, judged, measured, tree_size, tree_answer}
+use Rattle.std.specs.Prelude.{Err, Ok}
 
 -- ---- the lent records, one by one
 
@@ -297,32 +297,32 @@ module _ (h : ℕ) (bytes : List ℕ) (e : EntryRecord) (w : well_formed h (leng
 -- ---- the whole, behind its gate
 
 module _ (h : ℕ) (bytes records : List ℕ) where
-  pub size-shut : (v : Verdict) → gate_of h (length bytes) (many (length records)) ≡ Shut v → tree_size h bytes records ≡ refused v
+  pub size-shut : (v : Verdict) → gate_of h (length bytes) (many (length records)) ≡ Err v → tree_size h bytes records ≡ refused v
   unfolding tree_size
   size-shut v g = rw (records-many records) (gated-shut _ v _ g)
 
-  pub size_open : gate_of h (length bytes) (many (length records)) ≡ Open → tree_size h bytes records ≡ measured false h bytes 0 0 (records_of records)
+  pub size_open : gate_of h (length bytes) (many (length records)) ≡ Ok tt → tree_size h bytes records ≡ measured false h bytes 0 0 (records_of records)
   unfolding tree_size
   size_open g = rw (records-many records) (gated_open _ _ g)
 
   -- all that measuring asks
-  pub within : (longest : ℕ) → length bytes ≤ longest → gate_of h longest (many (length records)) ≡ Open
+  pub within : (longest : ℕ) → length bytes ≤ longest → gate_of h longest (many (length records)) ≡ Ok tt
       → (h ≤ 32) × (length bytes ≤ most_bytes) × (length (records_of records) ≤ most_records)
   within longest p g =
       let o = gate_open h longest (many (length records)) g in
       ((id_small h o.0).1, omega (arith, o.1), rw (records-many records) o.2)
 
   module _ (room longest : ℕ) (e : longest ≡ max (length bytes) room) where
-    pub answer-shut : (v : Verdict) → gate_of h longest (many (length records)) ≡ Shut v → tree_answer h bytes records room ≡ refused v
+    pub answer-shut : (v : Verdict) → gate_of h longest (many (length records)) ≡ Err v → tree_answer h bytes records room ≡ refused v
     unfolding tree_answer
     answer-shut v g = rw (← e, records-many records) (gated-shut _ v _ g)
 
-    pub answer_open : gate_of h longest (many (length records)) ≡ Open → tree_answer h bytes records room ≡ fitted room (measured true h bytes 0 0 (records_of records))
+    pub answer_open : gate_of h longest (many (length records)) ≡ Ok tt → tree_answer h bytes records room ≡ fitted room (measured true h bytes 0 0 (records_of records))
     unfolding tree_answer
     answer_open g = rw (← e, records-many records) (gated_open _ _ g)
 
     -- what was measured and has room is the answer
-    pub answer-fits : (m a : Answer) → m ≡ measured true h bytes 0 0 (records_of records) → a ≡ fitted room m → gate_of h longest (many (length records)) ≡ Open
+    pub answer-fits : (m a : Answer) → m ≡ measured true h bytes 0 0 (records_of records) → a ≡ fitted room m → gate_of h longest (many (length records)) ≡ Ok tt
         → tree_answer h bytes records room ≡ a
     answer-fits m a p q g = answer_open g ∙ sym (q ∙ ap (fitted room) p)
 

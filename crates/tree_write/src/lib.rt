@@ -11,7 +11,7 @@ ghost use Rattle.tree_write.specs.Write.{written, entry_size, refusal, measured,
 
 use entry::EntryRecord;
 use entry_record::{WIDTH, entry_at, well_formed};
-use ground::{Answer, BAD_RECORD, DONE, FINE, Gate, NUL_IN_NAME, Verdict, bounds, longer};
+use ground::{Answer, BAD_RECORD, DONE, FINE, NUL_IN_NAME, Verdict, bounds, longer};
 use mode::EntryMode;
 use mode_text::ShortText;
 use output::{fit, put, put_ended};
@@ -77,9 +77,8 @@ fn measure(bytes: &[u8], h: usize, records: &[usize], writing: bool) -> Answer
     ensures { result ≡ measured writing h bytes.now 0 0 (records_of records.now) }
 {
     let n = records.len() / WIDTH;
-    let mut i = 0;
     let mut sum = 0;
-    while i < n {
+    for i in 0..n {
         let e = entry_at(records, i);
         let number = refuse(bytes, h, writing, e);
         if number != DONE {
@@ -93,24 +92,10 @@ fn measure(bytes: &[u8], h: usize, records: &[usize], writing: bool) -> Answer
             };
         }
         sum += entry_size(h, e);
-        i += 1;
     }
     Answer {
         verdict: FINE,
         count: sum,
-    }
-}
-
-// Stores seven bytes.
-fn put_seven(out: &mut [u8], at: usize, d: [u8; 7])
-    requires { at + 7 ≤ length out.old }
-    ensures { out.new ≡ sets out.old at d }
-{
-    let mut k = 0;
-    while k < 7 {
-        let to = at + k;
-        out[to] = d[k];
-        k += 1;
     }
 }
 
@@ -122,7 +107,7 @@ fn put_mode(out: &mut [u8], at: usize, mode: usize) -> usize
     ensures text { out.new ≡ sets out.old at (write_mode mode ++ 32 ∷ []) }
 {
     if mode == 0o100644 {
-        put_seven(out, at, [b'1', b'0', b'0', b'6', b'4', b'4', b' ']);
+        out[at..at + 7].copy_from_slice(b"100644 ");
         return 6;
     }
     let text = mode_text(mode);
@@ -158,12 +143,9 @@ fn fill(out: &mut [u8], bytes: &[u8], h: usize, records: &[usize])
     ensures { out.new ≡ sets out.old 0 (written h bytes.now (records_of records.now)) }
 {
     let many = records.len() / WIDTH;
-    let mut i = 0;
     let mut at = 0;
-    while i < many {
-        let e = entry_at(records, i);
-        at = write_entry(out, at, bytes, h, e);
-        i += 1;
+    for i in 0..many {
+        at = write_entry(out, at, bytes, h, entry_at(records, i));
     }
 }
 
@@ -172,13 +154,13 @@ pub fn tree_size(bytes: &[u8], h: usize, records: &[usize]) -> Answer
     ensures { result ≡ tree_size h bytes.now records.now }
 {
     match bounds(h, bytes.len(), records.len() / WIDTH) {
-        Gate::Shut(v) => {
+        Err(v) => {
             return Answer {
                 verdict: v,
                 count: 0,
             };
         }
-        Gate::Open => return measure(bytes, h, records, false),
+        Ok(()) => return measure(bytes, h, records, false),
     }
 }
 
@@ -188,13 +170,13 @@ pub fn write_tree(bytes: &[u8], h: usize, records: &[usize], out: &mut [u8]) -> 
     ensures out_after { out.new ≡ stored (tree_answer h bytes.now records.now (length out.old)).verdict (written h bytes.now (records_of records.now)) out.old }
 {
     match bounds(h, longer(bytes.len(), out.len()), records.len() / WIDTH) {
-        Gate::Shut(v) => {
+        Err(v) => {
             return Answer {
                 verdict: v,
                 count: 0,
             };
         }
-        Gate::Open => {}
+        Ok(()) => {}
     }
     let a = fit(out.len(), measure(bytes, h, records, true));
     let number = a.verdict.number;

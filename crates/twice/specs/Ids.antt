@@ -1,11 +1,10 @@
 -- The ids of a bundle's objects, and an id that stands twice (docs/FORMAT.md, "Bundles"). Assumes nothing.
-use Rattle.std.specs.Prelude.{ℕ, Bool, false, ◌&&◌, ◌||◌, List, [], ◌∷◌, leb, length}
+use Rattle.std.specs.Prelude.{ℕ, Bool, false, ◌&&◌, ◌||◌, List, [], ◌∷◌, leb, length, None, Option, Some}
 use Rattle.ground.specs.Scan.{same_bytes}
 use Rattle.ground.specs.Verdict.{most_bytes}
 use Rattle.frame.specs.Frame.{head_of, Frames, done, fault, frame, frames_by}
 use Rattle.frame.specs.Place.{id_in}
-use Rattle.frame.specs.declared.Head.{Head}
-use Rattle.frame.specs.declared.Head.TheVariants.{Good, Bad}
+use Rattle.frame.specs.declared.Header.{Header}
 
 -- the ids in turn, up to the end or the fault
 unfoldable pub ids_in : ℕ → List ℕ → Frames → List (List ℕ)
@@ -24,9 +23,9 @@ repeats [] = false
 repeats (x ∷ xs) = among x xs || repeats xs
 
 -- an id stands twice among the objects that a header speaks of, before any fault of the framing
-unfoldable pub repeats_by : List ℕ → Head → Bool
-repeats_by s (Good k) = repeats (ids_in k.h s (frames_by s k))
-repeats_by s Bad = false
+unfoldable pub repeats_by : List ℕ → Option Header → Bool
+repeats_by s (Some k) = repeats (ids_in k.h s (frames_by s k))
+repeats_by s None = false
 
 -- an id stands twice in a bundle within the bound
 unfoldable pub id_twice : List ℕ → Bool

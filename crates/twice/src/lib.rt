@@ -6,7 +6,7 @@ ghost use Rattle.ground.specs.Verdict.{most_bytes, most_records};
 ghost use Rattle.frame.specs.Frame.{frames_by};
 ghost use Rattle.twice.specs.Ids.{ids_in, repeats, id_twice};
 
-use frame::{Head, Header, read_header};
+use frame::{Header, read_header};
 use ground::{MOST_BYTES, MOST_RECORDS};
 use indexing::make_index;
 use neighbours::neighbours;
@@ -57,8 +57,8 @@ pub fn id_twice(s: &[u8]) -> bool
         return false;
     }
     match read_header(s) {
-        Head::Bad => false,
-        Head::Good(k) => {
+        None => false,
+        Some(k) => {
             if k.count <= 1024 {
                 return twice_small(s, k);
             }

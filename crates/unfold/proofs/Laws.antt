@@ -10,11 +10,11 @@ use lib.Seq.{drop-cons, sets, sets-eq}
 use borrow.Author.Tests.{eq-eqb, ne_eqb, le-leb, lt-leb}
 use Rattle.ground.specs.Verdict.{verdict, counted, refused, size_gate}
 use Rattle.ground.specs.declared.Verdict.{Verdict}
-use Rattle.ground.specs.declared.Gate.TheVariants.{Open, Shut}
 use Rattle.extra_header.specs.Extra.{folded_form}
 use Rattle.header.specs.Record.{well_formed, header_value}
 use Rattle.header.specs.declared.HeaderRecord.{HeaderRecord}
 use Rattle.unfold.specs.Unfold.{has_form, skips, plain_from, plain_of, Plan, stores, refuses, room_plan, value_plan, gate_plan, unfold_plan, answer_of, after_of}
+use Rattle.std.specs.Prelude.{Err, Ok}
 
 -- ---- the form
 
@@ -55,11 +55,11 @@ plain-same mark v m = from 0 v
 -- ---- what a call comes to
 
 module _ (s : List ℕ) (x : HeaderRecord) (room : ℕ) where
-  pub plan_shut : (v : Verdict) → size_gate (max (length s) room) 0 ≡ Shut v → unfold_plan s x room ≡ refuses v
+  pub plan_shut : (v : Verdict) → size_gate (max (length s) room) 0 ≡ Err v → unfold_plan s x room ≡ refuses v
   unfolding unfold_plan gate_plan
   plan_shut v g = rw g
 
-  module _ (g : size_gate (max (length s) room) 0 ≡ Open) where
+  module _ (g : size_gate (max (length s) room) 0 ≡ Ok tt) where
     plan_open : unfold_plan s x room ≡ value_plan s x room
     unfolding unfold_plan gate_plan
     plan_open = rw g

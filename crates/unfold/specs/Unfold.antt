@@ -1,11 +1,9 @@
 -- A header's value, unfolded (docs/FORMAT.md, "Commits" and "Numbers"). Assumes nothing.
-use Rattle.std.specs.Prelude.{ℕ, max, Bool, ◌&&◌, ◌||◌, not, List, [], ◌∷◌, ◌++◌, length, drop, eqb, leb}
+use Rattle.std.specs.Prelude.{ℕ, max, Bool, ◌&&◌, ◌||◌, not, List, [], ◌∷◌, ◌++◌, length, drop, eqb, leb, Err, Ok, Result, ⊤}
 use Rattle.ground.specs.Basics.{pick}
 use Rattle.ground.specs.Verdict.{verdict, counted, refused, size_gate}
 use Rattle.ground.specs.declared.Verdict.{Verdict}
 use Rattle.ground.specs.declared.Answer.{Answer}
-use Rattle.ground.specs.declared.Gate.{Gate}
-use Rattle.ground.specs.declared.Gate.TheVariants.{Open, Shut}
 use Rattle.extra_header.specs.Extra.{folded_form}
 use Rattle.header.specs.Record.{well_formed, header_value}
 use Rattle.header.specs.declared.HeaderRecord.{HeaderRecord}
@@ -42,9 +40,9 @@ value_plan s x room =
     pick (well_formed x (length s) && has_form x.mark (header_value s x)) (room_plan (plain_of x.mark (header_value s x)) room) (refuses (verdict 10 0))
 
 -- 2 before all else
-unfoldable pub gate_plan : Gate → Plan → Plan
-gate_plan Open p = p
-gate_plan (Shut v) p = refuses v
+unfoldable pub gate_plan : Result ⊤ Verdict → Plan → Plan
+gate_plan (Ok tt) p = p
+gate_plan (Err v) p = refuses v
 
 unfoldable pub unfold_plan : List ℕ → HeaderRecord → ℕ → Plan
 unfold_plan s x room = gate_plan (size_gate (max (length s) room) 0) (value_plan s x room)

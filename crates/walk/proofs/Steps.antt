@@ -14,27 +14,24 @@ use Rattle.ground.specs.Scan.{same_bytes}
 use Rattle.ground.specs.declared.Verdict.{Verdict}
 use Rattle.mode.specs.Mode.{is_tree}
 use Rattle.order.specs.Order.{name_order}
-use Rattle.order.specs.declared.Order.{Order}
-use Rattle.order.specs.declared.Order.TheVariants.{Below, Same, Above}
 use Rattle.entry.specs.Record.{folder_of, name_of, id_of}
 use Rattle.entry.specs.Decode.{decode}
 use Rattle.entry.specs.declared.EntryRecord.{EntryRecord}
 use Rattle.entry.specs.declared.Cursor.{Cursor}
-use Rattle.entry.specs.declared.Decoded.{Decoded}
-use Rattle.entry.specs.declared.Decoded.TheVariants.{Whole, Broken}
 use Rattle.entry.proofs.Laws.{decode-inside}
 use Rattle.reading.specs.Listing.{follow, plain, records_in}
 use Rattle.reading.proofs.Laws.{plain-some}
 use Rattle.merge.specs.Merge.{by_order, Within, moved, ahead_of, ahead_at, side_of, name_in, id_in, change_of, both_of, merge_step, step_at}
 use Rattle.merge.specs.declared.Rest.{Rest}
-use Rattle.merge.specs.declared.Ahead.{Ahead}
-use Rattle.merge.specs.declared.Ahead.TheVariants.{End, Entry}
 use Rattle.merge.specs.declared.Step.{Step}
 use Rattle.merge.specs.declared.Step.TheVariants as step
 use Rattle.merge.proofs.Laws.{part_length}
 use Rattle.item.specs.Items.{Named, named_of}
 use Rattle.walk.specs.Walk.{Out, nothing, Lower, change, both, rights, against, compare_entries}
 use Rattle.walk.specs.Code.{entries_from, side_in, name_of_change}
+use Rattle.std.specs.Prelude.{Err, None, Ok, Option, Result, Some}
+use Rattle.std.specs.declared.cmp.Ordering.{Ordering}
+use Rattle.std.specs.declared.cmp.Ordering.TheVariants.{Equal, Greater, Less}
 
 -- ---- parts of parts
 
@@ -61,12 +58,12 @@ unfolding plain records_in
 plain-zero h at [] = refl
 plain-zero h at (x ∷ xs) = refl
 
-plain-broken : (h k at : ℕ) (b : List ℕ) (v : Verdict) → decode h at b ≡ Broken v → records_in (plain h (suc k) at b) ≡ []
+plain-broken : (h k at : ℕ) (b : List ℕ) (v : Verdict) → decode h at b ≡ Err v → records_in (plain h (suc k) at b) ≡ []
 unfolding plain records_in follow
 plain-broken h k at [] v e = refl
 plain-broken h k at (x ∷ xs) v e = rw e
 
-plain-whole : (h k at : ℕ) (b : List ℕ) (e : EntryRecord) (next : Cursor) → 0 < length b → decode h at b ≡ Whole e next
+plain-whole : (h k at : ℕ) (b : List ℕ) (e : EntryRecord) (next : Cursor) → 0 < length b → decode h at b ≡ Ok (e, next)
     → records_in (plain h (suc k) at b) ≡ e ∷ records_in (plain h k next.at (drop (next.at - at) b))
 unfolding records_in follow
 plain-whole h k at b e next g d = rw (plain-some h k at b g, d)
@@ -74,9 +71,9 @@ plain-whole h k at b e next g d = rw (plain-some h k at b g, d)
 abbrev pub named_at : ℕ → List ℕ → EntryRecord → Named
 named_at h s e = record { name = name_in s e; side = record { mode = e.mode; id = id_in s (side_of h e); place = e.id_start } }
 
-unfoldable pub from_ahead : ℕ → List ℕ → Ahead → List Named
-from_ahead h s End = []
-from_ahead h s (Entry e next) = named_at h s e ∷ entries_from h s next
+unfoldable pub from_ahead : ℕ → List ℕ → Option (EntryRecord × Rest) → List Named
+from_ahead h s None = []
+from_ahead h s (Some (e, next)) = named_at h s e ∷ entries_from h s next
 
 named_is : (h : ℕ) (s : List ℕ) (start end : ℕ) (e : EntryRecord) → e.name_start ≤ e.name_end → start + e.name_end ≤ end → start + (e.id_start + h) ≤ end
     → named_of h start (part start end s) e ≡ named_at h s (moved start e)
@@ -84,11 +81,11 @@ unfolding named_of name_of id_of
 named_is h s start end e g l i = rw (part-part e.name_start e.name_end start end s g l, id_part e.id_start h start end s i)
 
 module _ (h : ℕ) (s : List ℕ) (start end at k : ℕ) (g : start ≤ end) (l : end ≤ length s) where
-  from_decoded : (d : Decoded) → decode h at (drop at (part start end s)) ≡ d
+  from_decoded : (d : Result (EntryRecord × Cursor) Verdict) → decode h at (drop at (part start end s)) ≡ d
       → map (named_of h start (part start end s)) (records_in (plain h (suc k) at (drop at (part start end s)))) ≡ from_ahead h s (ahead_of (record { start = start; end = end; at = at; left = suc k }) d)
   unfolding from_ahead ahead_of entries_from
-  from_decoded (Broken v) e = rw (plain-broken h k at (drop at (part start end s)) v e)
-  from_decoded (Whole e next) q =
+  from_decoded (Err v) e = rw (plain-broken h k at (drop at (part start end s)) v e)
+  from_decoded (Ok (e, next)) q =
       let f = decode-inside h (part start end s) at e next q in
       let len : length (part start end s) ≡ end - start = part_length start end s g l in
       let some : 0 < length (drop at (part start end s)) = omega (arith, length-drop at (part start end s), f.0, f.1, f.2, f.3, f.4) in
@@ -117,10 +114,10 @@ after below prefix h s n (step.Differs c l r) =
     let right = c.right in
     change below prefix n (name_of_change s c) deep (side_in s left) (side_in s right) (λ k. compare_entries below prefix (entries_from h s l) k (entries_from h s r))
 
-order-out : (f : Step → Out) (o : Order) (A B C : Out) (x y z : Step) → A ≡ f x → B ≡ f y → C ≡ f z → by_order o A B C ≡ f (by_order o x y z)
-order-out f Below A B C x y z p q r = p
-order-out f Same A B C x y z p q r = q
-order-out f Above A B C x y z p q r = r
+order-out : (f : Step → Out) (o : Ordering) (A B C : Out) (x y z : Step) → A ≡ f x → B ≡ f y → C ≡ f z → by_order o A B C ≡ f (by_order o x y z)
+order-out f Less A B C x y z p q r = p
+order-out f Equal A B C x y z p q r = q
+order-out f Greater A B C x y z p q r = r
 
 module _ (below : Lower) (prefix : List ℕ) (h : ℕ) (s : List ℕ) (n : ℕ) where
   both_is : (a b : EntryRecord) (l r : Rest)
@@ -152,13 +149,13 @@ module _ (below : Lower) (prefix : List ℕ) (h : ℕ) (s : List ℕ) (n : ℕ) 
           deep false = refl
 
   module _ (l r : Rest) where
-    steps : (x y : Ahead) → entries_from h s l ≡ from_ahead h s x → entries_from h s r ≡ from_ahead h s y
+    steps : (x y : Option (EntryRecord × Rest)) → entries_from h s l ≡ from_ahead h s x → entries_from h s r ≡ from_ahead h s y
         → compare_entries below prefix (entries_from h s l) n (entries_from h s r) ≡ after below prefix h s n (merge_step h s l r x y)
     unfolding from_ahead after merge_step compare_entries rights against folder_of
-    steps End End el er = rw (el, er)
-    steps End (Entry b next) el er = rw (er, el)
-    steps (Entry a next) End el er = rw (el, er)
-    steps (Entry a nextl) (Entry b nextr) el er =
+    steps None None el er = rw (el, er)
+    steps None (Some (b, next)) el er = rw (er, el)
+    steps (Some (a, next)) None el er = rw (el, er)
+    steps (Some (a, nextl)) (Some (b, nextr)) el er =
         rw (el, er)
         (order-out (after below prefix h s n) (name_order (name_in s a) (is_tree a.mode) (name_in s b) (is_tree b.mode)) _ _ _ _ _ _
         (rw er) (both_is a b nextl nextr) (rw el))

@@ -15,14 +15,13 @@ use Rattle.merge.proofs.Laws.{same_leads, differs_leads}
 use Rattle.opening.specs.Opening.{open_both}
 use Rattle.walk.specs.Code.{entries_from, folders_in, name_of_change, item_of, inside, join_length, Held, Did, Small, Added, Short}
 use Rattle.merge.specs.declared.Rest.{Rest}
-use Rattle.opening.specs.declared.Pair.{Pair}
-use Rattle.opening.specs.declared.Pair.TheVariants.{Closed, Both}
 use Rattle.merge.specs.declared.Change.{Change}
 use Rattle.merge.specs.declared.Step.{Step}
 use Rattle.merge.specs.declared.Step.TheVariants as step
 use Rattle.walk.specs.declared.Mark.{Mark}
 use Rattle.walk.proofs.Openings.{trees-closed, trees-both}
 use Rattle.walk.proofs.Doing.{did_none, did_is, arm_done, arm_same, arm_full, arm_used, arm_stop, arm_on}
+use Rattle.std.specs.Prelude.{Err, Ok, Result}
 
 -- ---- what falls. Shut, so that omega meets no large number
 
@@ -165,12 +164,12 @@ module _ (below : Lower) (prefix s : List ℕ) (c : Change) (m : Mark) (C : Type
 
 -- ---- two folders
 
-module _ (d : ℕ) (hd : Header) (s a b index : List ℕ) (t : Pair) (e : t ≡ open_both hd s a b d index) (m : Mark) (C : Type 0) (items paths prefix : List ℕ) where
-  pub tree-closed : (v : Verdict) → t ≡ Closed v
+module _ (d : ℕ) (hd : Header) (s a b index : List ℕ) (t : Result (Rest × Rest) Verdict) (e : t ≡ open_both hd s a b d index) (m : Mark) (C : Type 0) (items paths prefix : List ℕ) where
+  pub tree-closed : (v : Verdict) → t ≡ Err v
       → Did m C items paths (compare_folders (folders_in hd s index) d prefix a b m.count) (record { verdict = v; count = m.count; used = m.used }) items paths
   tree-closed v k = did_is m C items paths _ _ _ items paths (trees-closed d hd s prefix a b m.count index t e v k) (did_none m C items paths v)
 
-  pub tree-both : (l r : Rest) → t ≡ Both l r → (w : Mark) (items' paths' : List ℕ)
+  pub tree-both : (l r : Rest) → t ≡ Ok (l, r) → (w : Mark) (items' paths' : List ℕ)
       → Did m C items paths (compare_entries (compare_folders (folders_in hd s index) (d - 1)) prefix (entries_from hd.h s l) m.count (entries_from hd.h s r)) w items' paths'
       → Did m C items paths (compare_folders (folders_in hd s index) d prefix a b m.count) w items' paths'
   tree-both l r k w items' paths' g = did_is m C items paths _ _ w items' paths' (trees-both d hd s prefix a b m.count index t e l r k) g

@@ -1,5 +1,5 @@
 -- What the functions say: folders, entries and items by positions in the bundle, the walk with an index, and a part of it. Assumes nothing.
-use Rattle.std.specs.Prelude.{ℕ, zero, suc, ◌+◌, ◌*◌, ◌≤◌, ◌≡◌, List, [], map, eqb, leb, length, take, drop}
+use Rattle.std.specs.Prelude.{ℕ, zero, suc, ◌+◌, ◌*◌, ◌≤◌, ◌≡◌, List, [], map, eqb, leb, length, take, drop, Err, Ok, Result}
 use Rattle.std.proofs.lemmas.List.Edits.{sets}
 use Rattle.ground.specs.Basics.{pick, part}
 use Rattle.ground.specs.Verdict.{verdict, counted, refused, most_bytes}
@@ -13,20 +13,19 @@ use Rattle.merge.specs.declared.Change.{Change}
 use Rattle.item.specs.Items as items
 use Rattle.item.specs.Items.{Item, Named, Folder, shut, holds, named_of}
 use Rattle.opening.specs.Opening.{open_in}
-use Rattle.opening.specs.declared.Opened.{Opened}
-use Rattle.opening.specs.declared.Opened.TheVariants.{Shut, Entries}
 use Rattle.walk.specs.Walk.{Out, refused_by, nothing, Lower, levels, compare_folders}
 use Rattle.walk.specs.Lent.{paths_of, numbers_of}
 use Rattle.walk.specs.declared.Mark.{Mark}
+use Rattle.ground.specs.declared.Verdict.{Verdict}
 
 -- the entries of a tree that are still to be read
 unfoldable pub entries_from : ℕ → List ℕ → Rest → List Named
 entries_from h s c = map (named_of h c.start (bytes_of s c)) (records_in (plain h c.left c.at (drop c.at (bytes_of s c))))
 
 -- the folder that was opened
-unfoldable pub folder_at : ℕ → List ℕ → Opened → Folder
-folder_at h s (Shut v) = shut v
-folder_at h s (Entries c) = holds (entries_from h s c)
+unfoldable pub folder_at : ℕ → List ℕ → Result Rest Verdict → Folder
+folder_at h s (Err v) = shut v
+folder_at h s (Ok c) = holds (entries_from h s c)
 
 -- the folders of a bundle, each object sought with an index, whatever that is
 abbrev pub folders_in : Header → List ℕ → List ℕ → List ℕ → Folder

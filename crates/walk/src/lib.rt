@@ -14,7 +14,7 @@ use ground::{
 };
 use item::{ITEM, put_item, put_path};
 use merge::{Change, Rest, Step, merge_step};
-use opening::{Pair, open_both};
+use opening::open_both;
 
 // The levels of folders that are opened, from depth 0 to depth 32.
 pub const LEVELS: usize = 33;
@@ -118,20 +118,8 @@ fn compare_folders(
     ensures small_2 { Small result }
 {
     match open_both(bundle, k, a, b, depth, index) {
-        Pair::Closed(v) => Mark { verdict: v, ..m },
-        Pair::Both(l, r) => compare_entries(
-            bundle,
-            k,
-            l,
-            r,
-            depth - 1,
-            items,
-            paths,
-            m,
-            ps,
-            pl,
-            index,
-        ),
+        Err(v) => Mark { verdict: v, ..m },
+        Ok((l, r)) => compare_entries(bundle, k, l, r, depth - 1, items, paths, m, ps, pl, index),
     }
 }
 

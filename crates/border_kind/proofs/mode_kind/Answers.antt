@@ -4,4 +4,4 @@ use Rattle.mode_table.specs.Table.{written_of}
 use Rattle.border_kind.proofs.mode_kind.Goals as goal
 
 pub returns : goal.returns
-returns c = ap (λ w. w.mode) (c.written_of-row.ensures ∙ ap written_of c.kind.ensures)
+returns c = ap (λ w. w.mode) (c.written_of.ensures ∙ ap written_of c.kind.ensures)

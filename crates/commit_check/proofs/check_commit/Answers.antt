@@ -8,12 +8,12 @@ use Rattle.commit_check.proofs.check_commit.Goals as goal
 pub count_all-k-requires : goal.count_all-k-requires
 count_all-k-requires c =
     let longer2 = c.longer-2 in
-    let o = gate_open _ _ _ (sym c.bounds.ensures ∙ c.in-Open.is) in
+    let o = gate_open _ _ _ (sym c.bounds.ensures ∙ c.in-Ok.is) in
     record { parents_len_bound = omega (arith, o.2, longer2.ensures); width_len_bound = omega (arith, o.2, longer2.ensures) }
 
 pub returns-then-k-n : goal.returns-then-k-n
 returns-then-k-n c =
-    let enum_told = c.in-Open in
+    let enum_told = c.in-Ok in
     let count-all = c.count_all-k in
     let if1 = c.if-k-n in
     let bounds1 = c.bounds in
@@ -27,9 +27,9 @@ returns-then-k-n c =
     sym (checked-stop args.h args.bytes.now args.parts args.parents.now args.headers.now args.room _ _ longer.ensures longer2.ensures
     (sym bounds.ensures ∙ enum_told.is) _ count-all.ensures if1.true)
 
-pub returns-in-Shut : goal.returns-in-Shut
-returns-in-Shut c =
-    let v = c.in-Shut in
+pub returns-in-Err : goal.returns-in-Err
+returns-in-Err c =
+    let v = c.in-Err in
     let bounds = c.bounds in
     let longer21 = c.longer-2 in
     let longer1 = c.longer in
@@ -42,7 +42,7 @@ returns-in-Shut c =
 
 pub returns-else-k-n : goal.returns-else-k-n
 returns-else-k-n c =
-    let enum_told = c.in-Open in
+    let enum_told = c.in-Ok in
     let count-all = c.count_all-k in
     let if1 = c.if-k-n in
     let bounds1 = c.bounds in

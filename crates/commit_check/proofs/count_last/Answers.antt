@@ -3,33 +3,25 @@ use Rattle.commit_check.proofs.Laws.{last-encoding, last-header, last-message, l
 use mathlib.Core.Path.{sym, ◌∙◌}
 use Rattle.commit_check.proofs.count_last.Goals as goal
 
+pub returns-then-not-is_encoding : goal.returns-then-not-is_encoding
+returns-then-not-is_encoding c =
+    let a = c.args in
+    sym (last-encoding a.bytes.now a.parts a.headers.now a.before (sym c.is_encoding.ensures ∙ c.if-not-is_encoding.true))
+
 pub returns-then-k-m : goal.returns-then-k-m
 returns-then-k-m c =
-    let args = c.args in
-    let is-encoding = c.is_encoding in
-    let count-headers = c.count_headers-k in
-    sym (last-header args.bytes.now args.parts args.headers.now args.before (sym
-    is-encoding.ensures ∙ c.if-is_encoding.true) count-headers.result count-headers.ensures c.if-k-m.true)
+    let a = c.args in
+    sym (last-header a.bytes.now a.parts a.headers.now a.before (sym c.is_encoding.ensures ∙ c.if-not-is_encoding.false)
+    _ c.count_headers-k.ensures c.if-k-m.true)
 
-pub returns-then-is_range : goal.returns-then-is_range
-returns-then-is_range c =
-    let args = c.args in
-    let is-encoding = c.is_encoding in
-    let if1 = c.if-is_encoding in
-    let count-headers = c.count_headers-k in
-    sym (last-whole args.bytes.now args.parts args.headers.now args.before (sym is-encoding.ensures ∙ if1.true)
-    count-headers.result count-headers.ensures c.if-k-m.false (sym c.is_range.ensures ∙ c.if-is_range.true))
-
-pub returns-then-is_encoding : goal.returns-then-is_encoding
-returns-then-is_encoding c =
-    let args = c.args in
-    let is-encoding = c.is_encoding in
-    let if1 = c.if-is_encoding in
-    let count-headers = c.count_headers-k in
-    sym (last-message args.bytes.now args.parts args.headers.now args.before (sym is-encoding.ensures ∙ if1.true)
-    count-headers.result count-headers.ensures c.if-k-m.false (sym c.is_range.ensures ∙ c.if-is_range.false))
+pub returns-then-not-is_range : goal.returns-then-not-is_range
+returns-then-not-is_range c =
+    let a = c.args in
+    sym (last-message a.bytes.now a.parts a.headers.now a.before (sym c.is_encoding.ensures ∙ c.if-not-is_encoding.false)
+    _ c.count_headers-k.ensures c.if-k-m.false (sym c.is_range.ensures ∙ c.if-not-is_range.true))
 
 pub returns : goal.returns
 returns c =
-    let args = c.args in
-    sym (last-encoding args.bytes.now args.parts args.headers.now args.before (sym c.is_encoding.ensures ∙ c.if-is_encoding.false))
+    let a = c.args in
+    sym (last-whole a.bytes.now a.parts a.headers.now a.before (sym c.is_encoding.ensures ∙ c.if-not-is_encoding.false)
+    _ c.count_headers-k.ensures c.if-k-m.false (sym c.is_range.ensures ∙ c.if-not-is_range.false))

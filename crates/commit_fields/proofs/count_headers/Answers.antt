@@ -9,21 +9,21 @@ use Rattle.commit_fields.proofs.count_headers.Goals as goal
 pub loop-next-init : goal.loop-next-init
 loop-next-init c = (omega arith, refl)
 
-pub returns-in-No : goal.returns-in-No
-returns-in-No c =
+pub returns-in-None : goal.returns-in-None
+returns-in-None c =
     let loop = c.loop-next in
-    sym (loop.invariant.1 ∙ tally_end loop.n _ (heads_end _ _ _ (sym c.extra_at.ensures ∙ c.in-No.is)))
+    sym (loop.invariant.1 ∙ tally_end loop.n _ (heads_end _ _ _ (sym c.extra_at.ensures ∙ c.in-None.is)))
 
 pub overflow_add-n : goal.overflow_add-n
-overflow_add-n c = let x = extra_next _ _ (sym c.extra_at.ensures ∙ c.in-Got.is) in omega (arith, x)
+overflow_add-n c = let x = extra_next _ _ (sym c.extra_at.ensures ∙ c.in-Some.is) in omega (arith, x)
 
 pub loop-next-smaller : goal.loop-next-smaller
-loop-next-smaller c = let x = extra_next _ _ (sym c.extra_at.ensures ∙ c.in-Got.is) in omega (arith, x)
+loop-next-smaller c = let x = extra_next _ _ (sym c.extra_at.ensures ∙ c.in-Some.is) in omega (arith, x)
 
 pub loop-next-preserved : goal.loop-next-preserved
 loop-next-preserved c =
     let extra-at = c.extra_at in
     let loop = c.loop-next in
-    let g = sym extra-at.ensures ∙ c.in-Got.is in
+    let g = sym extra-at.ensures ∙ c.in-Some.is in
     let x = extra_next _ _ g in
     (omega (arith, x, loop.invariant.0), loop.invariant.1 ∙ tally-more loop.n _ _ (heads-more _ _ _ (omega (arith, x, loop.invariant.0)) g))

@@ -7,14 +7,14 @@ use Rattle.header.specs.Words.{encoding_word}
 use Rattle.commit_fields.proofs.encoding_at.Goals as goal
 
 pub overflow_add-next : goal.overflow_add-next
-overflow_add-next c = omega (arith, line-fits encoding_word _ _ _ _ (sym c.value_line.ensures ∙ c.in-Value.is))
+overflow_add-next c = omega (arith, line-fits encoding_word _ _ _ _ (sym c.value_line.ensures ∙ c.in-Some.is))
 
-pub returns-in-Missing : goal.returns-in-Missing
-returns-in-Missing c =
+pub returns-in-None : goal.returns-in-None
+returns-in-None c =
     let args = c.args in
-    sym (encoding-none args.s.now args.at (sym c.value_line.ensures ∙ c.in-Missing.is))
+    sym (encoding-none args.s.now args.at (sym c.value_line.ensures ∙ c.in-None.is))
 
-pub returns-in-Value : goal.returns-in-Value
-returns-in-Value c =
+pub returns-in-Some : goal.returns-in-Some
+returns-in-Some c =
     let args = c.args in
-    sym (encoding-some args.s.now args.at _ _ (sym c.value_line.ensures ∙ c.in-Value.is))
+    sym (encoding-some args.s.now args.at _ _ (sym c.value_line.ensures ∙ c.in-Some.is))

@@ -6,29 +6,29 @@ use Rattle.commit_fields.proofs.Laws.{actor_fits, people-author, people-committe
 use Rattle.commit_fields.proofs.people.Goals as goal
 
 pub overflow_add-q : goal.overflow_add-q
-overflow_add-q c = omega (arith, actor_fits _ _ author_word _ _ _ (sym c.actor_at.ensures ∙ c.in-At.is))
+overflow_add-q c = omega (arith, actor_fits _ _ author_word _ _ _ (sym c.actor_at.ensures ∙ c.in-Ok.is))
 
 pub ending-requires : goal.ending-requires
-ending-requires c = actor_fits _ _ committer_word _ _ _ (sym c.actor_at-in-At.ensures ∙ c.in-At-actor_at.is)
+ending-requires c = actor_fits _ _ committer_word _ _ _ (sym c.actor_at-in-Ok.ensures ∙ c.in-Ok-actor_at.is)
 
-pub returns-in-Fails : goal.returns-in-Fails
-returns-in-Fails c =
+pub returns-in-Err : goal.returns-in-Err
+returns-in-Err c =
     let args = c.args in
-    sym (people-author args.s.now args.n args.p _ (sym c.actor_at.ensures ∙ c.in-Fails.is))
+    sym (people-author args.s.now args.n args.p _ (sym c.actor_at.ensures ∙ c.in-Err.is))
 
-pub returns-in-Fails-actor_at : goal.returns-in-Fails-actor_at
-returns-in-Fails-actor_at c =
-    let actor-at2 = c.actor_at-in-At in
-    let a = c.in-At in
+pub returns-in-Err-actor_at : goal.returns-in-Err-actor_at
+returns-in-Err-actor_at c =
+    let actor-at2 = c.actor_at-in-Ok in
+    let a = c.in-Ok in
     let actor-at = c.actor_at in
     let args = c.args in
-    sym (people-committer args.s.now args.n args.p _ _ (sym actor-at.ensures ∙ a.is) _ (sym actor-at2.ensures ∙ c.in-Fails-actor_at.is))
+    sym (people-committer args.s.now args.n args.p _ _ (sym actor-at.ensures ∙ a.is) _ (sym actor-at2.ensures ∙ c.in-Err-actor_at.is))
 
-pub returns-in-At-actor_at : goal.returns-in-At-actor_at
-returns-in-At-actor_at c =
-    let actor-at2 = c.actor_at-in-At in
-    let a = c.in-At in
+pub returns-in-Ok-actor_at : goal.returns-in-Ok-actor_at
+returns-in-Ok-actor_at c =
+    let actor-at2 = c.actor_at-in-Ok in
+    let a = c.in-Ok in
     let actor-at = c.actor_at in
     let args = c.args in
     c.ending.ensures ∙ sym (people-both args.s.now args.n args.p _ _ (sym actor-at.ensures ∙ a.is) _ _
-    (sym actor-at2.ensures ∙ c.in-At-actor_at.is))
+    (sym actor-at2.ensures ∙ c.in-Ok-actor_at.is))

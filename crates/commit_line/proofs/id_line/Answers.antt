@@ -4,19 +4,18 @@ use native.Mathlib.Omega.{arith}
 use Rattle.commit_line.proofs.Laws.{word_fits, id-line-no, id-line-is}
 use Rattle.commit_line.proofs.id_line.Goals as goal
 
-pub overflow_add-from : goal.overflow_add-from
-overflow_add-from c = omega (arith, word_fits _ _ _ (sym c.word_at.ensures ∙ c.if-word_at.true))
+pub overflow_add-at : goal.overflow_add-at
+overflow_add-at c = omega (arith, word_fits _ _ _ (sym c.word_at.ensures ∙ c.if-word_at.true))
 
-pub overflow_add-from-then-word_at : goal.overflow_add-from-then-word_at
-overflow_add-from-then-word_at c = omega (arith, word_fits _ _ _ (sym c.word_at.ensures ∙ c.if-word_at.true))
+pub overflow_add-at-then-word_at : goal.overflow_add-at-then-word_at
+overflow_add-at-then-word_at c = omega (arith, word_fits _ _ _ (sym c.word_at.ensures ∙ c.if-word_at.true))
 
 pub returns-then-word_at : goal.returns-then-word_at
 returns-then-word_at c =
-    let args = c.args in
-    c.id_from.ensures ∙ sym (id-line-is args.word.now args.h args.s.now args.at
-    (sym c.word_at.ensures ∙ c.if-word_at.true))
+    let a = c.args in
+    c.id_from.ensures ∙ sym (id-line-is a.word.now a.h a.s.now a.at (sym c.word_at.ensures ∙ c.if-word_at.true))
 
-pub returns : goal.returns
-returns c =
-    let args = c.args in
-    sym (id-line-no args.word.now args.h args.s.now args.at (sym c.word_at.ensures ∙ c.if-word_at.false))
+pub returns-else-word_at : goal.returns-else-word_at
+returns-else-word_at c =
+    let a = c.args in
+    c.if-word_at.false ∙ sym (id-line-no a.word.now a.h a.s.now a.at (sym c.word_at.ensures ∙ c.if-word_at.false))

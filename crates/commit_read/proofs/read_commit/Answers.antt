@@ -6,33 +6,33 @@ use Rattle.commit_read.proofs.Laws.{answer_fails, answer-whole, parents-kept, he
 use Rattle.commit_read.proofs.read_commit.Goals as goal
 
 pub overflow_mul-at : goal.overflow_mul-at
-overflow_mul-at c = omega (arith, (outcome_fits _ _ _ _ _ (sym c.decide.ensures ∙ c.in-Whole.is)).small)
+overflow_mul-at c = omega (arith, (outcome_fits _ _ _ _ _ (sym c.decide.ensures ∙ c.in-Ok.is)).small)
 
 pub overflow_add-at : goal.overflow_add-at
-overflow_add-at c = omega (arith, (outcome_fits _ _ _ _ _ (sym c.decide.ensures ∙ c.in-Whole.is)).small)
+overflow_add-at c = omega (arith, (outcome_fits _ _ _ _ _ (sym c.decide.ensures ∙ c.in-Ok.is)).small)
 
 pub fill_parents-requires : goal.fill_parents-requires
 fill_parents-requires c =
     let decide = c.decide in
-    let k = outcome_fits _ _ _ _ _ (sym decide.ensures ∙ c.in-Whole.is) in
+    let k = outcome_fits _ _ _ _ _ (sym decide.ensures ∙ c.in-Ok.is) in
     record { n_in_bounds = k.parents_room; h_bound = omega (arith, k.parents_inside) }
 
-pub returns-in-Fails : goal.returns-in-Fails
-returns-in-Fails c =
+pub returns-in-Err : goal.returns-in-Err
+returns-in-Err c =
     let decide = c.decide in
     let args = c.args in
-    let q = sym decide.ensures ∙ c.in-Fails.is in record {
+    let q = sym decide.ensures ∙ c.in-Err.is in record {
       answer = c.refused.ensures ∙ sym (answer_fails _ _ q);
       parents = sym (parents-kept _ args.h args.parents.now _ q);
       headers = sym
           (headers-kept _ args.bytes.now args.headers.now _ q);
     }
 
-pub returns-in-Whole : goal.returns-in-Whole
-returns-in-Whole c =
+pub returns-in-Ok : goal.returns-in-Ok
+returns-in-Ok c =
     let fill-headers = c.fill_headers in
     let fill-parents = c.fill_parents in
-    let f = c.in-Whole in
+    let f = c.in-Ok in
     let decide = c.decide in
     let args = c.args in
     let q = sym decide.ensures ∙ f.is in

@@ -6,14 +6,14 @@ pub after_64-requires : goal.after_64-requires
 after_64-requires c =
     let args = c.args in
     let pre = c.requires in
-    (pre.0, told_same args.a.now args.b.now 64 c.order_16.ensures c.in-Same.is, pre.2)
+    (pre.0, told_same args.a.now args.b.now 64 c.order_16.ensures c.in-Equal.is, pre.2)
 
-pub returns-in-Below : goal.returns-in-Below
-returns-in-Below c =
+pub returns-in-Less : goal.returns-in-Less
+returns-in-Less c =
     let args = c.args in
-    told_below args.a.now args.b.now _ c.order_16.ensures _ c.in-Below.is
+    told_below args.a.now args.b.now _ c.order_16.ensures _ c.in-Less.is
 
-pub returns-in-Above : goal.returns-in-Above
-returns-in-Above c =
+pub returns-in-Greater : goal.returns-in-Greater
+returns-in-Greater c =
     let args = c.args in
-    told_above args.a.now args.b.now _ c.order_16.ensures _ c.in-Above.is
+    told_above args.a.now args.b.now _ c.order_16.ensures _ c.in-Greater.is

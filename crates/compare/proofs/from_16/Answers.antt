@@ -3,32 +3,32 @@ use native.Mathlib.Omega.{arith}
 use Rattle.compare.proofs.Laws.{ready-after, told_same, told_at, told_below, told_above}
 use Rattle.compare.proofs.from_16.Goals as goal
 
-pub order_16-requires-in-Same : goal.order_16-requires-in-Same
-order_16-requires-in-Same c =
+pub order_16-requires-in-Equal : goal.order_16-requires-in-Equal
+order_16-requires-in-Equal c =
     let args = c.args in
     let pre = c.requires in
     let order-16 = c.order_16 in
-    let enum-told2 = c.in-Same in
+    let enum-told2 = c.in-Equal in
     ready-after args.a.now args.b.now 16 args.n (args.n - 16) 16
     (told_same args.a.now args.b.now 16 order-16.ensures enum-told2.is) pre.0 (omega (arith, pre.1, pre.2)) (omega (arith, pre.1))
 
-pub returns-in-Below : goal.returns-in-Below
-returns-in-Below c =
+pub returns-in-Less : goal.returns-in-Less
+returns-in-Less c =
     let args = c.args in
     let order-16 = c.order_16 in
-    let enum_told = c.in-Below in
+    let enum_told = c.in-Less in
     told_below args.a.now args.b.now _ order-16.ensures _ enum_told.is
 
-pub returns-in-Same : goal.returns-in-Same
-returns-in-Same c =
+pub returns-in-Equal : goal.returns-in-Equal
+returns-in-Equal c =
     let args = c.args in
     let pre = c.requires in
-    let order-162 = c.order_16-in-Same in
+    let order-162 = c.order_16-in-Equal in
     told_at args.a.now args.b.now (args.n - 16 + 16) args.n order-162.result (omega (arith, pre.1)) order-162.ensures
 
-pub returns-in-Above : goal.returns-in-Above
-returns-in-Above c =
+pub returns-in-Greater : goal.returns-in-Greater
+returns-in-Greater c =
     let args = c.args in
     let order-16 = c.order_16 in
-    let enum-told3 = c.in-Above in
+    let enum-told3 = c.in-Greater in
     told_above args.a.now args.b.now _ order-16.ensures _ enum-told3.is

@@ -22,20 +22,20 @@ order_32-requires c =
     let pre = c.requires in
     let order-162 = c.order_16-2 in
     ready-after args.a.now args.b.now 32 args.n (args.n - 32) 32
-    (told_same args.a.now args.b.now 32 order-162.ensures c.in-Same.is) pre.0 (omega (arith, pre.2)) (omega (arith, pre.1))
+    (told_same args.a.now args.b.now 32 order-162.ensures c.in-Equal.is) pre.0 (omega (arith, pre.2)) (omega (arith, pre.1))
 
-pub returns-in-Below : goal.returns-in-Below
-returns-in-Below c =
+pub returns-in-Less : goal.returns-in-Less
+returns-in-Less c =
     let args = c.args in
-    told_below args.a.now args.b.now _ c.order_16-2.ensures _ c.in-Below.is
+    told_below args.a.now args.b.now _ c.order_16-2.ensures _ c.in-Less.is
 
-pub returns-in-Same : goal.returns-in-Same
-returns-in-Same c =
+pub returns-in-Equal : goal.returns-in-Equal
+returns-in-Equal c =
     let args = c.args in
     let pre = c.requires in
     told_at args.a.now args.b.now (args.n - 32 + 32) args.n c.order_32.result (omega (arith, pre.1)) c.order_32.ensures
 
-pub returns-in-Above : goal.returns-in-Above
-returns-in-Above c =
+pub returns-in-Greater : goal.returns-in-Greater
+returns-in-Greater c =
     let args = c.args in
-    told_above args.a.now args.b.now _ c.order_16-2.ensures _ c.in-Above.is
+    told_above args.a.now args.b.now _ c.order_16-2.ensures _ c.in-Greater.is

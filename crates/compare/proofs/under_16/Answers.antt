@@ -6,31 +6,31 @@ use Rattle.compare.proofs.under_16.Goals as goal
 pub under_8-requires : goal.under_8-requires
 under_8-requires c = (c.requires.0, omega arith)
 
-pub order_8-requires-in-Same : goal.order_8-requires-in-Same
-order_8-requires-in-Same c =
+pub order_8-requires-in-Equal : goal.order_8-requires-in-Equal
+order_8-requires-in-Equal c =
     let args = c.args in
     let pre = c.requires in
     let order-8 = c.order_8 in
-    let enum-told2 = c.in-Same in
+    let enum-told2 = c.in-Equal in
     ready-after args.a.now args.b.now 8 args.n (args.n - 8) 8 (told_same args.a.now args.b.now 8 order-8.ensures enum-told2.is)
     pre.0 (omega (arith, pre.1)) (omega arith)
 
-pub returns-in-Below : goal.returns-in-Below
-returns-in-Below c =
+pub returns-in-Less : goal.returns-in-Less
+returns-in-Less c =
     let args = c.args in
     let order-8 = c.order_8 in
-    let enum_told = c.in-Below in
+    let enum_told = c.in-Less in
     told_below args.a.now args.b.now _ order-8.ensures _ enum_told.is
 
-pub returns-in-Same : goal.returns-in-Same
-returns-in-Same c =
+pub returns-in-Equal : goal.returns-in-Equal
+returns-in-Equal c =
     let args = c.args in
-    let order-82 = c.order_8-in-Same in
+    let order-82 = c.order_8-in-Equal in
     told_at args.a.now args.b.now (args.n - 8 + 8) args.n order-82.result (omega arith) order-82.ensures
 
-pub returns-in-Above : goal.returns-in-Above
-returns-in-Above c =
+pub returns-in-Greater : goal.returns-in-Greater
+returns-in-Greater c =
     let args = c.args in
     let order-8 = c.order_8 in
-    let enum-told3 = c.in-Above in
+    let enum-told3 = c.in-Greater in
     told_above args.a.now args.b.now _ order-8.ensures _ enum-told3.is

@@ -10,29 +10,29 @@ use Rattle.component.proofs.find_entry.Goals as goal
 pub loop-c-init : goal.loop-c-init
 loop-c-init c = (length c.args.tree.now, omega arith, refl)
 
-pub returns-in-Broken : goal.returns-in-Broken
-returns-in-Broken c =
+pub returns-in-Err : goal.returns-in-Err
+returns-in-Err c =
     let loop = c.loop-c in
     let if1 = c.loop-c-test in
     let decode = c.decode in
-    let enum_told = c.in-Broken in
+    let enum_told = c.in-Err in
     sym (loop.invariant.2 ∙ named-broken _ _ _ loop.invariant.0 _ if1.true (omega arith) (sym decode.ensures ∙ enum_told.is))
 
 pub slice_bounds-same_bytes-count : goal.slice_bounds-same_bytes-count
-slice_bounds-same_bytes-count c = omega (arith, decode-inside _ _ _ _ _ (sym c.decode.ensures ∙ c.in-Whole.is))
+slice_bounds-same_bytes-count c = omega (arith, decode-inside _ _ _ _ _ (sym c.decode.ensures ∙ c.in-Ok.is))
 
 pub slice_bounds-same_bytes-start : goal.slice_bounds-same_bytes-start
-slice_bounds-same_bytes-start c = omega (arith, decode-inside _ _ _ _ _ (sym c.decode.ensures ∙ c.in-Whole.is))
+slice_bounds-same_bytes-start c = omega (arith, decode-inside _ _ _ _ _ (sym c.decode.ensures ∙ c.in-Ok.is))
 
 pub slice_bounds-same_bytes-end : goal.slice_bounds-same_bytes-end
-slice_bounds-same_bytes-end c = omega (arith, decode-inside _ _ _ _ _ (sym c.decode.ensures ∙ c.in-Whole.is))
+slice_bounds-same_bytes-end c = omega (arith, decode-inside _ _ _ _ _ (sym c.decode.ensures ∙ c.in-Ok.is))
 
 pub returns-then-same_bytes : goal.returns-then-same_bytes
 returns-then-same_bytes c =
     let loop = c.loop-c in
     let if1 = c.loop-c-test in
     let decode = c.decode in
-    let e = c.in-Whole in
+    let e = c.in-Ok in
     let same_bytes = c.same_bytes in
     let if2 = c.if-same_bytes in
     sym (loop.invariant.2 ∙ named_here _ _ _ loop.invariant.0 _ if1.true (omega arith) _ _ (sym decode.ensures ∙ e.is)
@@ -41,7 +41,7 @@ returns-then-same_bytes c =
 pub loop-c-smaller : goal.loop-c-smaller
 loop-c-smaller c =
     let decode = c.decode in
-    let e = c.in-Whole in
+    let e = c.in-Ok in
     omega (arith, decode-inside _ _ _ _ _ (sym decode.ensures ∙ e.is))
 
 pub loop-c-preserved : goal.loop-c-preserved
@@ -49,7 +49,7 @@ loop-c-preserved c =
     let loop = c.loop-c in
     let if1 = c.loop-c-test in
     let decode = c.decode in
-    let e = c.in-Whole in
+    let e = c.in-Ok in
     let same_bytes = c.same_bytes in
     let if2 = c.if-same_bytes in (
       loop.invariant.0 - 1,

@@ -11,9 +11,9 @@ compare_in-requires c =
     let longer2 = c.longer-2 in
     let longer3 = c.longer-most in
     let sizes = c.sizes in
-    let enum_told = c.in-Open in
+    let enum_told = c.in-Ok in
     let open-roots = c.open_roots in
-    let k = c.in-Open-open_roots in record {
+    let k = c.in-Ok-open_roots in record {
       bundle_len_bound = ending.size-within (length args.bundle.now) (length args.paths.now) (length args.left.now) (length args.right.now) _ sizes.result
           (ending.gate_is _ _ _ _ (length args.bundle.now) (length args.paths.now) (length args.left.now) (length args.right.now) _ sizes.ensures
           longer3.ensures longer.ensures longer2.ensures) enum_told.is;
@@ -21,45 +21,45 @@ compare_in-requires c =
       count_le_most_records = roots.roots_few _ _ _ _ open-roots.ensures _ k.is;
     }
 
-pub returns-in-Shut : goal.returns-in-Shut
-returns-in-Shut c =
+pub returns-in-Err : goal.returns-in-Err
+returns-in-Err c =
     let r = (let args = c.args in
     let longer = c.longer in
     let longer2 = c.longer-2 in
     let longer3 = c.longer-most in
     let sizes = c.sizes in
-    let v = c.in-Shut in
+    let v = c.in-Err in
     ending.answers_gate args.bundle.now args.left.now args.right.now args.items.now args.paths.now sizes.result
     (ending.gate_is _ _ _ _ (length args.bundle.now) (length args.paths.now) (length args.left.now) (length args.right.now) _ sizes.ensures
     longer3.ensures longer.ensures longer2.ensures) v.v v.is (ending.size-shut _ _ _ _ sizes.ensures v.is)) in
     record { answer = r.0; items = r.1.0; paths = r.1.1 }
 
-pub returns-in-Shut-open_roots : goal.returns-in-Shut-open_roots
-returns-in-Shut-open_roots c =
+pub returns-in-Err-open_roots : goal.returns-in-Err-open_roots
+returns-in-Err-open_roots c =
     let r = (let args = c.args in
     let longer = c.longer in
     let longer2 = c.longer-2 in
     let longer3 = c.longer-most in
     let sizes = c.sizes in
-    let enum_told = c.in-Open in
+    let enum_told = c.in-Ok in
     let open-roots = c.open_roots in
-    let w = c.in-Shut-open_roots in
+    let w = c.in-Err-open_roots in
     ending.answers-roots args.bundle.now args.left.now args.right.now args.items.now args.paths.now sizes.result
     (ending.gate_is _ _ _ _ (length args.bundle.now) (length args.paths.now) (length args.left.now) (length args.right.now) _ sizes.ensures
     longer3.ensures longer.ensures longer2.ensures) enum_told.is open-roots.result open-roots.ensures w.w w.is
     (roots.roots-refuse _ _ _ _ open-roots.ensures _ w.is)) in
     record { answer = r.0; items = r.1.0; paths = r.1.1 }
 
-pub returns-in-Open-open_roots : goal.returns-in-Open-open_roots
-returns-in-Open-open_roots c =
+pub returns-in-Ok-open_roots : goal.returns-in-Ok-open_roots
+returns-in-Ok-open_roots c =
     let r = (let args = c.args in
     let longer = c.longer in
     let longer2 = c.longer-2 in
     let longer3 = c.longer-most in
     let sizes = c.sizes in
-    let enum_told = c.in-Open in
+    let enum_told = c.in-Ok in
     let open-roots = c.open_roots in
-    let k = c.in-Open-open_roots in
+    let k = c.in-Ok-open_roots in
     let compare-in = c.compare_in in
     ending.answers_walk args.bundle.now args.left.now args.right.now args.items.now args.paths.now sizes.result
     (ending.gate_is _ _ _ _ (length args.bundle.now) (length args.paths.now) (length args.left.now) (length args.right.now) _ sizes.ensures

@@ -14,9 +14,9 @@ put_counted-requires c =
     let longer2 = c.longer-2 in
     let longer3 = c.longer-most in
     let rule_bounds = c.rule_bounds in
-    let enum_told = c.in-Open in
+    let enum_told = c.in-Ok in
     let strict-count = c.strict_count in
-    let n = c.in-Total in
+    let n = c.in-Ok-strict_count in
     let new = new_entry args.mode args.name.now args.id.now in
     let b = answers.put-bounds args.rules args.h args.bytes.now new _ _
     (answers.most-put (length args.bytes.now) (length args.name.now) (length args.id.now) (length args.out.now) longer3.ensures
@@ -24,14 +24,14 @@ put_counted-requires c =
     (sym rule_bounds.ensures ∙ enum_told.is) in
     record { bytes_value = answers.counted_is _ _ _ b.1 strict-count.ensures ∙ n.is; lt_h = b }
 
-pub returns-in-Shut : goal.returns-in-Shut
-returns-in-Shut c =
+pub returns-in-Err : goal.returns-in-Err
+returns-in-Err c =
     let r = (let args = c.args in
     let longer = c.longer in
     let longer2 = c.longer-2 in
     let longer3 = c.longer-most in
     let rule_bounds = c.rule_bounds in
-    let v = c.in-Shut in
+    let v = c.in-Err in
     let new = new_entry args.mode args.name.now args.id.now in
     let shut = sym rule_bounds.ensures ∙ v.is in
     refused-both _ _ _ (answers.put-shut args.rules args.h args.bytes.now new _ _
@@ -40,16 +40,16 @@ returns-in-Shut c =
     (strict-refuses _ _ _ _ _ shut)) in
     record { answer = r.0; out = r.1 }
 
-pub returns-in-Stopped : goal.returns-in-Stopped
-returns-in-Stopped c =
+pub returns-in-Err-strict_count : goal.returns-in-Err-strict_count
+returns-in-Err-strict_count c =
     let r = (let args = c.args in
     let longer = c.longer in
     let longer2 = c.longer-2 in
     let longer3 = c.longer-most in
     let rule_bounds = c.rule_bounds in
-    let enum_told = c.in-Open in
+    let enum_told = c.in-Ok in
     let strict-count = c.strict_count in
-    let w = c.in-Stopped in
+    let w = c.in-Err-strict_count in
     let new = new_entry args.mode args.name.now args.id.now in
     let m = answers.most-put (length args.bytes.now) (length args.name.now) (length args.id.now) (length args.out.now) longer3.ensures
     longer.ensures longer2.ensures in
@@ -59,16 +59,16 @@ returns-in-Stopped c =
     refused-both _ _ _ (answers.put_stopped args.rules args.h args.bytes.now new _ _ m begun _ t) (answers.stopped_refuses _ _ _ _ t)) in
     record { answer = r.0; out = r.1 }
 
-pub returns-in-Total : goal.returns-in-Total
-returns-in-Total c =
+pub returns-in-Ok-strict_count : goal.returns-in-Ok-strict_count
+returns-in-Ok-strict_count c =
     let r = (let args = c.args in
     let longer = c.longer in
     let longer2 = c.longer-2 in
     let longer3 = c.longer-most in
     let rule_bounds = c.rule_bounds in
-    let enum_told = c.in-Open in
+    let enum_told = c.in-Ok in
     let strict-count = c.strict_count in
-    let n = c.in-Total in
+    let n = c.in-Ok-strict_count in
     let put-counted = c.put_counted in
     let new = new_entry args.mode args.name.now args.id.now in
     let m = answers.most-put (length args.bytes.now) (length args.name.now) (length args.id.now) (length args.out.now) longer3.ensures

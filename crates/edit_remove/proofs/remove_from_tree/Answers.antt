@@ -12,51 +12,51 @@ remove_counted-requires c =
     let longer = c.longer in
     let longer2 = c.longer-most in
     let rule_bounds = c.rule_bounds in
-    let enum_told = c.in-Open in
+    let enum_told = c.in-Ok in
     let strict-count = c.strict_count in
-    let n = c.in-Total in
+    let n = c.in-Ok-strict_count in
     let b = answers.remove-bounds args.rules args.h args.bytes.now args.name.now _ _
     (answers.most-remove (length args.bytes.now) (length args.name.now) (length args.out.now) longer2.ensures longer.ensures)
     (sym rule_bounds.ensures ∙ enum_told.is) in
     record { bytes_value = answers.counted_is _ _ _ b.1 strict-count.ensures ∙ n.is; lt_h = b }
 
-pub returns-in-Shut : goal.returns-in-Shut
-returns-in-Shut c =
+pub returns-in-Err : goal.returns-in-Err
+returns-in-Err c =
     let r = (let args = c.args in
     let longer = c.longer in
     let longer2 = c.longer-most in
     let rule_bounds = c.rule_bounds in
-    let v = c.in-Shut in
+    let v = c.in-Err in
     let shut = sym rule_bounds.ensures ∙ v.is in
     refused-both _ _ _ (answers.remove-shut args.rules args.h args.bytes.now args.name.now _ _
     (answers.most-remove (length args.bytes.now) (length args.name.now) (length args.out.now) longer2.ensures longer.ensures) _ shut)
     (strict-refuses _ _ _ _ _ shut)) in
     record { answer = r.0; out = r.1 }
 
-pub returns-in-Stopped : goal.returns-in-Stopped
-returns-in-Stopped c =
+pub returns-in-Err-strict_count : goal.returns-in-Err-strict_count
+returns-in-Err-strict_count c =
     let r = (let args = c.args in
     let longer2 = c.longer-most in
     let longer = c.longer in
     let rule_bounds = c.rule_bounds in
-    let enum_told = c.in-Open in
+    let enum_told = c.in-Ok in
     let strict-count = c.strict_count in
     let m = answers.most-remove (length args.bytes.now) (length args.name.now) (length args.out.now) longer2.ensures longer.ensures in
     let begun = sym rule_bounds.ensures ∙ enum_told.is in
     let b = answers.remove-bounds args.rules args.h args.bytes.now args.name.now _ _ m begun in
-    let t = answers.counted_is _ _ _ b.1 strict-count.ensures ∙ c.in-Stopped.is in
+    let t = answers.counted_is _ _ _ b.1 strict-count.ensures ∙ c.in-Err-strict_count.is in
     refused-both _ _ _ (answers.remove_stopped args.rules args.h args.bytes.now args.name.now _ _ m begun _ t) (answers.stopped_refuses _ _ _ _ t)) in
     record { answer = r.0; out = r.1 }
 
-pub returns-in-Total : goal.returns-in-Total
-returns-in-Total c =
+pub returns-in-Ok-strict_count : goal.returns-in-Ok-strict_count
+returns-in-Ok-strict_count c =
     let r = (let args = c.args in
     let longer = c.longer in
     let longer2 = c.longer-most in
     let rule_bounds = c.rule_bounds in
-    let enum_told = c.in-Open in
+    let enum_told = c.in-Ok in
     let strict-count = c.strict_count in
-    let n = c.in-Total in
+    let n = c.in-Ok-strict_count in
     let remove-counted = c.remove_counted in
     let m = answers.most-remove (length args.bytes.now) (length args.name.now) (length args.out.now) longer2.ensures longer.ensures in
     let begun = sym rule_bounds.ensures ∙ enum_told.is in

@@ -11,26 +11,26 @@ returns-then-placed c =
     let same_bytes = c.same_bytes in
     fate_placed _ _ _ _ _ (sym same_bytes.ensures ∙ c.if-same_bytes.false) c.if-placed.true
 
-pub returns-in-Below : goal.returns-in-Below
-returns-in-Below c =
+pub returns-in-Less : goal.returns-in-Less
+returns-in-Less c =
     let same_bytes = c.same_bytes in
     let if1 = c.if-same_bytes in
     let if2 = c.if-placed in
     let name-order = c.name_order in
-    fate_below _ _ _ _ _ (sym same_bytes.ensures ∙ if1.false) if2.false _ name-order.ensures c.in-Below.is
+    fate_below _ _ _ _ _ (sym same_bytes.ensures ∙ if1.false) if2.false _ name-order.ensures c.in-Less.is
 
-pub returns-in-Same : goal.returns-in-Same
-returns-in-Same c =
+pub returns-in-Equal : goal.returns-in-Equal
+returns-in-Equal c =
     let same_bytes = c.same_bytes in
     let if1 = c.if-same_bytes in
     let if2 = c.if-placed in
     let name-order = c.name_order in
-    fate_same _ _ _ _ _ (sym same_bytes.ensures ∙ if1.false) if2.false _ name-order.ensures c.in-Same.is
+    fate_same _ _ _ _ _ (sym same_bytes.ensures ∙ if1.false) if2.false _ name-order.ensures c.in-Equal.is
 
-pub returns-in-Above : goal.returns-in-Above
-returns-in-Above c =
+pub returns-in-Greater : goal.returns-in-Greater
+returns-in-Greater c =
     let same_bytes = c.same_bytes in
     let if1 = c.if-same_bytes in
     let if2 = c.if-placed in
     let name-order = c.name_order in
-    fate_above _ _ _ _ _ (sym same_bytes.ensures ∙ if1.false) if2.false _ name-order.ensures c.in-Above.is
+    fate_above _ _ _ _ _ (sym same_bytes.ensures ∙ if1.false) if2.false _ name-order.ensures c.in-Greater.is

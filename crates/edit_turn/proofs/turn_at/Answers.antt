@@ -7,32 +7,32 @@ pub slice_bounds-fate_of-count : goal.slice_bounds-fate_of-count
 slice_bounds-fate_of-count c =
     let args = c.args in
     let decode = c.decode in
-    let f = turn_inside args.h args.s.now args.at args.name.now args.tree args.placed _ decode.ensures _ _ c.in-Whole.is in
+    let f = turn_inside args.h args.s.now args.at args.name.now args.tree args.placed _ decode.ensures _ _ c.in-Ok.is in
     omega (arith, f.0, f.1)
 
 pub slice_bounds-fate_of-start : goal.slice_bounds-fate_of-start
 slice_bounds-fate_of-start c =
     let args = c.args in
     let decode = c.decode in
-    let f = turn_inside args.h args.s.now args.at args.name.now args.tree args.placed _ decode.ensures _ _ c.in-Whole.is in
+    let f = turn_inside args.h args.s.now args.at args.name.now args.tree args.placed _ decode.ensures _ _ c.in-Ok.is in
     omega (arith, f.0, f.1)
 
 pub slice_bounds-fate_of-end : goal.slice_bounds-fate_of-end
 slice_bounds-fate_of-end c =
     let args = c.args in
     let decode = c.decode in
-    let f = turn_inside args.h args.s.now args.at args.name.now args.tree args.placed _ decode.ensures _ _ c.in-Whole.is in
+    let f = turn_inside args.h args.s.now args.at args.name.now args.tree args.placed _ decode.ensures _ _ c.in-Ok.is in
     omega (arith, f.0, f.1)
 
-pub returns-in-Broken : goal.returns-in-Broken
-returns-in-Broken c =
+pub returns-in-Err : goal.returns-in-Err
+returns-in-Err c =
     let decode = c.decode in
-    turn-broken _ _ _ _ _ _ _ decode.ensures _ c.in-Broken.is
+    turn-broken _ _ _ _ _ _ _ decode.ensures _ c.in-Err.is
 
 pub returns-in-Out : goal.returns-in-Out
 returns-in-Out c =
     let decode = c.decode in
-    let e = c.in-Whole in
+    let e = c.in-Ok in
     let is-folder = c.is_folder in
     let fate-of = c.fate_of in
     turn-out _ _ _ _ _ _ _ decode.ensures _ _ e.is _ is-folder.ensures _ fate-of.ensures c.in-Out.is
@@ -40,7 +40,7 @@ returns-in-Out c =
 pub returns-in-Over : goal.returns-in-Over
 returns-in-Over c =
     let decode = c.decode in
-    let e = c.in-Whole in
+    let e = c.in-Ok in
     let is-folder = c.is_folder in
     let fate-of = c.fate_of in
     turn-over _ _ _ _ _ _ _ decode.ensures _ _ e.is _ is-folder.ensures _ fate-of.ensures c.in-Over.is
@@ -48,7 +48,7 @@ returns-in-Over c =
 pub returns-in-Behind : goal.returns-in-Behind
 returns-in-Behind c =
     let decode = c.decode in
-    let e = c.in-Whole in
+    let e = c.in-Ok in
     let is-folder = c.is_folder in
     let fate-of = c.fate_of in
     turn-behind _ _ _ _ _ _ _ decode.ensures _ _ e.is _ is-folder.ensures _ fate-of.ensures c.in-Behind.is

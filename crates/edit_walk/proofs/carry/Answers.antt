@@ -1,6 +1,8 @@
 -- `edit_walk::carry` meets its contract. Assumes nothing.
 use native.Mathlib.Omega.{arith}
-use mathlib.Core.Path.{◌∙◌}
+use mathlib.Core.Path.{ap, ◌∙◌}
+use Rattle.std.specs.Prelude.{Some}
+use Rattle.edit_turn.specs.declared.Fate.{Fate}
 use Rattle.edit_walk.proofs.Walks.{walking_start, walking_end, walking_drop, walking_keep, walking_first, keep_leads, first_leads, ends-placed, ends_last}
 use Rattle.edit_walk.proofs.carry.Goals as goal
 
@@ -9,21 +11,21 @@ loop-left-init c =
     let pre = c.requires in
     walking_start _ _ _ _ _ _ pre.3
 
-pub loop-left-preserved-in-End : goal.loop-left-preserved-in-End
-loop-left-preserved-in-End c =
+pub loop-left-preserved-in-None : goal.loop-left-preserved-in-None
+loop-left-preserved-in-None c =
     let loop = c.loop-left in
     let loop-test = c.loop-left-test in
     let is-tree = c.is_tree-tree in
     let turn_at = c.turn_at in
-    walking_end _ _ _ _ _ _ _ _ _ _ _ _ loop.invariant loop-test.true _ is-tree.ensures _ turn_at.ensures c.in-End.is
+    walking_end _ _ _ _ _ _ _ _ _ _ _ _ loop.invariant loop-test.true _ is-tree.ensures _ turn_at.ensures c.in-None.is
 
-pub loop-left-preserved-in-Drop : goal.loop-left-preserved-in-Drop
-loop-left-preserved-in-Drop c =
+pub loop-left-preserved-in-Out : goal.loop-left-preserved-in-Out
+loop-left-preserved-in-Out c =
     let loop = c.loop-left in
     let loop-test = c.loop-left-test in
     let is-tree = c.is_tree-tree in
     let turn_at = c.turn_at in
-    walking_drop _ _ _ _ _ _ _ _ _ _ _ _ loop.invariant loop-test.true _ is-tree.ensures _ turn_at.ensures _ c.in-Drop.is
+    walking_drop _ _ _ _ _ _ _ _ _ _ _ _ loop.invariant loop-test.true _ is-tree.ensures _ turn_at.ensures _ (c.in-Some.is ∙ ap (λ (f : Fate). Some (f, c.in-Some.next)) c.in-Out.is)
 
 pub slice_bounds-put-count : goal.slice_bounds-put-count
 slice_bounds-put-count c =
@@ -31,8 +33,8 @@ slice_bounds-put-count c =
     let loop-test = c.loop-left-test in
     let is-tree = c.is_tree-tree in
     let turn_at = c.turn_at in
-    let next2 = c.in-Keep in
-    let d = keep_leads _ _ _ _ _ _ _ _ _ _ _ _ loop.invariant loop-test.true _ is-tree.ensures _ turn_at.ensures _ next2.is in
+    let is = c.in-Some.is ∙ ap (λ (f : Fate). Some (f, c.in-Some.next)) c.in-Over.is in
+    let d = keep_leads _ _ _ _ _ _ _ _ _ _ _ _ loop.invariant loop-test.true _ is-tree.ensures _ turn_at.ensures _ is in
     omega (arith, d.0, d.1)
 
 pub slice_bounds-put-start : goal.slice_bounds-put-start
@@ -41,8 +43,8 @@ slice_bounds-put-start c =
     let loop-test = c.loop-left-test in
     let is-tree = c.is_tree-tree in
     let turn_at = c.turn_at in
-    let next2 = c.in-Keep in
-    let d = keep_leads _ _ _ _ _ _ _ _ _ _ _ _ loop.invariant loop-test.true _ is-tree.ensures _ turn_at.ensures _ next2.is in
+    let is = c.in-Some.is ∙ ap (λ (f : Fate). Some (f, c.in-Some.next)) c.in-Over.is in
+    let d = keep_leads _ _ _ _ _ _ _ _ _ _ _ _ loop.invariant loop-test.true _ is-tree.ensures _ turn_at.ensures _ is in
     omega (arith, d.0, d.1)
 
 pub slice_bounds-put-end : goal.slice_bounds-put-end
@@ -51,8 +53,8 @@ slice_bounds-put-end c =
     let loop-test = c.loop-left-test in
     let is-tree = c.is_tree-tree in
     let turn_at = c.turn_at in
-    let next2 = c.in-Keep in
-    let d = keep_leads _ _ _ _ _ _ _ _ _ _ _ _ loop.invariant loop-test.true _ is-tree.ensures _ turn_at.ensures _ next2.is in
+    let is = c.in-Some.is ∙ ap (λ (f : Fate). Some (f, c.in-Some.next)) c.in-Over.is in
+    let d = keep_leads _ _ _ _ _ _ _ _ _ _ _ _ loop.invariant loop-test.true _ is-tree.ensures _ turn_at.ensures _ is in
     omega (arith, d.0, d.1)
 
 pub overflow_sub-used : goal.overflow_sub-used
@@ -61,8 +63,8 @@ overflow_sub-used c =
     let loop-test = c.loop-left-test in
     let is-tree = c.is_tree-tree in
     let turn_at = c.turn_at in
-    let next2 = c.in-Keep in
-    let d = keep_leads _ _ _ _ _ _ _ _ _ _ _ _ loop.invariant loop-test.true _ is-tree.ensures _ turn_at.ensures _ next2.is in
+    let is = c.in-Some.is ∙ ap (λ (f : Fate). Some (f, c.in-Some.next)) c.in-Over.is in
+    let d = keep_leads _ _ _ _ _ _ _ _ _ _ _ _ loop.invariant loop-test.true _ is-tree.ensures _ turn_at.ensures _ is in
     omega (arith, d.0, d.1)
 
 pub overflow_add-used : goal.overflow_add-used
@@ -71,10 +73,10 @@ overflow_add-used c =
     let loop-test = c.loop-left-test in
     let is-tree = c.is_tree-tree in
     let turn_at = c.turn_at in
-    let next2 = c.in-Keep in
+    let is = c.in-Some.is ∙ ap (λ (f : Fate). Some (f, c.in-Some.next)) c.in-Over.is in
     let pre = c.requires in
     let inv = loop.invariant in
-    let d = keep_leads _ _ _ _ _ _ _ _ _ _ _ _ loop.invariant loop-test.true _ is-tree.ensures _ turn_at.ensures _ next2.is in
+    let d = keep_leads _ _ _ _ _ _ _ _ _ _ _ _ loop.invariant loop-test.true _ is-tree.ensures _ turn_at.ensures _ is in
     omega (arith, d.0, d.1, inv.small, inv.few, inv.fewer, pre.2)
 
 pub overflow_add-kept : goal.overflow_add-kept
@@ -83,17 +85,17 @@ overflow_add-kept c =
     let inv = loop.invariant in
     omega (arith, inv.few, inv.fewer)
 
-pub loop-left-preserved-in-Keep : goal.loop-left-preserved-in-Keep
-loop-left-preserved-in-Keep c =
+pub loop-left-preserved-in-Over : goal.loop-left-preserved-in-Over
+loop-left-preserved-in-Over c =
     let loop = c.loop-left in
     let turn_at = c.turn_at in
     let is-tree = c.is_tree-tree in
     let loop-test = c.loop-left-test in
-    let next2 = c.in-Keep in
+    let is = c.in-Some.is ∙ ap (λ (f : Fate). Some (f, c.in-Some.next)) c.in-Over.is in
     let pre = c.requires in
     let put = c.put in
     let taken = loop-test.true in
-    let next = next2.is in
+    let next = is in
     walking_keep _ _ _ _ _ _ _ _ _ _ _ _ loop.invariant taken _ is-tree.ensures _ turn_at.ensures _ pre.2
     (keep_leads _ _ _ _ _ _ _ _ _ _ _ _ loop.invariant taken _ is-tree.ensures _ turn_at.ensures _ next) next _ put.auto.out put.ensures
 
@@ -104,61 +106,61 @@ put_new-from-requires c =
     let inv = loop.invariant in
     (pre.0, pre.1, omega (arith, inv.small, inv.few))
 
-pub slice_bounds-put-count-in-First : goal.slice_bounds-put-count-in-First
-slice_bounds-put-count-in-First c =
+pub slice_bounds-put-count-in-Behind : goal.slice_bounds-put-count-in-Behind
+slice_bounds-put-count-in-Behind c =
     let loop = c.loop-left in
     let loop-test = c.loop-left-test in
     let is-tree = c.is_tree-tree in
     let turn_at = c.turn_at in
-    let next3 = c.in-First in
-    let d = first_leads _ _ _ _ _ _ _ _ _ _ _ _ loop.invariant loop-test.true _ is-tree.ensures _ turn_at.ensures _ next3.is in
+    let is = c.in-Some.is ∙ ap (λ (f : Fate). Some (f, c.in-Some.next)) c.in-Behind.is in
+    let d = first_leads _ _ _ _ _ _ _ _ _ _ _ _ loop.invariant loop-test.true _ is-tree.ensures _ turn_at.ensures _ is in
     omega (arith, d.0, d.1)
 
-pub slice_bounds-put-start-in-First : goal.slice_bounds-put-start-in-First
-slice_bounds-put-start-in-First c =
+pub slice_bounds-put-start-in-Behind : goal.slice_bounds-put-start-in-Behind
+slice_bounds-put-start-in-Behind c =
     let loop = c.loop-left in
     let loop-test = c.loop-left-test in
     let is-tree = c.is_tree-tree in
     let turn_at = c.turn_at in
-    let next3 = c.in-First in
-    let d = first_leads _ _ _ _ _ _ _ _ _ _ _ _ loop.invariant loop-test.true _ is-tree.ensures _ turn_at.ensures _ next3.is in
+    let is = c.in-Some.is ∙ ap (λ (f : Fate). Some (f, c.in-Some.next)) c.in-Behind.is in
+    let d = first_leads _ _ _ _ _ _ _ _ _ _ _ _ loop.invariant loop-test.true _ is-tree.ensures _ turn_at.ensures _ is in
     omega (arith, d.0, d.1)
 
-pub slice_bounds-put-end-in-First : goal.slice_bounds-put-end-in-First
-slice_bounds-put-end-in-First c =
+pub slice_bounds-put-end-in-Behind : goal.slice_bounds-put-end-in-Behind
+slice_bounds-put-end-in-Behind c =
     let loop = c.loop-left in
     let loop-test = c.loop-left-test in
     let is-tree = c.is_tree-tree in
     let turn_at = c.turn_at in
-    let next3 = c.in-First in
-    let d = first_leads _ _ _ _ _ _ _ _ _ _ _ _ loop.invariant loop-test.true _ is-tree.ensures _ turn_at.ensures _ next3.is in
+    let is = c.in-Some.is ∙ ap (λ (f : Fate). Some (f, c.in-Some.next)) c.in-Behind.is in
+    let d = first_leads _ _ _ _ _ _ _ _ _ _ _ _ loop.invariant loop-test.true _ is-tree.ensures _ turn_at.ensures _ is in
     omega (arith, d.0, d.1)
 
-pub overflow_sub-used-in-First : goal.overflow_sub-used-in-First
-overflow_sub-used-in-First c =
+pub overflow_sub-used-in-Behind : goal.overflow_sub-used-in-Behind
+overflow_sub-used-in-Behind c =
     let loop = c.loop-left in
     let loop-test = c.loop-left-test in
     let is-tree = c.is_tree-tree in
     let turn_at = c.turn_at in
-    let next3 = c.in-First in
-    let d = first_leads _ _ _ _ _ _ _ _ _ _ _ _ loop.invariant loop-test.true _ is-tree.ensures _ turn_at.ensures _ next3.is in
+    let is = c.in-Some.is ∙ ap (λ (f : Fate). Some (f, c.in-Some.next)) c.in-Behind.is in
+    let d = first_leads _ _ _ _ _ _ _ _ _ _ _ _ loop.invariant loop-test.true _ is-tree.ensures _ turn_at.ensures _ is in
     omega (arith, d.0, d.1)
 
-pub overflow_add-used-in-First : goal.overflow_add-used-in-First
-overflow_add-used-in-First c =
+pub overflow_add-used-in-Behind : goal.overflow_add-used-in-Behind
+overflow_add-used-in-Behind c =
     let pre = c.requires in
     let is-tree = c.is_tree-tree in
     let loop = c.loop-left in
     let loop-test = c.loop-left-test in
     let turn_at = c.turn_at in
-    let next3 = c.in-First in
+    let is = c.in-Some.is ∙ ap (λ (f : Fate). Some (f, c.in-Some.next)) c.in-Behind.is in
     let put-new = c.put_new-from in
     let inv = loop.invariant in
-    let d = first_leads _ _ _ _ _ _ _ _ _ _ _ _ loop.invariant loop-test.true _ is-tree.ensures _ turn_at.ensures _ next3.is in
+    let d = first_leads _ _ _ _ _ _ _ _ _ _ _ _ loop.invariant loop-test.true _ is-tree.ensures _ turn_at.ensures _ is in
     omega (arith, d.0, d.1, put-new.ensures.next.1, inv.small, inv.few, inv.fewer, pre.2)
 
-pub overflow_add-kept-in-First : goal.overflow_add-kept-in-First
-overflow_add-kept-in-First c =
+pub overflow_add-kept-in-Behind : goal.overflow_add-kept-in-Behind
+overflow_add-kept-in-Behind c =
     let loop = c.loop-left in
     let inv = loop.invariant in
     omega (arith, inv.few, inv.fewer)
@@ -170,11 +172,11 @@ loop-left-preserved c =
     let loop = c.loop-left in
     let loop-test = c.loop-left-test in
     let turn_at = c.turn_at in
-    let next3 = c.in-First in
+    let is = c.in-Some.is ∙ ap (λ (f : Fate). Some (f, c.in-Some.next)) c.in-Behind.is in
     let put-new = c.put_new-from in
-    let put2 = c.put-in-First in
+    let put2 = c.put-in-Behind in
     let taken = loop-test.true in
-    let next = next3.is in
+    let next = is in
     let put = put2 in
     walking_first _ _ _ _ _ _ _ _ _ _ _ _ loop.invariant taken _ is-tree.ensures _ turn_at.ensures _ pre.2
     (first_leads _ _ _ _ _ _ _ _ _ _ _ _ loop.invariant taken _ is-tree.ensures _ turn_at.ensures _ next) next _ _ _

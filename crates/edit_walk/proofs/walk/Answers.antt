@@ -13,26 +13,26 @@ carry-requires c =
     let longer = c.longer in
     let sizes = c.sizes in
     walk_small args.h args.s.now args.count (new_entry args.mode args.name.now args.id.now) args.done args.out.now _
-    (longer2.ensures ∙ ap (max (length args.s.now)) longer.ensures) (sym sizes.ensures ∙ c.in-Open.is)
+    (longer2.ensures ∙ ap (max (length args.s.now)) longer.ensures) (sym sizes.ensures ∙ c.in-Ok.is)
 
-pub returns-in-Shut : goal.returns-in-Shut
-returns-in-Shut c =
+pub returns-in-Err : goal.returns-in-Err
+returns-in-Err c =
     let r = (let args = c.args in
     let longer2 = c.longer-2 in
     let longer = c.longer in
     let sizes = c.sizes in
     walk_shut args.h args.s.now args.count (new_entry args.mode args.name.now args.id.now) args.done args.out.now _
-    (longer2.ensures ∙ ap (max (length args.s.now)) longer.ensures) _ (sym sizes.ensures ∙ c.in-Shut.is)) in
+    (longer2.ensures ∙ ap (max (length args.s.now)) longer.ensures) _ (sym sizes.ensures ∙ c.in-Err.is)) in
     record { walked = r.0; out = r.1 }
 
-pub returns-in-Open : goal.returns-in-Open
-returns-in-Open c =
+pub returns-in-Ok : goal.returns-in-Ok
+returns-in-Ok c =
     let r = (let args = c.args in
     let carry = c.carry in
     let longer2 = c.longer-2 in
     let longer = c.longer in
     let sizes = c.sizes in
-    let enum-told2 = c.in-Open in
+    let enum-told2 = c.in-Ok in
     walk_open args.h args.s.now args.count (new_entry args.mode args.name.now args.id.now) args.done args.out.now _
     (longer2.ensures ∙ ap (max (length args.s.now)) longer.ensures) (sym sizes.ensures ∙ enum-told2.is)
     carry.result _ carry.ensures.used carry.ensures.kept carry.ensures.out) in

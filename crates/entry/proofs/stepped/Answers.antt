@@ -3,10 +3,10 @@ use mathlib.Core.Path.{sym, ap, ◌∙◌}
 use Rattle.entry.specs.Decode.{step_over}
 use Rattle.entry.proofs.stepped.Goals as goal
 
-pub returns-in-Whole : goal.returns-in-Whole
+pub returns-in-Ok : goal.returns-in-Ok
 unfolding step_over
-returns-in-Whole c = ap (step_over _) (sym c.in-Whole.is)
+returns-in-Ok c = ap (step_over _) (sym c.in-Ok.is)
 
-pub returns-in-Broken : goal.returns-in-Broken
+pub returns-in-Err : goal.returns-in-Err
 unfolding step_over
-returns-in-Broken c = c.no_entry.ensures ∙ ap (step_over _) (sym c.in-Broken.is)
+returns-in-Err c = c.no_entry.ensures ∙ ap (step_over _) (sym c.in-Err.is)

@@ -1,5 +1,5 @@
 -- `extra_header::fold_end` meets its contract. Assumes nothing.
-use Prim.Native.Nat.{◌+◌, ◌-◌}
+use Prim.Native.Nat.{◌+◌}
 use mathlib.Core.Path.{refl, sym, ◌∙◌}
 use native.Mathlib.Omega.{arith}
 use Rattle.extra_header.specs.Extra.{fold_end}
@@ -11,18 +11,18 @@ pub loop-at-init : goal.loop-at-init
 unfolding fold_end
 loop-at-init c = refl
 
-pub returns-then-s-at-ne32 : goal.returns-then-s-at-ne32
-returns-then-s-at-ne32 c =
+pub returns-else-s-at-eq32 : goal.returns-else-s-at-eq32
+returns-else-s-at-eq32 c =
     let loop = c.loop-at in
     let a = c.args in
-    sym (loop.invariant ∙ fold_other a.start a.s.now loop.at c.loop-at-test.true c.if-s-at-ne32.true)
+    sym (loop.invariant ∙ fold_other a.start a.s.now loop.at c.loop-at-test.true c.if-s-at-eq32.false)
 
 pub returns-then-s-lf : goal.returns-then-s-lf
 returns-then-s-lf c =
     let loop-test = c.loop-at-test in
     let loop = c.loop-at in
     let a = c.args in
-    sym (loop.invariant ∙ fold_open a.start a.s.now loop.at loop-test.true c.if-s-at-ne32.false _ c.find_byte-lf.ensures
+    sym (loop.invariant ∙ fold_open a.start a.s.now loop.at loop-test.true c.if-s-at-eq32.true _ c.find_byte-lf.ensures
     c.if-s-lf.true)
 
 pub loop-at-smaller : goal.loop-at-smaller
@@ -37,9 +37,9 @@ loop-at-preserved c =
     let loop-test = c.loop-at-test in
     let loop = c.loop-at in
     let a = c.args in
-    loop.invariant ∙ fold_next a.start a.s.now loop.at loop-test.true c.if-s-at-ne32.false _ c.find_byte-lf.ensures c.if-s-lf.false
+    loop.invariant ∙ fold_next a.start a.s.now loop.at loop-test.true c.if-s-at-eq32.true _ c.find_byte-lf.ensures c.if-s-lf.false
 
-pub returns : goal.returns
-returns c =
+pub returns-after-loop-at : goal.returns-after-loop-at
+returns-after-loop-at c =
     let a = c.args in
     sym (c.loop-at.invariant ∙ fold_end_here a.start a.s.now c.loop-at.at c.loop-at-test.false)

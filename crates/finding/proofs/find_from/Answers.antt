@@ -9,32 +9,32 @@ use Rattle.finding.proofs.find_from.Goals as goal
 pub loop-left-init : goal.loop-left-init
 loop-left-init c = refl
 
-pub returns-in-Broken : goal.returns-in-Broken
-returns-in-Broken c =
+pub returns-in-None : goal.returns-in-None
+returns-in-None c =
     let loop = c.loop-left in
     let loop-test = c.loop-left-test in
     let frame_at = c.frame_at in
-    let enum_told = c.in-Broken in
+    let enum_told = c.in-None in
     sym (loop.invariant ∙ first-fault _ _ _ _ (frames-broken _ _ _ _ loop-test.true (sym frame_at.ensures ∙ enum_told.is)))
 
 pub overflow_add-end : goal.overflow_add-end
-overflow_add-end c = omega (arith, frame-inside _ _ _ _ (sym c.frame_at.ensures ∙ c.in-Whole.is))
+overflow_add-end c = omega (arith, frame-inside _ _ _ _ (sym c.frame_at.ensures ∙ c.in-Some.is))
 
 pub slice_bounds-same_bytes-count : goal.slice_bounds-same_bytes-count
-slice_bounds-same_bytes-count c = omega (arith, frame-inside _ _ _ _ (sym c.frame_at.ensures ∙ c.in-Whole.is))
+slice_bounds-same_bytes-count c = omega (arith, frame-inside _ _ _ _ (sym c.frame_at.ensures ∙ c.in-Some.is))
 
 pub slice_bounds-same_bytes-start : goal.slice_bounds-same_bytes-start
-slice_bounds-same_bytes-start c = omega (arith, frame-inside _ _ _ _ (sym c.frame_at.ensures ∙ c.in-Whole.is))
+slice_bounds-same_bytes-start c = omega (arith, frame-inside _ _ _ _ (sym c.frame_at.ensures ∙ c.in-Some.is))
 
 pub slice_bounds-same_bytes-end : goal.slice_bounds-same_bytes-end
-slice_bounds-same_bytes-end c = omega (arith, frame-inside _ _ _ _ (sym c.frame_at.ensures ∙ c.in-Whole.is))
+slice_bounds-same_bytes-end c = omega (arith, frame-inside _ _ _ _ (sym c.frame_at.ensures ∙ c.in-Some.is))
 
 pub returns-then-same_bytes : goal.returns-then-same_bytes
 returns-then-same_bytes c =
     let loop = c.loop-left in
     let loop-test = c.loop-left-test in
     let frame_at = c.frame_at in
-    let f = c.in-Whole in
+    let f = c.in-Some in
     let same_bytes = c.same_bytes in
     let if1 = c.if-same_bytes in
     sym (loop.invariant ∙ first-here _ _ _ _ _ _ (frames-whole _ _ _ _ loop-test.true (sym frame_at.ensures ∙ f.is))
@@ -45,7 +45,7 @@ loop-left-preserved c =
     let loop = c.loop-left in
     let loop-test = c.loop-left-test in
     let frame_at = c.frame_at in
-    let f = c.in-Whole in
+    let f = c.in-Some in
     let same_bytes = c.same_bytes in
     let if1 = c.if-same_bytes in
     loop.invariant ∙ first_on _ _ _ _ _ _ (frames-whole _ _ _ _ loop-test.true (sym frame_at.ensures ∙ f.is)) (sym same_bytes.ensures ∙ if1.false)

@@ -3,8 +3,8 @@ use mathlib.Core.Path.{sym, ◌∙◌}
 use Rattle.frame.proofs.Laws.{place-good, place-bad}
 use Rattle.finding.proofs.find_object.Goals as goal
 
-pub returns-in-Good : goal.returns-in-Good
-returns-in-Good c = c.find_from.ensures ∙ sym (place-good _ _ _ _ (sym c.read_header.ensures ∙ c.in-Good.is))
+pub returns-in-Some : goal.returns-in-Some
+returns-in-Some c = c.find_from.ensures ∙ sym (place-good _ _ _ _ (sym c.read_header.ensures ∙ c.in-Some.is))
 
-pub returns-in-Bad : goal.returns-in-Bad
-returns-in-Bad c = sym (place-bad _ _ _ (sym c.read_header.ensures ∙ c.in-Bad.is))
+pub returns-in-None : goal.returns-in-None
+returns-in-None c = sym (place-bad _ _ _ (sym c.read_header.ensures ∙ c.in-None.is))

@@ -11,32 +11,32 @@ use Rattle.framed.proofs.ascending.Goals as goal
 pub loop-left-init : goal.loop-left-init
 loop-left-init c = (omega arith, omega arith, refl)
 
-pub returns-in-Broken : goal.returns-in-Broken
-returns-in-Broken c =
+pub returns-in-None : goal.returns-in-None
+returns-in-None c =
     let loop = c.loop-left in
     let loop-test = c.loop-left-test in
     let frame_at = c.frame_at in
-    let enum_told = c.in-Broken in
+    let enum_told = c.in-None in
     sym (loop.invariant.2 ∙ rises-fault _ _ _ _ (frames-broken _ _ _ _ loop-test.true (sym frame_at.ensures ∙ enum_told.is)))
 
 pub overflow_add-end : goal.overflow_add-end
-overflow_add-end c = omega (arith, frame-inside _ _ _ _ (sym c.frame_at.ensures ∙ c.in-Whole.is))
+overflow_add-end c = omega (arith, frame-inside _ _ _ _ (sym c.frame_at.ensures ∙ c.in-Some.is))
 
-pub slice_bounds-is_below-count-in-Whole : goal.slice_bounds-is_below-count-in-Whole
-slice_bounds-is_below-count-in-Whole c = omega (arith, frame-inside _ _ _ _ (sym c.frame_at.ensures ∙ c.in-Whole.is))
+pub slice_bounds-is_below-count-in-Some : goal.slice_bounds-is_below-count-in-Some
+slice_bounds-is_below-count-in-Some c = omega (arith, frame-inside _ _ _ _ (sym c.frame_at.ensures ∙ c.in-Some.is))
 
-pub slice_bounds-is_below-start-in-Whole : goal.slice_bounds-is_below-start-in-Whole
-slice_bounds-is_below-start-in-Whole c = omega (arith, frame-inside _ _ _ _ (sym c.frame_at.ensures ∙ c.in-Whole.is))
+pub slice_bounds-is_below-start-in-Some : goal.slice_bounds-is_below-start-in-Some
+slice_bounds-is_below-start-in-Some c = omega (arith, frame-inside _ _ _ _ (sym c.frame_at.ensures ∙ c.in-Some.is))
 
-pub slice_bounds-is_below-end-in-Whole : goal.slice_bounds-is_below-end-in-Whole
-slice_bounds-is_below-end-in-Whole c = omega (arith, frame-inside _ _ _ _ (sym c.frame_at.ensures ∙ c.in-Whole.is))
+pub slice_bounds-is_below-end-in-Some : goal.slice_bounds-is_below-end-in-Some
+slice_bounds-is_below-end-in-Some c = omega (arith, frame-inside _ _ _ _ (sym c.frame_at.ensures ∙ c.in-Some.is))
 
 pub loop-left-preserved : goal.loop-left-preserved
 loop-left-preserved c =
     let loop = c.loop-left in
     let loop-test = c.loop-left-test in
     let frame_at = c.frame_at in
-    let f = c.in-Whole in
+    let f = c.in-Some in
     let is_below = c.is_below in
     let if1 = c.if-is_below in
     let i = frame-inside _ _ _ _ (sym frame_at.ensures ∙ f.is) in (
@@ -51,7 +51,7 @@ returns-else-is_below c =
     let loop = c.loop-left in
     let loop-test = c.loop-left-test in
     let frame_at = c.frame_at in
-    let f = c.in-Whole in
+    let f = c.in-Some in
     let is_below = c.is_below in
     let if1 = c.if-is_below in
     sym (loop.invariant.2 ∙ rises_off _ _ _ _ _ _ (frames-whole _ _ _ _ loop-test.true (sym frame_at.ensures ∙ f.is))

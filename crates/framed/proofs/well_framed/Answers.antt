@@ -9,13 +9,13 @@ use Rattle.framed.proofs.well_framed.Goals as goal
 pub loop-left-init : goal.loop-left-init
 loop-left-init c = refl
 
-pub returns-in-Broken : goal.returns-in-Broken
+pub returns-in-None : goal.returns-in-None
 unfolding whole
-returns-in-Broken c =
+returns-in-None c =
     let loop = c.loop-left in
     let loop-test = c.loop-left-test in
     let frame_at = c.frame_at in
-    let enum_told = c.in-Broken in
+    let enum_told = c.in-None in
     sym (loop.invariant ∙ ap whole (frames-broken _ _ _ _ loop-test.true (sym frame_at.ensures ∙ enum_told.is)))
 
 pub loop-left-preserved : goal.loop-left-preserved
@@ -24,7 +24,7 @@ loop-left-preserved c =
     let loop = c.loop-left in
     let loop-test = c.loop-left-test in
     let frame_at = c.frame_at in
-    let f = c.in-Whole in
+    let f = c.in-Some in
     loop.invariant ∙ ap whole (frames-whole _ _ _ _ loop-test.true (sym frame_at.ensures ∙ f.is))
 
 pub returns : goal.returns

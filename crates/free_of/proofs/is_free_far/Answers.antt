@@ -1,29 +1,20 @@
 -- `free_of::is_free_far` meets its contract. Assumes nothing.
+use Prim.Native.Nat.{◌-◌}
+use mathlib.Core.Path.{sym, ◌∙◌}
 use native.Mathlib.Omega.{arith}
-use Rattle.free_of.proofs.Laws.{free_on, free_not, free_all}
+use lib.ListN.{length}
+use Rattle.free_of.proofs.Laws.{free_on, free_not, free_last}
 use Rattle.free_of.proofs.is_free_far.Goals as goal
 
-pub loop-x-init : goal.loop-x-init
-loop-x-init c = (omega arith, omega arith)
+pub returns-then-not-lacks : goal.returns-then-not-lacks
+returns-then-not-lacks c = free_not c.args.x c.args.s.now c.loop-at.at _ (omega arith) (sym c.if-not-lacks.ensures)
 
-pub returns-then-among-ne0 : goal.returns-then-among-ne0
-returns-then-among-ne0 c = free_not _ _ _ c.loop-x.invariant.1 32 (c.among.ensures.some c.if-among-ne0.true) (omega arith)
+pub loop-at-preserved : goal.loop-at-preserved
+loop-at-preserved c =
+    let on = free_on c.args.x c.args.s.now c.loop-at.at _ c.loop-at.invariant (omega arith) (sym c.if-not-lacks.ensures) in
+    omega (arith, on)
 
-pub loop-x-preserved-then-left-ge32 : goal.loop-x-preserved-then-left-ge32
-loop-x-preserved-then-left-ge32 c =
-    let loop = c.loop-x in
-    (omega arith, free_on _ _ loop.at loop.invariant.1 32 (c.among.ensures.none c.if-among-ne0.false))
-
-pub returns-then-left-eq0 : goal.returns-then-left-eq0
-returns-then-left-eq0 c =
-    let args = c.args in
-    let loop = c.loop-x in
-    let on = free_on args.x args.s.now loop.at loop.invariant.1 32 (c.among.ensures.none c.if-among-ne0.false) in
-    free_all args.x args.s.now (omega (arith, on))
-
-pub loop-x-preserved : goal.loop-x-preserved
-loop-x-preserved c =
-    let args = c.args in
-    let loop = c.loop-x in
-    let on = free_on args.x args.s.now loop.at loop.invariant.1 32 (c.among.ensures.none c.if-among-ne0.false) in
-    (omega arith, omega (arith, on))
+pub returns : goal.returns
+returns c =
+    let s = c.args.s.now in
+    c.lacks-2.ensures ∙ free_last c.args.x s c.loop-at.at (length s - 32) _ c.loop-at.invariant (omega arith) (omega arith)

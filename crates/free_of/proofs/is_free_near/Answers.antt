@@ -1,16 +1,12 @@
 -- `free_of::is_free_near` meets its contract. Assumes nothing.
+use Prim.Native.Nat.{◌-◌}
 use native.Mathlib.Omega.{arith}
+use lib.ListN.{length}
 use Rattle.free_of.proofs.Laws.{free_both}
 use Rattle.free_of.proofs.is_free_near.Goals as goal
 
-pub among-requires : goal.among-requires
-among-requires c = omega arith
-
-pub among-requires-2 : goal.among-requires-2
-among-requires-2 c = omega arith
-
 pub returns : goal.returns
 returns c =
-    let among = c.among in
-    let among2 = c.among-2 in
-    free_both _ _ _ _ among.ensures.none among.ensures.some _ _ (omega arith) (omega arith) among2.ensures.none among2.ensures.some
+    let s = c.args.s.now in
+    let k = c.args.k in
+    rw (c.lacks.ensures, c.lacks-2.ensures) (free_both c.args.x s k (length s - k) _ (omega arith) (omega arith) (omega arith))

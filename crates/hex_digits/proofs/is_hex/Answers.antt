@@ -1,24 +1,20 @@
 -- `hex_digits::is_hex` meets its contract. Assumes nothing.
-use Prim.Native.Nat.{◌-◌}
-use mathlib.Core.Path.{refl, ap, sym, ◌∙◌}
+use mathlib.Core.Path.{sym, ◌∙◌}
+use native.Mathlib.Omega.{arith}
+use lib.ListN.{get_or}
 use Rattle.hex_digits.specs.Hex.{hex_value}
 use Rattle.hex_digits.proofs.Laws.{table_is, hex-turn, hex-last}
 use Rattle.hex_digits.proofs.is_hex.Goals as goal
 
-pub loop-i-init : goal.loop-i-init
-loop-i-init c = refl
-
-pub loop-i-preserved : goal.loop-i-preserved
+pub loop-b-preserved : goal.loop-b-preserved
 unfolding hex_value
-loop-i-preserved c =
+loop-b-preserved c =
+    let loop = c.loop-b in
     let t = c.args.t.now in
-    let wide = c.wide-b in
-    let b = wide.result in
-    let e = c.laid-digits.ensures b wide.ensures.small ∙ table_is b wide.ensures.small ∙ ap hex_value wide.ensures.same in
-    c.loop-i.invariant ∙ hex-turn t c.loop-i.i c.loop-i.seen _ c.loop-i-test.true e
+    loop.invariant ∙ hex-turn t loop.b-index loop.seen _ c.loop-b-test.true (table_is (get_or t loop.b-index 0) (omega (arith, c.type_inv.t loop.b-index)))
 
 pub returns : goal.returns
 returns c =
-    let loop = c.loop-i in
+    let loop = c.loop-b in
     let t = c.args.t.now in
-    sym (loop.invariant ∙ hex-last t loop.i loop.seen c.loop-i-test.false)
+    sym (loop.invariant ∙ hex-last t loop.b-index loop.seen c.loop-b-test.false)

@@ -7,17 +7,17 @@ use Rattle.output.proofs.Laws.{fitted-done, refused-both, fitted-both, shut-refu
 use Rattle.hex_of_id.proofs.Laws.{hex-shut, hex_open, hex-length}
 use Rattle.hex_of_id.proofs.hex_of_id.Goals as goal
 
-pub returns-in-Shut : goal.returns-in-Shut
-returns-in-Shut c =
+pub returns-in-Err : goal.returns-in-Err
+returns-in-Err c =
     let r = (let bounds = c.bounds in
-    let v = c.in-Shut in
+    let v = c.in-Err in
     let args = c.args in
     let g = sym bounds.ensures ∙ v.is in
     refused-both _ _ _ (hex-shut args.id.now (length args.out.now) _ g) (shut-refuses _ _ _ _ g)) in
     record { value = r.0; out_after = r.1 }
 
 pub count_digits-requires : goal.count_digits-requires
-count_digits-requires c = (id_small _ (gate_open _ _ _ (sym c.bounds.ensures ∙ c.in-Open.is)).0).1
+count_digits-requires c = (id_small _ (gate_open _ _ _ (sym c.bounds.ensures ∙ c.in-Ok.is)).0).1
 
 pub returns-then-number-ne-DONE : goal.returns-then-number-ne-DONE
 returns-then-number-ne-DONE c =
@@ -25,7 +25,7 @@ returns-then-number-ne-DONE c =
     let fit = c.fit-a in
     let args = c.args in
     let bounds = c.bounds in
-    let enum_told = c.in-Open in
+    let enum_told = c.in-Ok in
     let f = rw count-digits.ensures at fit.ensures in
     let opens = hex_open args.id.now (length args.out.now) (sym bounds.ensures ∙ enum_told.is) in
     refused-both _ _ _ (opens ∙ sym f) c.if-number-ne-DONE.true) in
@@ -45,7 +45,7 @@ returns c =
     let fit = c.fit-a in
     let args = c.args in
     let bounds = c.bounds in
-    let enum_told = c.in-Open in
+    let enum_told = c.in-Ok in
     let if1 = c.if-number-ne-DONE in
     let put-hex = c.put_hex in
     let f = rw count-digits.ensures at fit.ensures in

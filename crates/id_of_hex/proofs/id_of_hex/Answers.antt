@@ -7,10 +7,10 @@ use Rattle.output.proofs.Laws.{fitted-done, refused-both, fitted-both, shut-refu
 use Rattle.id_of_hex.proofs.Laws.{id-shut, id_open, read_done, bytes-length}
 use Rattle.id_of_hex.proofs.id_of_hex.Goals as goal
 
-pub returns-in-Shut : goal.returns-in-Shut
-returns-in-Shut c =
+pub returns-in-Err : goal.returns-in-Err
+returns-in-Err c =
     let r = (let bounds = c.bounds in
-    let v = c.in-Shut in
+    let v = c.in-Err in
     let args = c.args in
     let half = c.half in
     let g = sym bounds.ensures ∙ v.is in
@@ -24,7 +24,7 @@ returns-then-number-ne-DONE c =
     let args = c.args in
     let half = c.half in
     let bounds = c.bounds in
-    let enum_told = c.in-Open in
+    let enum_told = c.in-Ok in
     let f = rw read-digits.ensures at fit.ensures in
     let opens = id_open args.digits.now (length args.out.now) _ half.ensures (sym bounds.ensures ∙ enum_told.is) in
     refused-both _ _ _ (opens ∙ sym f) c.if-number-ne-DONE.true) in
@@ -48,7 +48,7 @@ returns c =
     let args = c.args in
     let half = c.half in
     let bounds = c.bounds in
-    let enum_told = c.in-Open in
+    let enum_told = c.in-Ok in
     let if1 = c.if-number-ne-DONE in
     let put-bytes = c.put_bytes in
     let f = rw read-digits.ensures at fit.ensures in

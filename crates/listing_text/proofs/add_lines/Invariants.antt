@@ -11,6 +11,3 @@ abbrev pub invariant-loop-i : goal.invariant-loop-i
 invariant-loop-i l =
     (length l.out ≡ length l.initial.out) × (l.n ≡ many (length l.records)) × (l.i ≤ l.n) × (l.p ≤ l.at + l.i * 65664) × Rest l.initial.out l.at (lines l.h l.s (records_of l.records)) l.out l.p
     (lines l.h l.s (drop l.i (records_of l.records)))
-
-abbrev pub decreases-loop-i : goal.decreases-loop-i
-decreases-loop-i l = l.n - l.i

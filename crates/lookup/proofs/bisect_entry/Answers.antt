@@ -8,13 +8,13 @@ pub searched-requires : goal.searched-requires
 searched-requires c =
     let number = records-many c.args.records.now in
     let wide = c.longer.ensures in
-    rw (number, sym wide) (sym c.bounds.ensures ∙ c.in-Open.is)
+    rw (number, sym wide) (sym c.bounds.ensures ∙ c.in-Ok.is)
 
-pub returns-in-Open : goal.returns-in-Open
-returns-in-Open c = c.told.ensures ∙ c.searched.ensures
+pub returns-in-Ok : goal.returns-in-Ok
+returns-in-Ok c = c.told.ensures ∙ c.searched.ensures
 
-pub returns-in-Shut : goal.returns-in-Shut
-returns-in-Shut c =
+pub returns-in-Err : goal.returns-in-Err
+returns-in-Err c =
     let number = records-many c.args.records.now in
     let wide = c.longer.ensures in
-    sym (lookup-shut _ _ _ _ _ _ (rw (number, sym wide) (sym c.bounds.ensures ∙ c.in-Shut.is)))
+    sym (lookup-shut _ _ _ _ _ _ (rw (number, sym wide) (sym c.bounds.ensures ∙ c.in-Err.is)))

@@ -3,11 +3,11 @@ use Prim.Native.Nat.{◌-◌}
 use mathlib.Core.Path.{sym, ◌∙◌}
 use native.Mathlib.Omega.{arith}
 use Rattle.ground.proofs.Laws.{gate_open}
-use Rattle.order.specs.declared.Order.TheVariants.{Below, Same, Above}
 use Rattle.entry.specs.Record.{records_of, name_of}
 use Rattle.entry.proofs.Laws.{records-many, well_parts}
 use Rattle.lookup.proofs.Laws.{search-end, search_bad, search_told, lookup_open}
 use Rattle.lookup.proofs.searched.Goals as goal
+use Rattle.std.specs.declared.cmp.Ordering.TheVariants.{Equal, Greater, Less}
 
 pub loop-low-init : goal.loop-low-init
 loop-low-init c =
@@ -25,9 +25,9 @@ slice_bounds-name_order-start c = omega (arith, well_parts _ _ _ (sym c.well_for
 pub slice_bounds-name_order-end : goal.slice_bounds-name_order-end
 slice_bounds-name_order-end c = omega (arith, well_parts _ _ _ (sym c.well_formed-in-loop-low.ensures ∙ c.if-well_formed.true))
 
-pub loop-low-preserved-in-Below : goal.loop-low-preserved-in-Below
+pub loop-low-preserved-in-Less : goal.loop-low-preserved-in-Less
 unfolding name_of
-loop-low-preserved-in-Below c =
+loop-low-preserved-in-Less c =
     let args = c.args in
     let loop = c.loop-low in
     let loop-test = c.loop-low-test in
@@ -36,7 +36,7 @@ loop-low-preserved-in-Below c =
     let if1 = c.if-well_formed in
     let is-folder = c.is_folder-tree in
     let name-order = c.name_order in
-    let enum_told = c.in-Below in
+    let enum_told = c.in-Less in
     let good = sym well-formed.ensures ∙ if1.true in
     let folder = is-folder.ensures in
     let ordered = name-order.ensures in
@@ -44,22 +44,22 @@ loop-low-preserved-in-Below c =
     let more = loop-test.true in (
       loop.invariant.0,
       omega (arith, loop.invariant.1),
-      loop.invariant.2 ∙ search_told _ _ (records_of args.records.now) _ _ _ _ _ more _ record-at.ensures good Below
+      loop.invariant.2 ∙ search_told _ _ (records_of args.records.now) _ _ _ _ _ more _ record-at.ensures good Less
           folder ordered told,
     )
 
-pub returns-in-Same : goal.returns-in-Same
+pub returns-in-Equal : goal.returns-in-Equal
 unfolding name_of
-returns-in-Same c =
+returns-in-Equal c =
     let loop = c.loop-low in
     let record-at = c.record_at-e in
     let good = sym c.well_formed-in-loop-low.ensures ∙ c.if-well_formed.true in
     let folder = c.is_folder-tree.ensures in
     let ordered = c.name_order.ensures in
-    let told = c.in-Same.is in
+    let told = c.in-Equal.is in
     let args = c.args in
     let more = c.loop-low-test.true in
-    sym (loop.invariant.2 ∙ search_told _ _ (records_of args.records.now) _ _ _ _ _ more _ record-at.ensures good Same folder ordered told)
+    sym (loop.invariant.2 ∙ search_told _ _ (records_of args.records.now) _ _ _ _ _ more _ record-at.ensures good Equal folder ordered told)
 
 pub loop-low-preserved : goal.loop-low-preserved
 unfolding name_of
@@ -72,7 +72,7 @@ loop-low-preserved c =
     let if1 = c.if-well_formed in
     let is-folder = c.is_folder-tree in
     let name-order = c.name_order in
-    let enum-told3 = c.in-Above in
+    let enum-told3 = c.in-Greater in
     let good = sym well-formed.ensures ∙ if1.true in
     let folder = is-folder.ensures in
     let ordered = name-order.ensures in
@@ -81,7 +81,7 @@ loop-low-preserved c =
       omega (arith, loop.invariant.0),
       omega (arith, loop.invariant.1),
       loop.invariant.2 ∙ search_told _ _ (records_of args.records.now) _ _ _ _ _ more _
-          record-at.ensures good Above folder ordered told,
+          record-at.ensures good Greater folder ordered told,
     )
 
 pub returns-in-loop-low : goal.returns-in-loop-low

@@ -5,15 +5,15 @@ use Rattle.lookups.proofs.begins.Goals as goal
 
 pub returns-then-room-n : goal.returns-then-room-n
 returns-then-room-n c =
-    let gate = sym c.bounds.ensures ∙ c.in-Open.is in
+    let gate = sym c.bounds.ensures ∙ c.in-Ok.is in
     sym (first_short _ _ _ _ _ _ _ c.longer.ensures c.longer-2.ensures gate c.if-room-n.true)
 
-pub returns-in-Shut : goal.returns-in-Shut
-returns-in-Shut c =
-    let shut = sym c.bounds.ensures ∙ c.in-Shut.is in
+pub returns-in-Err : goal.returns-in-Err
+returns-in-Err c =
+    let shut = sym c.bounds.ensures ∙ c.in-Err.is in
     sym (first-shut _ _ _ _ _ _ _ c.longer.ensures c.longer-2.ensures _ shut)
 
 pub returns-else-room-n : goal.returns-else-room-n
 returns-else-room-n c =
-    let gate = sym c.bounds.ensures ∙ c.in-Open.is in
+    let gate = sym c.bounds.ensures ∙ c.in-Ok.is in
     sym (first_open _ _ _ _ _ _ _ c.longer.ensures c.longer-2.ensures gate c.if-room-n.false)

@@ -5,17 +5,17 @@ use Rattle.lookups.proofs.Laws.{first-room, first-number, many-shut, many_ran}
 use Rattle.lookups.proofs.bisect_entries.Goals as goal
 
 pub look_all-requires : goal.look_all-requires
-look_all-requires c = (first-room _ _ _ _ _ (sym c.begins.ensures ∙ c.in-Open.is)).1
+look_all-requires c = (first-room _ _ _ _ _ (sym c.begins.ensures ∙ c.in-Ok.is)).1
 
-pub returns-in-Shut : goal.returns-in-Shut
-returns-in-Shut c =
-    let r = (let g = sym c.begins.ensures ∙ c.in-Shut.is in
+pub returns-in-Err : goal.returns-in-Err
+returns-in-Err c =
+    let r = (let g = sym c.begins.ensures ∙ c.in-Err.is in
     refused-both _ _ _ (many-shut _ _ _ _ _ _ _ _ c.longer-bytes.ensures refl _ g) (first-number _ _ _ _ _ _ g)) in
     record { value = r.0; answers_after = r.1 }
 
-pub returns-in-Open : goal.returns-in-Open
-returns-in-Open c =
-    let r = (let g = sym c.begins.ensures ∙ c.in-Open.is in
+pub returns-in-Ok : goal.returns-in-Ok
+returns-in-Ok c =
+    let r = (let g = sym c.begins.ensures ∙ c.in-Ok.is in
     let ends = c.look_all.ensures in
     many_ran _ _ _ _ _ _ _ _ c.longer-bytes.ensures refl g _ ends.value _ _ _ ends.answers_after) in
     record { value = r.0; answers_after = r.1 }

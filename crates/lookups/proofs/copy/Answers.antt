@@ -1,40 +1,21 @@
 -- `lookups::copy` meets its contract. Assumes nothing.
-use Prim.Native.Nat.{◌-◌}
-use mathlib.Core.Path.{refl, sym, ◌∙◌}
+use Prim.Native.Nat.{ℕ, ◌≤◌, min}
 use native.Mathlib.Omega.{arith}
-use lib.ListN.{get_or, length-set}
-use Rattle.lookups.proofs.Laws.{copy_more, copy_end}
+use mathlib.Core.Path.{◌≡◌, sym, ap, ◌∙◌}
+use mathlib.Core.List.{List, ◌++◌}
+use lib.ListN.{length, take, drop}
+use lib.Seq.{sets, length-take-le}
+use Rattle.std.proofs.lemmas.List.{take_min}
+use Rattle.ground.proofs.Laws.{sets_front}
 use Rattle.lookups.proofs.copy.Goals as goal
 
-pub loop-i-init : goal.loop-i-init
-loop-i-init c = (refl, refl)
-
-pub shape_of-answers-then-own-i : goal.shape_of-answers-then-own-i
-shape_of-answers-then-own-i c = c.loop-i.invariant.0
-
-pub returns-then-own-i : goal.returns-then-own-i
-returns-then-own-i c =
-    let loop = c.loop-i in
-    let args = c.args in
-    sym (loop.invariant.1 ∙ copy_end loop.answers args.own.now args.count loop.i (omega (arith, c.if-own-i.true)))
-
-pub bounds-answers-i : goal.bounds-answers-i
-bounds-answers-i c = omega (arith, c.loop-i.invariant.0, c.requires, c.loop-i-test.true)
-
-pub loop-i-preserved : goal.loop-i-preserved
-loop-i-preserved c =
-    let loop = c.loop-i in
-    let args = c.args in
-    let own = args.own.now in (
-      length-set loop.answers loop.i (get_or own loop.i 0) ∙ loop.invariant.0,
-      loop.invariant.1 ∙ copy_more loop.answers own args.count loop.i c.loop-i-test.true c.if-own-i.false,
-    )
-
-pub shape_of-answers : goal.shape_of-answers
-shape_of-answers c = c.loop-i.invariant.0
+put_front : (l own r : List ℕ) (count n : ℕ) → n ≡ min count (length own) → count ≤ length l → r ≡ take n own → r ++ drop n l ≡ sets l 0 (take count own)
+put_front l own r count n e h p =
+    let size : length (take n own) ≡ n = length-take-le n own (omega arith) in
+    let same : take count own ≡ take n own = sym (ap (λ (k : ℕ). take k own) e ∙ take_min count own) in
+    ap (λ (k : List ℕ). k ++ drop n l) p ∙ ap (λ (k : ℕ). take n own ++ drop k l) (sym size) ∙ sym (sets_front l (take n own) (omega (arith, size))) ∙ ap (sets l 0) (sym same)
 
 pub returns : goal.returns
 returns c =
-    let loop = c.loop-i in
     let args = c.args in
-    sym (loop.invariant.1 ∙ copy_end loop.answers args.own.now args.count loop.i (omega (arith, c.loop-i-test.false)))
+    put_front args.answers.now args.own.now _ args.count _ c.min-n.ensures c.requires c.copy_from_slice.ensures.after

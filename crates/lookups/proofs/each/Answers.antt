@@ -1,5 +1,4 @@
 -- `lookups::each` meets its contract: the verdict and the stored answers from the start are those from here. Assumes nothing.
-use borrow.Author.Rules.{rules}
 use Prim.Native.Nat.{◌-◌}
 use mathlib.Core.Path.{refl, sym, ◌∙◌}
 use native.Mathlib.Omega.{arith}
@@ -28,10 +27,6 @@ put_answer-requires c =
     let more = c.loop-i-test.true in
     let room = c.requires in
     λ l. omega (arith, loop.invariant.0, room loop.i more (omega (arith, loop.invariant.0)))
-
-pub overflow_add-i : goal.overflow_add-i
-overflow_add-i c =
-    search (rules, c.well_formed, c.ranges)
 
 pub loop-i-preserved : goal.loop-i-preserved
 loop-i-preserved c =

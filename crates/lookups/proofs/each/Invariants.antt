@@ -12,6 +12,3 @@ invariant-loop-i l =
     (length l.answers ≡ length l.initial.answers)
     × (first_bad f l.from (drop l.from (sought_of l.sought)) ≡ first_bad f l.i (drop l.i (sought_of l.sought)))
     × (sets l.initial.answers (l.from * width) (all_kept f (drop l.from (sought_of l.sought))) ≡ sets l.answers (l.i * width) (all_kept f (drop l.i (sought_of l.sought))))
-
-abbrev pub decreases-loop-i : goal.decreases-loop-i
-decreases-loop-i l = l.n - l.i

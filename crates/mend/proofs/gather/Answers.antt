@@ -17,26 +17,26 @@ returns-then-n-ge-MOST_RECORDS c =
     let r = gathering_end _ _ _ _ _ _ _ _ _ c.loop-at.invariant (none_full _ _ _ _ c.if-n-ge-MOST_RECORDS.true) in
     record { value = r.0; list_after = r.1 }
 
-pub shape_of-list-in-Broken : goal.shape_of-list-in-Broken
-shape_of-list-in-Broken c = c.loop-at.invariant.size
+pub shape_of-list-in-Err : goal.shape_of-list-in-Err
+shape_of-list-in-Err c = c.loop-at.invariant.size
 
-pub returns-in-Broken : goal.returns-in-Broken
-returns-in-Broken c =
+pub returns-in-Err : goal.returns-in-Err
+returns-in-Err c =
     let r = (let loop = c.loop-at in
     let if1 = c.if-n-ge-MOST_RECORDS in
     let decode = c.decode in
-    let enum_told = c.in-Broken in
+    let enum_told = c.in-Err in
     gathering_end _ _ _ _ _ _ _ _ _ loop.invariant (none_left _ _ _ _ if1.false (sym decode.ensures ∙ enum_told.is))) in
     record { value = r.0; list_after = r.1 }
 
 pub choose-taken-requires : goal.choose-taken-requires
-choose-taken-requires c = decoded_inside _ _ _ _ _ (sym c.decode.ensures ∙ c.in-Whole.is)
+choose-taken-requires c = decoded_inside _ _ _ _ _ (sym c.decode.ensures ∙ c.in-Ok.is)
 
 pub element-x-requires : goal.element-x-requires
 element-x-requires c =
     let pre = c.requires in
     let decode = c.decode in
-    let e = c.in-Whole in
+    let e = c.in-Ok in
     let w = decoded_place _ _ _ _ _ (sym decode.ensures ∙ e.is) in
     omega (arith, w, pre)
 
@@ -54,7 +54,7 @@ loop-at-preserved c =
     let loop = c.loop-at in
     let if1 = c.if-n-ge-MOST_RECORDS in
     let decode = c.decode in
-    let e = c.in-Whole in
+    let e = c.in-Ok in
     let choose = c.choose-taken in
     let element = c.element-x in
     let push = c.push-m in

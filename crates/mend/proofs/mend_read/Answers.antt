@@ -5,16 +5,16 @@ use Rattle.mend.specs.Mend.{not_mended}
 use Rattle.mend.proofs.Whole.{read_none, read-many, read_stopped, counted_stopped, counted-short, counted-fine, refused_all}
 use Rattle.mend.proofs.mend_read.Goals as goal
 
-pub mend_small-requires : goal.mend_small-requires
-mend_small-requires c =
+pub mend_own-requires : goal.mend_own-requires
+mend_own-requires c =
     let if1 = c.if-number-eq-DONE in
     let p = c.requires.s_len_bound in
-    record { s_len_bound = (p.0, p.1, p.2); s_value = read_none _ _ _ c.requires.a_value if1.true; count_in_bounds = (omega arith, omega arith) }
+    record { s_len_bound = (p.0, p.1, p.2); s_value = read_none _ _ _ c.requires.a_value if1.true; count_in_bounds = (omega arith, omega arith, omega arith) }
 
 pub returns-then-number-eq-DONE : goal.returns-then-number-eq-DONE
 returns-then-number-eq-DONE c =
     let if1 = c.if-number-eq-DONE in
-    let mend-small = c.mend_small in record { answer = mend-small.ensures.answer ∙ sym (counted-fine _ _ _ _ 0 (read_none _ _ _ c.requires.a_value if1.true) (omega arith)); fates = mend-small.ensures.fates; out = mend-small.ensures.out }
+    let own = c.mend_own in record { answer = own.ensures.answer ∙ sym (counted-fine _ _ _ _ 0 (read_none _ _ _ c.requires.a_value if1.true) (omega arith)); fates = own.ensures.fates; out = own.ensures.out }
 
 pub returns-then-number-ne-FEW_RECORDS : goal.returns-then-number-ne-FEW_RECORDS
 returns-then-number-ne-FEW_RECORDS c =
@@ -34,19 +34,19 @@ returns-then-fates-n c =
     refused_all _ _ _ _ _ _ _ no-mending2.ensures (counted-short _ _ _ _ _ w.1 if3.true ∙ ap not_mended (sym w.0)) if1.false) in
     record { answer = r.0; fates = r.1.0; out = r.1.1 }
 
-pub mend_small-requires-then-n-le1024 : goal.mend_small-requires-then-n-le1024
-mend_small-requires-then-n-le1024 c =
+pub mend_own-requires-then-n-le1024 : goal.mend_own-requires-then-n-le1024
+mend_own-requires-then-n-le1024 c =
     let if2 = c.if-number-ne-FEW_RECORDS in
     let if3 = c.if-fates-n in
     let if4 = c.if-n-le1024 in
     let p = c.requires.s_len_bound in
-    record { s_len_bound = (p.0, p.1, p.2); s_value = (read-many _ _ _ c.requires.a_value if2.false).1; count_in_bounds = (if3.false, if4.true) }
+    record { s_len_bound = (p.0, p.1, p.2); s_value = (read-many _ _ _ c.requires.a_value if2.false).1; count_in_bounds = (if3.false, if4.true, omega arith) }
 
 pub returns-then-n-le1024 : goal.returns-then-n-le1024
 returns-then-n-le1024 c =
     let if2 = c.if-number-ne-FEW_RECORDS in
     let if3 = c.if-fates-n in
-    let mend-small2 = c.mend_small-then-n-le1024 in record { answer = mend-small2.ensures.answer ∙ sym (counted-fine _ _ _ _ _ (read-many _ _ _ c.requires.a_value if2.false).1 if3.false); fates = mend-small2.ensures.fates; out = mend-small2.ensures.out }
+    let own = c.mend_own-then-n-le1024 in record { answer = own.ensures.answer ∙ sym (counted-fine _ _ _ _ _ (read-many _ _ _ c.requires.a_value if2.false).1 if3.false); fates = own.ensures.fates; out = own.ensures.out }
 
 pub mend_large-requires : goal.mend_large-requires
 mend_large-requires c =

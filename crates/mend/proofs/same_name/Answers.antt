@@ -6,20 +6,20 @@ use Rattle.mend_kept.proofs.Bisect.{has-broken, has-whole}
 use Rattle.mend.proofs.same_name.Goals as goal
 
 pub slice_bounds-same_bytes-count : goal.slice_bounds-same_bytes-count
-slice_bounds-same_bytes-count c = omega (arith, decoded_within _ _ _ _ _ (sym c.decode.ensures ∙ c.in-Whole.is))
+slice_bounds-same_bytes-count c = omega (arith, decoded_within _ _ _ _ _ (sym c.decode.ensures ∙ c.in-Ok.is))
 
 pub slice_bounds-same_bytes-start : goal.slice_bounds-same_bytes-start
-slice_bounds-same_bytes-start c = omega (arith, decoded_within _ _ _ _ _ (sym c.decode.ensures ∙ c.in-Whole.is))
+slice_bounds-same_bytes-start c = omega (arith, decoded_within _ _ _ _ _ (sym c.decode.ensures ∙ c.in-Ok.is))
 
 pub slice_bounds-same_bytes-end : goal.slice_bounds-same_bytes-end
-slice_bounds-same_bytes-end c = omega (arith, decoded_within _ _ _ _ _ (sym c.decode.ensures ∙ c.in-Whole.is))
+slice_bounds-same_bytes-end c = omega (arith, decoded_within _ _ _ _ _ (sym c.decode.ensures ∙ c.in-Ok.is))
 
-pub returns-in-Broken : goal.returns-in-Broken
-returns-in-Broken c = has-broken _ _ _ _ (sym c.decode.ensures ∙ c.in-Broken.is)
+pub returns-in-Err : goal.returns-in-Err
+returns-in-Err c = has-broken _ _ _ _ (sym c.decode.ensures ∙ c.in-Err.is)
 
-pub returns-in-Whole : goal.returns-in-Whole
-returns-in-Whole c =
+pub returns-in-Ok : goal.returns-in-Ok
+returns-in-Ok c =
     let decode = c.decode in
-    let e = c.in-Whole in
+    let e = c.in-Ok in
     let same_bytes = c.same_bytes in
     same_bytes.ensures ∙ has-whole _ _ _ _ _ (sym decode.ensures ∙ e.is)

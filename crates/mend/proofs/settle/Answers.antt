@@ -19,29 +19,29 @@ returns-then-n-ge-MOST_RECORDS c =
     let r = settling_end _ _ _ _ _ _ _ _ c.loop-at.invariant (none_full _ _ _ _ c.if-n-ge-MOST_RECORDS.true) in
     record { value = r.0; fates_after = r.1 }
 
-pub shape_of-fates-in-Broken : goal.shape_of-fates-in-Broken
-shape_of-fates-in-Broken c = c.loop-at.invariant.long
+pub shape_of-fates-in-Err : goal.shape_of-fates-in-Err
+shape_of-fates-in-Err c = c.loop-at.invariant.long
 
-pub returns-in-Broken : goal.returns-in-Broken
-returns-in-Broken c =
+pub returns-in-Err : goal.returns-in-Err
+returns-in-Err c =
     let r = (let loop = c.loop-at in
     let if1 = c.if-n-ge-MOST_RECORDS in
     let decode = c.decode in
-    let enum_told = c.in-Broken in
+    let enum_told = c.in-Err in
     settling_end _ _ _ _ _ _ _ _ loop.invariant (none_left _ _ _ _ if1.false (sym decode.ensures ∙ enum_told.is))) in
     record { value = r.0; fates_after = r.1 }
 
 pub entry_fate-fate-requires : goal.entry_fate-fate-requires
 entry_fate-fate-requires c =
     let decode = c.decode in
-    let e = c.in-Whole in
+    let e = c.in-Ok in
     let d = sym decode.ensures ∙ e.is in
     record { known = c.requires.known; inside = decoded_inside _ _ _ _ _ d; text_start_bound = omega (arith, decoded_place _ _ _ _ _ d, c.requires.s_len_bound); e_value = plain_key _ _ c.requires.le_h.0 _ _ _ d }
 
 pub kept_size-size-requires : goal.kept_size-size-requires
 kept_size-size-requires c =
     let decode = c.decode in
-    let e = c.in-Whole in
+    let e = c.in-Ok in
     let w = decoded_size _ _ _ _ _ (sym decode.ensures ∙ e.is) in
     (w.0, omega (arith, w, c.requires.s_len_bound), c.requires.le_h.1)
 
@@ -50,7 +50,7 @@ overflow_add-size c =
     let loop = c.loop-at in
     let if1 = c.if-n-ge-MOST_RECORDS in
     let decode = c.decode in
-    let e = c.in-Whole in
+    let e = c.in-Ok in
     let entry-fate = c.entry_fate-fate in
     let kept-size = c.kept_size-size in
     let r = settling_room _ _ _ _ _ _ _ _ loop.invariant _ _ if1.false (sym decode.ensures ∙ e.is) _ entry-fate.ensures (own-most _) in
@@ -65,9 +65,9 @@ loop-at-preserved c =
     let loop = c.loop-at in
     let if1 = c.if-n-ge-MOST_RECORDS in
     let decode = c.decode in
-    let e = c.in-Whole in
+    let e = c.in-Ok in
     let entry-fate = c.entry_fate-fate in
-    let put-fate = c.put_fate in
+    let put-fate = c.put_at in
     let kept-size = c.kept_size-size in
     settling_turn _ _ _ _ _ _ _ _ loop.invariant _ _ if1.false (sym decode.ensures ∙ e.is) _ entry-fate.ensures (own-most _) _ put-fate.ensures _
     (sum_is _ _ kept-size.ensures)

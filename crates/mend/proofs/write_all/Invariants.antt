@@ -1,11 +1,6 @@
 -- `mend::write_all` meets its contract. Assumes nothing.
-use Prim.Native.Nat.{◌-◌}
-use lib.ListN.{length}
 use Rattle.mend_kept.proofs.Bytes.{Writing}
 use Rattle.mend.proofs.write_all.Given as goal
 
-abbrev pub invariant-loop-i : goal.invariant-loop-i
-invariant-loop-i l = Writing l.h l.s l.list l.initial.out l.out l.i l.at
-
-abbrev pub decreases-loop-i : goal.decreases-loop-i
-decreases-loop-i l = length l.list - l.i
+abbrev pub invariant-loop-x : goal.invariant-loop-x
+invariant-loop-x l = Writing l.h l.s l.list l.initial.out l.out l.x-index l.at

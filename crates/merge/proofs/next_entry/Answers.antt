@@ -34,7 +34,7 @@ overflow_add-name_start c =
     let if2 = c.if-end-start in
     let if3 = c.if-bundle-end in
     let decode = c.decode in
-    let e = c.in-Whole in
+    let e = c.in-Ok in
     record {
       fits = (laws.ahead-fits args.h args.bundle.now args.c if1.false if2.false if3.false decode.result
           decode.ensures e.e e.next e.is good.0.0).0;
@@ -48,7 +48,7 @@ overflow_add-name_end c =
     let if2 = c.if-end-start in
     let if3 = c.if-bundle-end in
     let decode = c.decode in
-    let e = c.in-Whole in
+    let e = c.in-Ok in
     record {
       fits = (laws.ahead-fits args.h args.bundle.now args.c if1.false if2.false if3.false decode.result
           decode.ensures e.e e.next e.is good.0.0).1;
@@ -62,7 +62,7 @@ overflow_add-id_start c =
     let if2 = c.if-end-start in
     let if3 = c.if-bundle-end in
     let decode = c.decode in
-    let e = c.in-Whole in
+    let e = c.in-Ok in
     record {
       fits = (laws.ahead-fits args.h args.bundle.now args.c if1.false if2.false if3.false decode.result
           decode.ensures e.e e.next e.is good.0.0).2;
@@ -76,30 +76,30 @@ overflow_add-text_start c =
     let if2 = c.if-end-start in
     let if3 = c.if-bundle-end in
     let decode = c.decode in
-    let e = c.in-Whole in
+    let e = c.in-Ok in
     record {
       fits = (laws.ahead-fits args.h args.bundle.now args.c if1.false if2.false if3.false decode.result
           decode.ensures e.e e.next e.is good.0.0).3;
     }
 
-pub returns-in-Broken : goal.returns-in-Broken
-returns-in-Broken c =
+pub returns-in-Err : goal.returns-in-Err
+returns-in-Err c =
     let args = c.args in
     let if1 = c.if-left-eq0 in
     let if2 = c.if-end-start in
     let if3 = c.if-bundle-end in
     let decode = c.decode in
-    let enum_told = c.in-Broken in
+    let enum_told = c.in-Err in
     laws.ahead-broken args.h args.bundle.now args.c if1.false if2.false if3.false decode.result decode.ensures enum_told.field-0
     enum_told.is
 
-pub returns-in-Whole : goal.returns-in-Whole
-returns-in-Whole c =
+pub returns-in-Ok : goal.returns-in-Ok
+returns-in-Ok c =
     let args = c.args in
     let if1 = c.if-left-eq0 in
     let if2 = c.if-end-start in
     let if3 = c.if-bundle-end in
     let decode = c.decode in
-    let e = c.in-Whole in
+    let e = c.in-Ok in
     laws.ahead-whole args.h args.bundle.now args.c if1.false if2.false if3.false decode.result decode.ensures e.e
     e.next e.is

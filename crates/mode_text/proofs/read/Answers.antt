@@ -17,12 +17,12 @@ slice_bounds-octal_of-end c =
     let args = c.args in
     simp length-take (omega (arith, text-len.ensures, text_le args.i.now))
 
-pub returns-in-Number : goal.returns-in-Number
-returns-in-Number c =
-    let v = c.in-Number in
+pub returns-in-Some : goal.returns-in-Some
+returns-in-Some c =
+    let v = c.in-Some in
     read_bits _ c.if-i-eq0.false _ c.text_len-n.ensures (omega arith) _ (sym c.octal_of.ensures ∙ v.is) _ _
     c.settled.ensures c.rest_at-next.ensures
 
-pub returns-in-Other : goal.returns-in-Other
-returns-in-Other c =
-    sym (read-other _ c.if-i-eq0.false _ c.text_len-n.ensures (omega arith) (sym c.octal_of.ensures ∙ c.in-Other.is))
+pub returns-in-None : goal.returns-in-None
+returns-in-None c =
+    sym (read-other _ c.if-i-eq0.false _ c.text_len-n.ensures (omega arith) (sym c.octal_of.ensures ∙ c.in-None.is))

@@ -13,15 +13,15 @@ pub overflow_add-result : goal.overflow_add-result
 overflow_add-result c =
     let s = c.args.s.now in
     let at = c.args.at in
-    let e = sym (window_reads s at c.if-s-at.false _ c.eight_on-end.ensures) ∙ sym c.read.ensures ∙ c.in-Bits.is in
+    let e = sym (window_reads s at c.if-s-at.false _ c.eight_on-end.ensures) ∙ sym c.read.ensures ∙ c.in-Some.is in
     omega (arith, read_next (drop at s) _ _ e, length-drop at s, c.if-s-at.false)
 
-pub returns-in-Bits : goal.returns-in-Bits
+pub returns-in-Some : goal.returns-in-Some
 unfolding read_text_at
-returns-in-Bits c =
-    ap (moved _) (sym c.in-Bits.is ∙ c.read.ensures ∙ window_reads _ _ c.if-s-at.false _ c.eight_on-end.ensures)
+returns-in-Some c =
+    ap (moved _) (sym c.in-Some.is ∙ c.read.ensures ∙ window_reads _ _ c.if-s-at.false _ c.eight_on-end.ensures)
 
-pub returns-in-Bad : goal.returns-in-Bad
+pub returns-in-None : goal.returns-in-None
 unfolding read_text_at
-returns-in-Bad c =
-    ap (moved _) (sym c.in-Bad.is ∙ c.read.ensures ∙ window_reads _ _ c.if-s-at.false _ c.eight_on-end.ensures)
+returns-in-None c =
+    ap (moved _) (sym c.in-None.is ∙ c.read.ensures ∙ window_reads _ _ c.if-s-at.false _ c.eight_on-end.ensures)

@@ -19,14 +19,14 @@ slice_bounds-strict_count-end c =
     let pre = c.requires in
     omega (arith, pre.0, pre.1)
 
-pub returns-in-Stopped : goal.returns-in-Stopped
-returns-in-Stopped c =
+pub returns-in-Err : goal.returns-in-Err
+returns-in-Err c =
     let if1 = c.if-f-ne-TREE in
     let strict-count = c.strict_count in
-    object_stopped _ _ _ if1.false _ strict-count.ensures _ c.in-Stopped.is
+    object_stopped _ _ _ if1.false _ strict-count.ensures _ c.in-Err.is
 
-pub returns-in-Total : goal.returns-in-Total
-returns-in-Total c =
+pub returns-in-Ok : goal.returns-in-Ok
+returns-in-Ok c =
     let if1 = c.if-f-ne-TREE in
     let strict-count = c.strict_count in
-    object_total _ _ _ if1.false _ strict-count.ensures _ c.in-Total.is
+    object_total _ _ _ if1.false _ strict-count.ensures _ c.in-Ok.is

@@ -1,64 +1,35 @@
 -- `path_step::step_to` meets its contract. Assumes nothing.
+use mathlib.Core.Path.{◌∙◌}
 use native.Mathlib.Omega.{arith}
 use Rattle.path_step.proofs.Laws.{spot_inside, spot_absent, spot_other, spot_none, spot_within, spot_entry}
 use Rattle.path_step.proofs.step_to.Goals as goal
 
+pub returns-in_err-f : goal.returns-in_err-f
+returns-in_err-f c = c.from_residual.ensures ∙ spot_absent _ _ _ _ _ c.find_object.ensures c.in_err-f.was
+
 pub returns-then-f-ne-TREE : goal.returns-then-f-ne-TREE
-returns-then-f-ne-TREE c = spot_other _ _ _ _ _ c.find_object.ensures _ c.in-At.is c.if-f-ne-TREE.true
+returns-then-f-ne-TREE c = spot_other _ _ _ _ _ c.find_object.ensures _ c.in_ok-f.was c.if-f-ne-TREE.true
 
 pub slice_bounds-find_entry-count : goal.slice_bounds-find_entry-count
-slice_bounds-find_entry-count c =
-    let args = c.args in
-    let find-object = c.find_object in
-    let f = c.in-At in
-    omega (arith, spot_inside args.h args.s.now args.id.now args.name.now _ find-object.ensures _ f.is)
+slice_bounds-find_entry-count c = omega (arith, spot_inside c.args.h c.args.s.now c.args.id.now c.args.name.now _ c.find_object.ensures _ c.in_ok-f.was)
 
 pub slice_bounds-find_entry-start : goal.slice_bounds-find_entry-start
-slice_bounds-find_entry-start c =
-    let args = c.args in
-    let find-object = c.find_object in
-    let f = c.in-At in
-    omega (arith, spot_inside args.h args.s.now args.id.now args.name.now _ find-object.ensures _ f.is)
+slice_bounds-find_entry-start c = omega (arith, spot_inside c.args.h c.args.s.now c.args.id.now c.args.name.now _ c.find_object.ensures _ c.in_ok-f.was)
 
 pub slice_bounds-find_entry-end : goal.slice_bounds-find_entry-end
-slice_bounds-find_entry-end c =
-    let args = c.args in
-    let find-object = c.find_object in
-    let f = c.in-At in
-    omega (arith, spot_inside args.h args.s.now args.id.now args.name.now _ find-object.ensures _ f.is)
+slice_bounds-find_entry-end c = omega (arith, spot_inside c.args.h c.args.s.now c.args.id.now c.args.name.now _ c.find_object.ensures _ c.in_ok-f.was)
 
--- `omega` reads no names here
-pub overflow_add-at : goal.overflow_add-at
-overflow_add-at c =
+pub returns-in_err-e : goal.returns-in_err-e
+returns-in_err-e c =
+    c.from_residual-in_err-e.ensures
+      ∙ spot_none _ _ _ _ _ c.find_object.ensures _ c.in_ok-f.was c.if-f-ne-TREE.false _ c.find_entry.ensures c.in_err-e.was
+
+pub overflow_add-result : goal.overflow_add-result
+overflow_add-result c =
     omega (
       arith,
-      spot_within c.args.h
-          c.args.s.now
-          c.args.id.now
-          c.args.name.now
-          _ c.find_object.ensures _
-          c.in-At.is
-          c.if-f-ne-TREE.false _ c.find_entry.ensures _
-          c.in-Entry.is,
+      spot_within c.args.h c.args.s.now c.args.id.now c.args.name.now _ c.find_object.ensures _ c.in_ok-f.was c.if-f-ne-TREE.false _ c.find_entry.ensures _ c.in_ok-e.was
     )
 
-pub returns-in-Absent : goal.returns-in-Absent
-returns-in-Absent c = spot_absent _ _ _ _ _ c.find_object.ensures c.in-Absent.is
-
-pub returns-in-NoEntry : goal.returns-in-NoEntry
-returns-in-NoEntry c =
-    let find-object = c.find_object in
-    let f = c.in-At in
-    let if1 = c.if-f-ne-TREE in
-    let find-entry = c.find_entry in
-    let enum-told2 = c.in-NoEntry in
-    spot_none _ _ _ _ _ find-object.ensures _ f.is if1.false _ find-entry.ensures enum-told2.is
-
-pub returns-in-Entry : goal.returns-in-Entry
-returns-in-Entry c =
-    let find-object = c.find_object in
-    let f = c.in-At in
-    let if1 = c.if-f-ne-TREE in
-    let find-entry = c.find_entry in
-    let e = c.in-Entry in
-    spot_entry _ _ _ _ _ find-object.ensures _ f.is if1.false _ find-entry.ensures _ e.is
+pub returns : goal.returns
+returns c = spot_entry _ _ _ _ _ c.find_object.ensures _ c.in_ok-f.was c.if-f-ne-TREE.false _ c.find_entry.ensures _ c.in_ok-e.was

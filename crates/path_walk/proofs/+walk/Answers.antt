@@ -23,7 +23,7 @@ overflow_add-end t c =
     omega (
       arith,
       id-inside _ _ _ _ _ _ c.count_to-n.ensures
-          c.step_to-spot.ensures c.if-n-path.false _ _ c.in-At.is,
+          c.step_to-spot.ensures c.if-n-path.false _ _ c.in-Some.is,
     )
 
 pub overflow_add-rest : goal.overflow_add-rest
@@ -45,20 +45,20 @@ slice_bounds-walk-start t c =
 pub slice_bounds-walk-end : goal.slice_bounds-walk-end
 slice_bounds-walk-end t c =
     id-inside _ _ _ _ _ _ c.count_to-n.ensures c.step_to-spot.ensures
-    c.if-n-path.false _ _ c.in-At.is
+    c.if-n-path.false _ _ c.in-Some.is
 
-pub slice_bounds-walk-count-in-At : goal.slice_bounds-walk-count-in-At
-slice_bounds-walk-count-in-At t c =
+pub slice_bounds-walk-count-in-Some : goal.slice_bounds-walk-count-in-Some
+slice_bounds-walk-count-in-Some t c =
     slash-inside _ _ _ _ _ _ c.count_to-n.ensures
     c.step_to-spot.ensures c.if-n-path.false
 
-pub slice_bounds-walk-start-in-At : goal.slice_bounds-walk-start-in-At
-slice_bounds-walk-start-in-At t c =
+pub slice_bounds-walk-start-in-Some : goal.slice_bounds-walk-start-in-Some
+slice_bounds-walk-start-in-Some t c =
     slash-inside _ _ _ _ _ _ c.count_to-n.ensures
     c.step_to-spot.ensures c.if-n-path.false
 
-pub slice_bounds-walk-end-in-At : goal.slice_bounds-walk-end-in-At
-slice_bounds-walk-end-in-At t c =
+pub slice_bounds-walk-end-in-Some : goal.slice_bounds-walk-end-in-Some
+slice_bounds-walk-end-in-Some t c =
     omega arith
 
 pub walk-requires : goal.walk-requires
@@ -69,15 +69,15 @@ walk-requires t c = (
   tt,
 )
 
-pub returns-in-Nowhere : goal.returns-in-Nowhere
-returns-in-Nowhere t c =
+pub returns-in-None : goal.returns-in-None
+returns-in-None t c =
     let count-to = c.count_to-n in
     let step-to = c.step_to-spot in
     let if1 = c.if-n-path in
-    walk_none _ _ _ _ _ _ count-to.ensures step-to.ensures if1.false c.in-Nowhere.is
+    walk_none _ _ _ _ _ _ count-to.ensures step-to.ensures if1.false c.in-None.is
 
-pub returns-in-At : goal.returns-in-At
-returns-in-At t c =
+pub returns-in-Some : goal.returns-in-Some
+returns-in-Some t c =
     walk-on _ _ _ _ _ _ c.count_to-n.ensures
     c.step_to-spot.ensures
-    c.if-n-path.false _ _ c.in-At.is _ c.walk.ensures
+    c.if-n-path.false _ _ c.in-Some.is _ c.walk.ensures

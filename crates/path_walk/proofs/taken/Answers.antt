@@ -8,20 +8,20 @@ pub overflow_add-end : goal.overflow_add-end
 overflow_add-end c =
     omega (
       arith,
-      given_inside _ c.args.s.now _ _ _ c.in-At.is _
+      given_inside _ c.args.s.now _ _ _ c.in-Some.is _
           c.requires,
     )
 
-pub slice_bounds-put-end-in-At : goal.slice_bounds-put-end-in-At
-slice_bounds-put-end-in-At c =
+pub slice_bounds-put-end-in-Some : goal.slice_bounds-put-end-in-Some
+slice_bounds-put-end-in-Some c =
     omega (
       arith,
-      given_inside _ c.args.s.now _ _ _ c.in-At.is _
+      given_inside _ c.args.s.now _ _ _ c.in-Some.is _
           c.requires,
     )
 
-pub returns-in-Nowhere : goal.returns-in-Nowhere
-returns-in-Nowhere c = c.missing.ensures ∙ sym (taken_none _ _ _ c.in-Nowhere.is)
+pub returns-in-None : goal.returns-in-None
+returns-in-None c = c.missing.ensures ∙ sym (taken_none _ _ _ c.in-None.is)
 
-pub returns-in-At : goal.returns-in-At
-returns-in-At c = sym (taken-there _ _ _ _ _ c.in-At.is _ c.put.ensures)
+pub returns-in-Some : goal.returns-in-Some
+returns-in-Some c = sym (taken-there _ _ _ _ _ c.in-Some.is _ c.put.ensures)

@@ -6,10 +6,10 @@ pub returns-then-t : goal.returns-then-t
 returns-then-t c =
     let args = c.args in
     let if1 = c.if-t in
-    ran_double args.m args.at args.all args.i args.t if1.true c.fresh-marks.result c.fresh-marks.ensures
+    ran_double args.m args.at args.all args.i args.t if1.true c.refuse-marks.result c.refuse-marks.ensures
 
 pub returns : goal.returns
 returns c =
     let args = c.args in
     let if1 = c.if-t in
-    ran_on args.m args.at args.all args.i args.t if1.false c.head_after-head.result c.head_after-head.ensures
+    ran_on args.m args.at args.all args.i args.t if1.false c.head_after.result c.head_after.ensures

@@ -5,4 +5,4 @@ use Rattle.piece_close.proofs.next_entry.Goals as goal
 pub returns : goal.returns
 returns c =
     let args = c.args in
-    next-is args.m args.at args.l args.ended _ c.one_more-count.ensures
+    next-is args.m args.at args.l args.ended _ c.one_more.ensures

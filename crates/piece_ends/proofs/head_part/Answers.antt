@@ -21,19 +21,19 @@ returns-then-n-end c =
     let args = c.args in
     let shorter = c.shorter-n in
     let extract-at = c.extract_at in
-    let mode-at = c.in-Mode in
+    let mode-at = c.in-Some in
     let find-nul = c.find_nul-end in
     let if1 = c.if-n-end in
     part_nul (take shorter.result args.head) _ _ _ (sym extract-at.ensures ∙ mode-at.is) find-nul.ensures
     (omega (arith, if1.true, length-take-le shorter.result args.head (omega (arith, shorter.ensures)))) ∙ ap (λ (b : List ℕ). head_part b (read_mode b))
     (head-cut args.head args.k _ (omega arith) shorter.ensures)
 
-pub returns-in-Bad : goal.returns-in-Bad
-returns-in-Bad c =
+pub returns-in-None : goal.returns-in-None
+returns-in-None c =
     let args = c.args in
     let shorter = c.shorter-n in
     let extract-at = c.extract_at in
-    let enum_told = c.in-Bad in
+    let enum_told = c.in-None in
     part-bad _ (sym extract-at.ensures ∙ enum_told.is) ∙ ap (λ (b : List ℕ). head_part b (read_mode b))
     (head-cut args.head args.k _ (omega arith) shorter.ensures)
 
@@ -42,7 +42,7 @@ returns-else-n-end c =
     let args = c.args in
     let shorter = c.shorter-n in
     let extract-at = c.extract_at in
-    let mode-at = c.in-Mode in
+    let mode-at = c.in-Some in
     let find-nul = c.find_nul-end in
     let if1 = c.if-n-end in
     part-id (take shorter.result args.head) _ _ _ (sym extract-at.ensures ∙ mode-at.is) find-nul.ensures

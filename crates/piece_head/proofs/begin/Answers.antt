@@ -8,16 +8,16 @@ pub begun-marks-requires : goal.begun-marks-requires
 begun-marks-requires c =
     let args = c.args in
     let read = c.extract_at in
-    mode-within args.head _ _ (omega arith) (sym read.ensures ∙ c.in-Mode.is)
+    mode-within args.head _ _ (omega arith) (sym read.ensures ∙ c.in-Some.is)
 
-pub returns-in-Bad : goal.returns-in-Bad
-returns-in-Bad c =
+pub returns-in-None : goal.returns-in-None
+returns-in-None c =
     let args = c.args in
     let read = c.extract_at in
-    begin-bad args.m args.at args.head (sym read.ensures ∙ c.in-Bad.is) c.fresh-marks.ensures
+    begin-bad args.m args.at args.head (sym read.ensures ∙ c.in-None.is) c.fresh-marks.ensures
 
-pub returns-in-Mode : goal.returns-in-Mode
-returns-in-Mode c =
+pub returns-in-Some : goal.returns-in-Some
+returns-in-Some c =
     let args = c.args in
     let read = c.extract_at in
-    begin-mode args.m args.at args.head _ _ (sym read.ensures ∙ c.in-Mode.is) c.begun-marks.ensures
+    begin-mode args.m args.at args.head _ _ (sym read.ensures ∙ c.in-Some.is) c.begun-marks.ensures

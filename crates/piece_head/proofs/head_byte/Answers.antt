@@ -6,7 +6,7 @@ pub returns-then-is_full : goal.returns-then-is_full
 returns-then-is_full c =
     let args = c.args in
     let full = c.is_full in
-    head_full args.m args.at args.k args.b _ full.ensures c.if-is_full.true c.fresh-marks.ensures
+    head_full args.m args.at args.k args.b _ full.ensures c.if-is_full.true c.refuse-marks.ensures
 
 pub returns-then-k-lt7 : goal.returns-then-k-lt7
 returns-then-k-lt7 c =

@@ -1,33 +1,16 @@
 -- `piece_judge::level_over` meets its contract. Assumes nothing.
-use Rattle.arriving.proofs.Laws.{level_folder, level_file, level_both, level_new, level_none}
+use mathlib.Core.Path.{◌∙◌}
+use Rattle.arriving.proofs.Laws.{level_folder, level_file, level_new, level_none}
 use Rattle.piece_judge.proofs.level_over.Goals as goal
 
 pub returns-then-l : goal.returns-then-l
-returns-then-l c =
-    let x = c.args in
-    let if1 = c.if-size-last in
-    let if2 = c.if-l in
-    let byte_at = c.byte_at-x in
-    level_folder x.held.now x.last x.l if1.true _ byte_at.ensures if2.true
+returns-then-l c = let x = c.args in level_folder x.held.now x.last x.l c.if-l-last.true _ c.byte_at.ensures c.if-l.true
 
-pub returns-then-size-last : goal.returns-then-size-last
-returns-then-size-last c = let x = c.args in level_file x.held.now x.last x.l c.if-size-last.true c.if-l.false
-
-pub returns-then-last : goal.returns-then-last
-returns-then-last c =
-    let x = c.args in
-    let if1 = c.if-size-last in
-    let if3 = c.if-l-2 in
-    let if4 = c.if-last in
-    level_both x.held.now x.last x.l if1.false if3.true if4.true
+pub returns-else-l : goal.returns-else-l
+returns-else-l c = let x = c.args in c.if-l.false ∙ level_file x.held.now x.last x.l c.if-l-last.true c.if-l.false
 
 pub returns-then-l-2 : goal.returns-then-l-2
-returns-then-l-2 c =
-    let x = c.args in
-    let if1 = c.if-size-last in
-    let if3 = c.if-l-2 in
-    let if4 = c.if-last in
-    level_new x.held.now x.last x.l if1.false if3.true if4.false
+returns-then-l-2 c = let x = c.args in level_new x.held.now x.last x.l c.if-l-last.false c.if-l-2.true
 
-pub returns : goal.returns
-returns c = let x = c.args in level_none x.held.now x.last x.l c.if-size-last.false c.if-l-2.false
+pub returns-else-l-2 : goal.returns-else-l-2
+returns-else-l-2 c = let x = c.args in c.if-l-2.false ∙ level_none x.held.now x.last x.l c.if-l-last.false c.if-l-2.false

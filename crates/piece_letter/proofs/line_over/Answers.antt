@@ -2,4 +2,4 @@
 use Rattle.piece_letter.proofs.line_over.Goals as goal
 
 pub returns : goal.returns
-returns c = rw (c.sharing-shared.ensures, c.meet-stand.ensures)
+returns c = rw (c.sharing.ensures, c.meet-stand.ensures)

@@ -11,24 +11,24 @@ returns-then-k-eq0 c =
     let fresh = c.fresh in
     fresh.ensures ∙ over_none args.m _ phase.is if1.true
 
-pub returns-in-Bad : goal.returns-in-Bad
-returns-in-Bad c =
+pub returns-in-None : goal.returns-in-None
+returns-in-None c =
     let args = c.args in
     let phase = c.in-Head in
     let if1 = c.if-k-eq0 in
     let read_head = c.read_head in
-    let enum_told = c.in-Bad in
-    let fresh2 = c.fresh-in-Bad in
+    let enum_told = c.in-None in
+    let fresh2 = c.fresh-in-None in
     fresh2.ensures ∙ over-bad args.m _ phase.is if1.false (sym read_head.ensures ∙ enum_told.is)
 
-pub returns-in-Mode : goal.returns-in-Mode
-returns-in-Mode c =
+pub returns-in-Some : goal.returns-in-Some
+returns-in-Some c =
     let args = c.args in
     let phase = c.in-Head in
     let if1 = c.if-k-eq0 in
     let read_head = c.read_head in
-    let enum-told2 = c.in-Mode in
-    let fresh3 = c.fresh-in-Mode in
+    let enum-told2 = c.in-Some in
+    let fresh3 = c.fresh-in-Some in
     fresh3.ensures ∙ over-mode args.m _ phase.is if1.false _ _ (sym read_head.ensures ∙ enum-told2.is)
 
 pub returns-in-Name : goal.returns-in-Name

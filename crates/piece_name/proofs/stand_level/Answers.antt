@@ -1,53 +1,37 @@
 -- `piece_name::stand_level` meets its contract. Assumes nothing.
 use native.Mathlib.Omega.{arith}
-use Rattle.piece_name.proofs.Names.{level_past, level_none, level_some, shares-within}
+use borrow.Author.Tests.{eq-eqb, ne_eqb}
+use Rattle.piece_name.proofs.Names.{level_past, level_met, shares-within}
 use Rattle.piece_name.proofs.stand_level.Goals as goal
+use Rattle.piece_name.proofs.stand_level.Goals.{then-n-eq0, else-n-eq0}
 
 pub returns-then-to-size : goal.returns-then-to-size
 returns-then-to-size c =
     let x = c.args in
-    let shorter = c.shorter-to in
-    let if1 = c.if-to-size in
-    level_past x.held.now x.last x.size x.shared x.some.now _ shorter.ensures _ if1.true c.differs.ensures
+    level_past x.held.now x.last x.size x.shared x.some.now _ c.shorter-to.ensures _ c.if-to-size.true c.differs.ensures
 
-pub returns-then-n-eq0 : goal.returns-then-n-eq0
-returns-then-n-eq0 c =
+pub overflow_add-shared : goal.overflow_add-shared
+overflow_add-shared c =
     let x = c.args in
-    let shorter = c.shorter-to in
-    let common-start = c.common_start-n in
-    let if2 = c.if-n-eq0 in
-    level_none x.held.now x.last x.size x.shared x.some.now _ shorter.ensures _ _ common-start.ensures if2.true
-    c.differs-then-n-eq0.ensures
+    omega (
+      arith,
+      shares-within x.held.now x.last x.size _ x.some.now _ c.shorter-to.ensures c.if-to-size.false c.common_start-n.ensures,
+    )
 
 pub overflow_add-size : goal.overflow_add-size
 overflow_add-size c =
-    let args = c.args in
-    let shorter = c.shorter-to in
-    let if1 = c.if-to-size in
-    let common-start = c.common_start-n in
+    let x = c.args in
     omega (
       arith,
-      shares-within args.held.now args.last args.size shorter.result args.some.now common-start.result shorter.ensures
-          if1.false common-start.ensures,
-    )
-
-pub overflow_add-size-2 : goal.overflow_add-size-2
-overflow_add-size-2 c =
-    let args = c.args in
-    let shorter = c.shorter-to in
-    let if1 = c.if-to-size in
-    let common-start = c.common_start-n in
-    omega (
-      arith,
-      shares-within args.held.now args.last args.size shorter.result args.some.now common-start.result shorter.ensures
-          if1.false common-start.ensures,
+      shares-within x.held.now x.last x.size _ x.some.now _ c.shorter-to.ensures c.if-to-size.false c.common_start-n.ensures,
     )
 
 pub returns : goal.returns
 returns c =
     let x = c.args in
-    let shorter = c.shorter-to in
-    let common-start = c.common_start-n in
-    let if2 = c.if-n-eq0 in
-    level_some x.held.now x.last x.size x.shared x.some.now _ shorter.ensures _ _ common-start.ensures if2.false
+    level_met x.held.now x.last x.size x.shared x.some.now _ c.shorter-to.ensures _ _ c.common_start-n.ensures _
+    (elim c.if-n-eq0.branch [
+      | then-n-eq0 w ↦ rw (eq-eqb _ 0 w.if-n-eq0.true) w.shared-is
+      | else-n-eq0 w ↦ rw (ne_eqb _ 0 w.if-n-eq0.false) w.shared-is
+    ])
     c.differs-2.ensures

@@ -10,13 +10,13 @@ slice_bounds-common_start-end-2 c = simp length-take (omega (arith, c.shorter-si
 pub slice_bounds-by_next-end-2 : goal.slice_bounds-by_next-end-2
 slice_bounds-by_next-end-2 c = simp length-take (omega (arith, c.shorter-size.ensures))
 
-pub returns-in-Below : goal.returns-in-Below
-returns-in-Below c =
+pub returns-in-Less : goal.returns-in-Less
+returns-in-Less c =
     let r = (let args = c.args in
     let shorter = c.shorter-size in
     let common-start = c.common_start-shared in
     let by_next = c.by_next in
-    let enum_told = c.in-Below in
+    let enum_told = c.in-Less in
     let open_entry = c.open_entry-r in
     let put = c.put in
     put_all args.held.now args.ends.now args.last args.ended args.name.now args.folder shorter.result shorter.ensures
@@ -25,24 +25,24 @@ returns-in-Below c =
     open_entry.result _ _ (c.open_entry-r.ensures.placed, c.open_entry-r.ensures.marks) put.ensures)) in
     record { placed = r.0; ends = r.1.0; held = r.1.1 }
 
-pub returns-in-Same : goal.returns-in-Same
-returns-in-Same c =
+pub returns-in-Equal : goal.returns-in-Equal
+returns-in-Equal c =
     let r = (let args = c.args in
     let shorter = c.shorter-size in
     let common-start = c.common_start-shared in
     let by_next = c.by_next in
     put_all args.held.now args.ends.now args.last args.ended args.name.now args.folder shorter.result shorter.ensures
     (put_same args.held.now args.ends.now (up_to args.last shorter.result) args.ended args.name.now args.folder
-    common-start.result common-start.ensures by_next.result by_next.ensures c.in-Same.is)) in
+    common-start.result common-start.ensures by_next.result by_next.ensures c.in-Equal.is)) in
     record { placed = r.0; ends = r.1.0; held = r.1.1 }
 
-pub returns-in-Above : goal.returns-in-Above
-returns-in-Above c =
+pub returns-in-Greater : goal.returns-in-Greater
+returns-in-Greater c =
     let r = (let args = c.args in
     let shorter = c.shorter-size in
     let common-start = c.common_start-shared in
     let by_next = c.by_next in
     put_all args.held.now args.ends.now args.last args.ended args.name.now args.folder shorter.result shorter.ensures
     (put_above args.held.now args.ends.now (up_to args.last shorter.result) args.ended args.name.now args.folder
-    common-start.result common-start.ensures by_next.result by_next.ensures c.in-Above.is)) in
+    common-start.result common-start.ensures by_next.result by_next.ensures c.in-Greater.is)) in
     record { placed = r.0; ends = r.1.0; held = r.1.1 }

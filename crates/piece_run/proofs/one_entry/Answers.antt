@@ -1,5 +1,8 @@
 -- `piece_run::one_entry` meets its contract. Assumes nothing.
+use mathlib.Core.Path.{ap, ◌∙◌}
 use native.Mathlib.Omega.{arith}
+use Rattle.std.specs.Prelude.{Err}
+use Rattle.doubles.specs.declared.Misplaced.{Misplaced}
 use Rattle.piece_run.proofs.Runs.{seen-inside, more-none, more-fine, more-not, more_double}
 use Rattle.piece_run.proofs.one_entry.Goals as goal
 
@@ -38,8 +41,8 @@ overflow_add-result c =
     let if1 = c.if-end-eq0 in
     omega (arith, seen-inside args.piece.now args.r.next args.h seen_at.result seen_at.ensures if1.false)
 
-pub overflow_add-result-in-Fine : goal.overflow_add-result-in-Fine
-overflow_add-result-in-Fine c =
+pub overflow_add-result-in-Ok : goal.overflow_add-result-in-Ok
+overflow_add-result-in-Ok c =
     let args = c.args in
     let seen_at = c.seen_at-e in
     let if1 = c.if-end-eq0 in
@@ -52,13 +55,13 @@ overflow_sub-result c =
     let if1 = c.if-end-eq0 in
     omega (arith, seen-inside args.piece.now args.r.next args.h seen_at.result seen_at.ensures if1.false)
 
-pub returns-in-Fine : goal.returns-in-Fine
-returns-in-Fine c =
+pub returns-in-Ok : goal.returns-in-Ok
+returns-in-Ok c =
     let r = (let args = c.args in
     let seen_at = c.seen_at-e in
     let if1 = c.if-end-eq0 in
     let place = c.place in
-    let k = c.in-Fine in
+    let k = c.in-Ok in
     more-fine args.piece.now args.h args.r args.held.now args.ends.now seen_at.result seen_at.ensures if1.false
     place.result _ _ (c.place.ensures.placed, (c.place.ensures.ends, c.place.ensures.held)) k.k k.is) in
     record { run = r.0; held = r.1.0; ends = r.1.1 }
@@ -70,7 +73,7 @@ returns-in-NotAfter c =
     let if1 = c.if-end-eq0 in
     let place = c.place in
     more-not args.piece.now args.h args.r args.held.now args.ends.now seen_at.result seen_at.ensures if1.false
-    place.result _ _ (c.place.ensures.placed, (c.place.ensures.ends, c.place.ensures.held)) c.in-NotAfter.is) in
+    place.result _ _ (c.place.ensures.placed, (c.place.ensures.ends, c.place.ensures.held)) (c.in-Err.is ∙ ap (λ (m : Misplaced). Err m) c.in-NotAfter.is)) in
     record { run = r.0; held = r.1.0; ends = r.1.1 }
 
 pub returns-in-Double : goal.returns-in-Double
@@ -80,5 +83,5 @@ returns-in-Double c =
     let if1 = c.if-end-eq0 in
     let place = c.place in
     more_double args.piece.now args.h args.r args.held.now args.ends.now seen_at.result seen_at.ensures if1.false
-    place.result _ _ (c.place.ensures.placed, (c.place.ensures.ends, c.place.ensures.held)) c.in-Double.is) in
+    place.result _ _ (c.place.ensures.placed, (c.place.ensures.ends, c.place.ensures.held)) (c.in-Err.is ∙ ap (λ (m : Misplaced). Err m) c.in-Double.is)) in
     record { run = r.0; held = r.1.0; ends = r.1.1 }

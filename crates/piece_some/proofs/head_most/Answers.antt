@@ -1,5 +1,6 @@
 -- `piece_some::head_most` meets its contract. Assumes nothing.
 use mathlib.Core.Path.{sym, ◌∙◌}
+use native.Mathlib.Omega.{arith}
 use Rattle.piece_some.proofs.Bytes.{head_full, head_more}
 use Rattle.piece_some.proofs.head_most.Goals as goal
 
@@ -11,5 +12,4 @@ returns-then-is_full c =
 pub returns : goal.returns
 returns c =
     let args = c.args in
-    let is-full = c.is_full in
-    head_more args.k args.count args.most (sym is-full.ensures ∙ c.if-is_full.false) _ c.least.ensures
+    head_more args.k args.count args.most (sym c.is_full.ensures ∙ c.if-is_full.false) _ (omega (arith, c.min.ensures, c.saturating_sub.ensures))

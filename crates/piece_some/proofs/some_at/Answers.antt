@@ -31,5 +31,5 @@ pub returns : goal.returns
 returns c =
     let r = (let args = c.args in
     let some_in = c.some_in-g in
-    at-is args.m args.i some_in.result _ some_in.ensures.taken _ c.placed_at-marks.ensures _ _ some_in.ensures.held) in
+    at-is args.m args.i some_in.result _ some_in.ensures.taken _ c.placed_at.ensures _ _ some_in.ensures.held) in
     record { taken = r.0; held = r.1 }

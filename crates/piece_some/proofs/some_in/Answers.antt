@@ -28,5 +28,5 @@ pub returns-in-Id : goal.returns-in-Id
 returns-in-Id c =
     let r = (let args = c.args in
     let phase3 = c.in-Id in
-    in-id args.held.now args.m args.bytes.now _ _ phase3.is _ c.least-n.ensures) in
+    in-id args.held.now args.m args.bytes.now _ _ phase3.is _ (omega (arith, c.min-n.ensures, c.saturating_sub.ensures))) in
     record { taken = r.0; held = r.1 }

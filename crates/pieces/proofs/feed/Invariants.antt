@@ -5,9 +5,9 @@ use lib.ListN.{length, drop}
 use Rattle.arriving.specs.Feed.{together, feed_of}
 use Rattle.pieces.proofs.feed.Given as goal
 
-abbrev pub invariant-loop-t : goal.invariant-loop-t
-invariant-loop-t l =
+abbrev pub invariant-loop-b : goal.invariant-loop-b
+invariant-loop-b l =
     (feed_of (together l.initial.held l.initial.ends l.initial.t.marks) l.piece ≡ feed_of (together l.held l.ends l.t.marks) (drop l.t.next l.piece)) × (l.t.next ≤ length l.piece)
 
-abbrev pub decreases-loop-t : goal.decreases-loop-t
-decreases-loop-t l = length l.piece - l.t.next
+abbrev pub decreases-loop-b : goal.decreases-loop-b
+decreases-loop-b l = length l.piece - l.t.next

@@ -4,17 +4,17 @@ use Rattle.lookup.specs.Halving.{met}
 use Rattle.probe.specs.Probe.{moved_of}
 use Rattle.probe.proofs.moved.Goals as goal
 
-pub returns-in-Below : goal.returns-in-Below
-returns-in-Below c =
+pub returns-in-Less : goal.returns-in-Less
+returns-in-Less c =
     let args = c.args in
-    c.aimed.ensures ∙ sym (ap (λ o. moved_of args.p (met o)) c.in-Below.is)
+    c.aimed.ensures ∙ sym (ap (λ o. moved_of args.p (met o)) c.in-Less.is)
 
-pub returns-in-Same : goal.returns-in-Same
-returns-in-Same c =
+pub returns-in-Equal : goal.returns-in-Equal
+returns-in-Equal c =
     let args = c.args in
-    c.stopped.ensures ∙ sym (ap (λ o. moved_of args.p (met o)) c.in-Same.is)
+    c.stopped.ensures ∙ sym (ap (λ o. moved_of args.p (met o)) c.in-Equal.is)
 
-pub returns-in-Above : goal.returns-in-Above
-returns-in-Above c =
+pub returns-in-Greater : goal.returns-in-Greater
+returns-in-Greater c =
     let args = c.args in
-    c.aimed-in-Above.ensures ∙ sym (ap (λ o. moved_of args.p (met o)) c.in-Above.is)
+    c.aimed-in-Greater.ensures ∙ sym (ap (λ o. moved_of args.p (met o)) c.in-Greater.is)

@@ -5,11 +5,11 @@ use native.Mathlib.Omega.{arith}
 use Rattle.ground.proofs.Laws.{place-from}
 use Rattle.reading.specs.Lengths.{name_at, place_of}
 use Rattle.reading.specs.Listing.{tally}
-use Rattle.reading.specs.declared.Counted.TheVariants.{Stopped}
 use Rattle.reading.proofs.Laws.{rest_end, rest_full, rest-broken, rest-whole}
 use Rattle.reading.proofs.Lengths.{place_after, keeps}
 use Rattle.reading.proofs.Front.{code-none, name_starts, name-ends, name-short, name-whole}
 use Rattle.reading.proofs.count_plain.Goals as goal
+use Rattle.std.specs.Prelude.{Err}
 
 pub loop-at-init : goal.loop-at-init
 unfolding place_of
@@ -38,7 +38,7 @@ returns-then-code-eq0 c =
     let loop = c.loop-at in
     let args = c.args in
     let d = code-none args.s.now args.h loop.at _ mode-code.ensures c.if-code-eq0.true in
-    record { count = ap Stopped c.verdict_at.ensures ∙ sym (loop.invariant.1 ∙ ap (tally loop.n) (rest-broken _ _ _ _ loop-test.true if1.false d)); lengths = loop.invariant.4 }
+    record { count = ap Err c.verdict_at.ensures ∙ sym (loop.invariant.1 ∙ ap (tally loop.n) (rest-broken _ _ _ _ loop-test.true if1.false d)); lengths = loop.invariant.4 }
 
 pub overflow_add-from : goal.overflow_add-from
 overflow_add-from c =
@@ -69,7 +69,7 @@ returns-then-left-h c =
     let loop = c.loop-at in
     let args = c.args in
     let d = name-short args.s.now args.h loop.at _ mode-code.ensures if2.false _ find-nul.ensures c.if-left-h.true in
-    record { count = ap Stopped c.verdict_at-then-left-h.ensures ∙ sym (loop.invariant.1 ∙ ap (tally loop.n) (rest-broken _ _ _ _ loop-test.true if1.false d)); lengths = loop.invariant.4 }
+    record { count = ap Err c.verdict_at-then-left-h.ensures ∙ sym (loop.invariant.1 ∙ ap (tally loop.n) (rest-broken _ _ _ _ loop-test.true if1.false d)); lengths = loop.invariant.4 }
 
 pub overflow_sub-end : goal.overflow_sub-end
 overflow_sub-end c =

@@ -15,6 +15,3 @@ invariant-loop-n l =
     × (sets l.initial.records 0 (flats (take l.count (records_in (listing l.h l.s))))
     ≡ sets l.records (l.n * width) (flats (take (l.count - l.n) (records_in (rest_at l.h l.s l.at l.n)))))
     × (l.at ≡ place_of l.h l.s l.n)
-
-abbrev pub decreases-loop-n : goal.decreases-loop-n
-decreases-loop-n l = l.count - l.n

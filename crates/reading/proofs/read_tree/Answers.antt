@@ -4,16 +4,16 @@ use Rattle.reading.specs.Listing.{listing}
 use Rattle.reading.proofs.Laws.{answer-shut, refused-both, plain-refuses, gate_refuses, read-both}
 use Rattle.reading.proofs.read_tree.Goals as goal
 
-pub returns-in-Shut : goal.returns-in-Shut
-returns-in-Shut c =
+pub returns-in-Err : goal.returns-in-Err
+returns-in-Err c =
     let r = (let bounds = c.bounds in
-    let shut = sym bounds.ensures ∙ c.in-Shut.is in
+    let shut = sym bounds.ensures ∙ c.in-Err.is in
     refused-both _ _ _ (answer-shut _ _ _ _ shut) (gate_refuses _ _ _ _ shut)) in
     record { answer = r.0; records = r.1 }
 
-pub returns-in-Open : goal.returns-in-Open
-returns-in-Open c =
-    let r = (let enum_told = c.in-Open in
+pub returns-in-Ok : goal.returns-in-Ok
+returns-in-Ok c =
+    let r = (let enum_told = c.in-Ok in
     let bounds = c.bounds in
     let args = c.args in
     let plain = listing args.h args.bytes.now in

@@ -3,12 +3,12 @@ use mathlib.Core.Path.{sym, ap, ◌∙◌}
 use Rattle.entry.specs.Decode.{decoded_verdict}
 use Rattle.reading.proofs.verdict_at.Goals as goal
 
-pub returns-in-Whole : goal.returns-in-Whole
-returns-in-Whole c =
+pub returns-in-Ok : goal.returns-in-Ok
+returns-in-Ok c =
     let decode = c.decode in
-    sym (ap decoded_verdict (sym decode.ensures ∙ c.in-Whole.is))
+    sym (ap decoded_verdict (sym decode.ensures ∙ c.in-Ok.is))
 
-pub returns-in-Broken : goal.returns-in-Broken
-returns-in-Broken c =
+pub returns-in-Err : goal.returns-in-Err
+returns-in-Err c =
     let decode = c.decode in
-    sym (ap decoded_verdict (sym decode.ensures ∙ c.in-Broken.is))
+    sym (ap decoded_verdict (sym decode.ensures ∙ c.in-Err.is))

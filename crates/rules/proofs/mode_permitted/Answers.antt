@@ -11,9 +11,9 @@ returns-in-None c =
     let args = c.args in
     c.is_group.ensures ∙ sym (mode-none args.rules args.text.now (sym written-mode.ensures ∙ c.in-None.is))
 
-pub returns-in-Mode : goal.returns-in-Mode
+pub returns-in-Some : goal.returns-in-Some
 unfolding written_mode
-returns-in-Mode c =
+returns-in-Some c =
     let written-mode = c.written_mode in
     let args = c.args in
-    sym (mode-found args.rules args.text.now _ (sym written-mode.ensures ∙ c.in-Mode.is))
+    sym (mode-found args.rules args.text.now _ (sym written-mode.ensures ∙ c.in-Some.is))

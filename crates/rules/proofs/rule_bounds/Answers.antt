@@ -8,14 +8,14 @@ pub returns-then-rules : goal.returns-then-rules
 unfolding is_set
 returns-then-rules c = c.bounds.ensures ∙ sym (rule_known _ _ _ _ (set_is _ c.if-rules.true))
 
-pub returns-in-Open : goal.returns-in-Open
+pub returns-in-Ok : goal.returns-in-Ok
 unfolding is_set
-returns-in-Open c = sym (rule_other _ _ _ _ c.if-rules.false (sym c.bounds-2.ensures ∙ c.in-Open.is))
+returns-in-Ok c = sym (rule_other _ _ _ _ c.if-rules.false (sym c.bounds-2.ensures ∙ c.in-Ok.is))
 
-pub returns-in-Shut : goal.returns-in-Shut
+pub returns-in-Err : goal.returns-in-Err
 unfolding is_set
-returns-in-Shut c =
+returns-in-Err c =
     let if1 = c.if-rules in
     let bounds2 = c.bounds-2 in
-    let v = c.in-Shut in
+    let v = c.in-Err in
     sym (rule_id _ _ _ _ if1.false _ (sym bounds2.ensures ∙ v.is))

@@ -1,5 +1,4 @@
 -- `scan::common_start` meets its contract. Assumes nothing.
-use Prim.Native.Nat.{◌-◌}
 use mathlib.Core.Path.{sym, ◌∙◌}
 use native.Mathlib.Omega.{arith}
 use Rattle.scan.proofs.Laws.{common_past, common_in}

@@ -4,6 +4,4 @@ use Rattle.scan.proofs.Word.{word_eight}
 use Rattle.scan.proofs.eight.Goals as goal
 
 pub returns : goal.returns
-returns c =
-    let args = c.args in
-    word_eight args.s.now args.i _ _ (omega arith) c.four-low.ensures.made c.four-high.ensures.made
+returns c = rw c.from_le_bytes.ensures (word_eight c.args.s.now c.args.i c.requires (λ k. omega (arith, c.type_inv.s k)))

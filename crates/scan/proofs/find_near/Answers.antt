@@ -1,5 +1,4 @@
 -- `scan::find_near` meets its contract. Assumes nothing.
-use Prim.Native.Nat.{◌-◌}
 use mathlib.Core.Path.{refl, sym, ◌∙◌}
 use native.Mathlib.Omega.{arith}
 use Rattle.scan.proofs.Laws.{place-past, place_in}

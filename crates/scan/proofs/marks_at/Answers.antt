@@ -7,4 +7,4 @@ pub returns : goal.returns
 returns c =
     let args = c.args in
     word-marks_at _ _ args.x _ (part_length args.s.now args.i 8 (omega arith)) (omega arith)
-    c.eight.ensures (rw c.wide.ensures.same at c.marks.ensures)
+    c.eight.ensures (rw c.from.ensures at c.marks.ensures)

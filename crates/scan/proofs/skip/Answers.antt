@@ -1,34 +1,35 @@
 -- `scan::skip` meets its contract. Assumes nothing.
-use Prim.Native.Nat.{◌+◌}
-use mathlib.Core.Path.{◌≡◌, refl, ap, ◌∙◌}
+use Prim.Native.Nat.{◌+◌, ◌-◌}
+use mathlib.Core.Path.{sym, ◌∙◌}
 use native.Mathlib.Omega.{arith}
 use lib.ListN.{length}
-use Rattle.ground.specs.Scan.{place_from}
-use Rattle.scan.proofs.Laws.{place-part}
+use Rattle.ground.proofs.Laws.{place_end}
+use Rattle.scan.proofs.Laws.{place-part, place-clear, place-met}
 use Rattle.scan.proofs.skip.Goals as goal
 
-pub loop-from-init : goal.loop-from-init
-loop-from-init c = (omega arith, refl)
+pub returns-then-not-lacks : goal.returns-then-not-lacks
+returns-then-not-lacks c =
+    let at = c.loop-at.at in
+    (omega arith, c.loop-at.invariant.1, place-met 0 c.args.s.now at _ (at + 32) (omega arith) (omega arith) (sym c.if-not-lacks.ensures))
 
-pub returns-then-among-ne0 : goal.returns-then-among-ne0
-returns-then-among-ne0 c = record { inside = omega arith; same = c.loop-from.invariant.1; stops = λ h. (omega arith, c.among.ensures.some c.if-among-ne0.true) }
+pub loop-at-preserved : goal.loop-at-preserved
+loop-at-preserved c =
+    let at = c.loop-at.at in
+    (omega arith, c.loop-at.invariant.1 ∙ place-clear 0 c.args.s.now at _ (at + 32) (omega arith) (omega arith) (sym c.if-not-lacks.ensures))
 
-pub loop-from-preserved-then-left-ge32 : goal.loop-from-preserved-then-left-ge32
-loop-from-preserved-then-left-ge32 c = (omega arith, c.loop-from.invariant.1 ∙ c.among.ensures.none c.if-among-ne0.false)
+pub returns-then-lacks : goal.returns-then-lacks
+returns-then-lacks c =
+    let s = c.args.s.now in
+    let last = length s - 32 in
+    place-part 0 s c.args.from last c.loop-at.at (omega arith) (omega arith) c.loop-at.invariant.1
+    ∙ place-clear 0 s last _ (length s) (omega arith) (omega arith) (sym c.if-lacks.ensures)
+    ∙ place_end 0 s (length s) (omega arith)
 
-pub returns-then-left-eq0 : goal.returns-then-left-eq0
-returns-then-left-eq0 c =
-    let args = c.args in
-    let loop = c.loop-from in
-    let among = c.among in
-    let if1 = c.if-among-ne0 in
-    let s = args.s.now in
-    let e : loop.at + 32 ≡ length s = omega arith in
-    record { inside = omega arith; same = loop.invariant.1 ∙ among.ensures.none if1.false ∙ ap (place_from 0 s) e; stops = λ h. absurd (omega arith) }
-
-pub loop-from-preserved : goal.loop-from-preserved
-loop-from-preserved c =
-    let loop = c.loop-from in (
+pub returns-else-lacks : goal.returns-else-lacks
+returns-else-lacks c =
+    let s = c.args.s.now in
+    let last = length s - 32 in (
       omega arith,
-      loop.invariant.1 ∙ place-part 0 _ loop.at 32 loop.left (c.among.ensures.none c.if-among-ne0.false) (omega arith),
+      place-part 0 s c.args.from last c.loop-at.at (omega arith) (omega arith) c.loop-at.invariant.1,
+      place-met 0 s last _ (last + 32) (omega arith) (omega arith) (sym c.if-lacks.ensures),
     )

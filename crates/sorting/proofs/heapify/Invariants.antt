@@ -8,6 +8,3 @@ use Rattle.sorting.proofs.heapify.Given as goal
 
 abbrev pub invariant-loop-k : goal.invariant-loop-k
 invariant-loop-k l = Heaping (below_by (key_at l.text l.mark l.width)) (key_strict (key_at l.text l.mark l.width)) l.initial.list l.list l.k l.n × (l.n ≡ length l.initial.list)
-
-abbrev pub decreases-loop-k : goal.decreases-loop-k
-decreases-loop-k l = l.k

@@ -1,32 +1,24 @@
 -- `sorting::in_order` meets its contract. Assumes nothing.
-use Prim.Native.Nat.{◌-◌}
-use mathlib.Core.Path.{sym, ◌∙◌}
+use Rattle.std.proofs.Common.{ℕ, ◌+◌, ◌<◌, ◌≡◌, Bool, true, false, not, List, length, get_or, MatchBool, refl, sym, subst, rules, arith, suc}
+use Rattle.std.specs.List.{AllAdjacentBelow}
+use Rattle.std.proofs.lemmas.Fn.{always_returns_same}
 use mathlib.Core.Bool.{false≢true}
-use native.Mathlib.Omega.{arith}
 use Rattle.keys.specs.Key.{key_at, below_by}
-use Rattle.sorting.proofs.Sorted.{rises-start, rises-turn, rises_end}
+use Rattle.sorting.specs.Sort.{Ascends, UpTo}
+use Rattle.sorting.proofs.Sorted.{ascends-by}
 use Rattle.sorting.proofs.in_order.Goals as goal
 
-pub loop-i-init : goal.loop-i-init
-loop-i-init c =
-    let args = c.args in
-    (omega arith, rises-start (below_by (key_at args.text.now args.mark args.width)) 0 args.list.now)
+plain : (b : Bool) → not b ≡ true → b ≡ false
+plain true h = absurd (false≢true h)
+plain false h = refl
 
-pub returns-then-below : goal.returns-then-below
-returns-then-below c = λ e. absurd (false≢true e)
-
-pub loop-i-preserved : goal.loop-i-preserved
-loop-i-preserved c =
-    let args = c.args in
-    let loop = c.loop-i in
-    let below = c.below in
-    let if1 = c.if-below in (
-      omega arith,
-      rises-turn (below_by (key_at args.text.now args.mark args.width)) 0 args.list.now _ loop.invariant.0 loop.invariant.1
-          (sym below.ensures ∙ if1.false),
-    )
+ascends : (below : ℕ → ℕ → Bool) (l : List ℕ) (r : Bool) (other : Type 0)
+    → MatchBool r (AllAdjacentBelow (λ x y. true ≡ not (below y x)) l (length l)) other → r ≡ true → Ascends below l
+ascends below l true other h e = ascends-by below 0 l (λ i p. let e : i + 1 ≡ suc i = omega arith in subst (λ (k : ℕ). UpTo below (get_or l i 0) (get_or l k 0)) e (plain _ (sym (h i 0 (omega arith)))))
+ascends below l false other h e = absurd (false≢true e)
 
 pub returns : goal.returns
-returns c = λ e.
+returns c =
     let args = c.args in
-    rises_end (below_by (key_at args.text.now args.mark args.width)) 0 args.list.now _ c.loop-i-test.false c.loop-i.invariant.1
+    let below = below_by (key_at args.text.now args.mark args.width) in
+    ascends below args.list.now _ _ (c.is_sorted_by.ensures.cases (λ x y. not (below y x)) (always_returns_same _ _ _ (λ a r f q. search rules)))

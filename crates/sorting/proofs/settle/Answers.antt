@@ -1,5 +1,7 @@
 -- `sorting::settle` meets its contract. Assumes nothing.
-use lib.ListN.{length-set}
+use Prim.Native.Nat.{◌-◌}
+use Rattle.std.proofs.lemmas.List.Edits.{swap_is}
+use mathlib.Core.Path.{sym, ◌∙◌}
 use Rattle.keys.specs.Key.{key_at, below_by}
 use Rattle.keys.proofs.Keys.{key_strict}
 use Rattle.sorting.proofs.Heaps.{settle-start, settle-rest, settle-again, settle_end}
@@ -12,53 +14,23 @@ loop-m-init c =
     let key = key_at args.text.now args.mark args.width in
     (settle-start (below_by key) (key_strict key) args.list.now c.requires, omega arith)
 
-pub overflow_sub-m : goal.overflow_sub-m
-overflow_sub-m c = omega arith
-
-pub bounds-list-0 : goal.bounds-list-0
-bounds-list-0 c = omega (arith, c.loop-m.invariant.0.size)
-
-pub offset_bounds-list-m : goal.offset_bounds-list-m
-offset_bounds-list-m c = omega (arith, c.well_formed)
-
-pub bounds-list-m : goal.bounds-list-m
-bounds-list-m c = omega (arith, c.loop-m.invariant.0.size)
-
-pub bounds-list-0-in-loop-m : goal.bounds-list-0-in-loop-m
-bounds-list-0-in-loop-m c = omega (arith, c.loop-m.invariant.0.size)
-
-pub offset_bounds-list-m-in-loop-m : goal.offset_bounds-list-m-in-loop-m
-offset_bounds-list-m-in-loop-m c = omega (arith, c.well_formed)
-
-pub bounds-list-m-in-loop-m : goal.bounds-list-m-in-loop-m
-bounds-list-m-in-loop-m c = simp length-set (omega (arith, c.loop-m.invariant.0.size))
-
-pub sift-requires : goal.sift-requires
-sift-requires c =
-    let args = c.args in
+pub sift-requires-clause-heap : goal.sift-requires-clause-heap
+sift-requires-clause-heap c =
     let loop = c.loop-m in
-    let key = key_at args.text.now args.mark args.width in record {
-      n_in_bounds = simp length-set (omega (arith, loop.invariant.0.size));
-      heap = settle-rest (below_by key) (key_strict key) args.list.now loop.list loop.m loop.invariant.0
-          (omega arith) (omega (arith, loop.invariant.0.size));
-    }
-
-pub loop-m-smaller : goal.loop-m-smaller
-loop-m-smaller c = omega arith
+    let key = key_at c.args.text.now c.args.mark c.args.width in
+    let size = loop.invariant.0.size in
+    rw (c.swap.ensures.after, sym (swap_is loop.list 0 (loop.m - 1) 0 (omega (arith, size)) (omega (arith, size))))
+    (settle-rest (below_by key) (key_strict key) c.args.list.now loop.list loop.m loop.invariant.0 c.loop-m-test.true (omega (arith, size)))
 
 pub loop-m-preserved : goal.loop-m-preserved
 loop-m-preserved c =
-    let args = c.args in
     let loop = c.loop-m in
-    let sift = c.sift in
-    let key = key_at args.text.now args.mark args.width in (
-      settle-again (below_by key) (key_strict key) args.list.now loop.list loop.m loop.invariant.0 (omega arith) (omega (arith, loop.invariant.0.size)) _
-          sift.ensures.moved sift.ensures.heap_2,
-      omega arith,
-    )
-
-pub shape_of-list : goal.shape_of-list
-shape_of-list c = c.loop-m.invariant.0.size
+    let key = key_at c.args.text.now c.args.mark c.args.width in
+    let size = loop.invariant.0.size in
+    let same = c.swap.ensures.after ∙ sym (swap_is loop.list 0 (loop.m - 1) 0 (omega (arith, size)) (omega (arith, size))) in
+    let moved = rw same at c.sift.ensures.moved in
+    (settle-again (below_by key) (key_strict key) c.args.list.now loop.list loop.m loop.invariant.0 c.loop-m-test.true (omega (arith, size)) _ moved c.sift.ensures.heap_2,
+     omega arith)
 
 pub returns : goal.returns
 returns c =

@@ -8,6 +8,3 @@ use Rattle.sorting.proofs.settle.Given as goal
 
 abbrev pub invariant-loop-m : goal.invariant-loop-m
 invariant-loop-m l = Settling (below_by (key_at l.text l.mark l.width)) (key_strict (key_at l.text l.mark l.width)) l.initial.list l.list l.m × (l.m ≤ length l.initial.list)
-
-abbrev pub decreases-loop-m : goal.decreases-loop-m
-decreases-loop-m l = l.m

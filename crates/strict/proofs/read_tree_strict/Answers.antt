@@ -10,19 +10,19 @@ use Rattle.strict.proofs.read_tree_strict.Goals as goal
 pub count_strict-requires : goal.count_strict-requires
 count_strict-requires c =
     let rule_bounds = c.rule_bounds in
-    rule_bytes _ _ _ _ (sym rule_bounds.ensures ∙ c.in-Open.is)
+    rule_bytes _ _ _ _ (sym rule_bounds.ensures ∙ c.in-Ok.is)
 
-pub returns-in-Shut : goal.returns-in-Shut
-returns-in-Shut c =
+pub returns-in-Err : goal.returns-in-Err
+returns-in-Err c =
     let r = (let rule_bounds = c.rule_bounds in
-    let shut = sym rule_bounds.ensures ∙ c.in-Shut.is in
+    let shut = sym rule_bounds.ensures ∙ c.in-Err.is in
     refused-both _ _ _ (answer-shut _ _ _ _ shut) (strict-refuses _ _ _ _ _ shut)) in
     record { answer = r.0; records = r.1 }
 
-pub returns-in-Open : goal.returns-in-Open
-returns-in-Open c =
+pub returns-in-Ok : goal.returns-in-Ok
+returns-in-Ok c =
     let r = (let count_strict = c.count_strict in
-    let enum_told = c.in-Open in
+    let enum_told = c.in-Ok in
     let rule_bounds = c.rule_bounds in
     let args = c.args in
     let R = git_rules args.rules in

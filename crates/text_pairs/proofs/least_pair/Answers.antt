@@ -1,5 +1,4 @@
 -- `text_pairs::least_pair` meets its contract. Assumes nothing.
-use Prim.Native.Nat.{◌-◌}
 use mathlib.Core.Path.{refl, sym, ◌∙◌}
 use Rattle.keys.specs.Key.{key_at, below_by}
 use Rattle.text_repeats.specs.Least.{same_record}

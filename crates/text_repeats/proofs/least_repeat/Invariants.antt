@@ -7,6 +7,3 @@ use Rattle.text_repeats.proofs.least_repeat.Given as goal
 
 abbrev pub invariant-loop-i : goal.invariant-loop-i
 invariant-loop-i l = (1 ≤ l.i) × (least_next (same_record l.text) l.list 4294967296 ≡ least_next (same_record l.text) (drop (l.i - 1) l.list) l.least)
-
-abbrev pub decreases-loop-i : goal.decreases-loop-i
-decreases-loop-i l = length l.list - l.i

@@ -6,10 +6,10 @@ use Rattle.tree_export.proofs.Laws.{export_shut, export_open, began, counted-len
 use lib.ListN.{length}
 use Rattle.tree_export.proofs.export_tree.Goals as goal
 
-pub returns-in-Shut : goal.returns-in-Shut
-returns-in-Shut c =
+pub returns-in-Err : goal.returns-in-Err
+returns-in-Err c =
     let r = (let rule_bounds = c.rule_bounds in
-    let v = c.in-Shut in
+    let v = c.in-Err in
     let args = c.args in
     let longer = c.longer in
     let g = sym rule_bounds.ensures ∙ v.is in
@@ -21,7 +21,7 @@ measure-requires c =
     let args = c.args in
     let longer = c.longer in
     let rule_bounds = c.rule_bounds in
-    let enum_told = c.in-Open in
+    let enum_told = c.in-Ok in
     (began args.rules args.h args.bytes.now (length args.out.now) _ longer.ensures (sym rule_bounds.ensures ∙ enum_told.is)).0
 
 pub returns-then-number-ne-DONE : goal.returns-then-number-ne-DONE
@@ -29,7 +29,7 @@ returns-then-number-ne-DONE c =
     let r = (let args = c.args in
     let longer = c.longer in
     let rule_bounds = c.rule_bounds in
-    let enum_told = c.in-Open in
+    let enum_told = c.in-Ok in
     let measure = c.measure in
     let fit = c.fit-a in
     let if1 = c.if-number-ne-DONE in
@@ -43,7 +43,7 @@ walk-requires c =
     let args = c.args in
     let longer = c.longer in
     let rule_bounds = c.rule_bounds in
-    let enum_told = c.in-Open in
+    let enum_told = c.in-Ok in
     let b = began args.rules args.h args.bytes.now (length args.out.now) _ longer.ensures (sym rule_bounds.ensures ∙ enum_told.is) in
     (b.1, b.2)
 
@@ -52,7 +52,7 @@ returns c =
     let r = (let args = c.args in
     let longer = c.longer in
     let rule_bounds = c.rule_bounds in
-    let enum_told = c.in-Open in
+    let enum_told = c.in-Ok in
     let measure = c.measure in
     let fit = c.fit-a in
     let if1 = c.if-number-ne-DONE in

@@ -19,7 +19,7 @@ put_record-p-requires c =
     let pre = c.requires in
     let loop = c.loop-c in
     let decode = c.decode in
-    let e = c.in-Whole in
+    let e = c.in-Ok in
     let l = loop.invariant.0 in
     record { name_start_bound = inside _ _ _ _ _ (sym decode.ensures ∙ e.is); h_value = (pre.0, pre.1, omega (arith, l.small, l.few)) }
 
@@ -28,22 +28,22 @@ loop-c-preserved c =
     let loop = c.loop-c in
     let if2 = c.if-n-ge-MOST_RECORDS in
     let decode = c.decode in
-    let e = c.in-Whole in
+    let e = c.in-Ok in
     let put_record = c.put_record-p in (
       walking_more _ _ _ _ _ _ _ loop.invariant.0 if2.false _ _ (sym decode.ensures ∙ e.is) _ _ put_record.ensures,
       put_record.auto.out ∙
           loop.invariant.1,
     )
 
-pub shape_of-out-in-Broken : goal.shape_of-out-in-Broken
-shape_of-out-in-Broken c = c.loop-c.invariant.1
+pub shape_of-out-in-Err : goal.shape_of-out-in-Err
+shape_of-out-in-Err c = c.loop-c.invariant.1
 
-pub returns-in-Broken : goal.returns-in-Broken
-returns-in-Broken c =
+pub returns-in-Err : goal.returns-in-Err
+returns-in-Err c =
     let loop = c.loop-c in
     let if2 = c.if-n-ge-MOST_RECORDS in
     let decode = c.decode in
-    let enum_told = c.in-Broken in
+    let enum_told = c.in-Err in
     walking_broken _ _ _ _ _ _ _ loop.invariant.0 if2.false (sym decode.ensures ∙ enum_told.is)
 
 pub shape_of-out : goal.shape_of-out

@@ -11,25 +11,25 @@ import_open-requires c =
     let args = c.args in
     let longer = c.longer in
     let rule_bounds = c.rule_bounds in
-    let enum_told = c.in-Open in
+    let enum_told = c.in-Ok in
     import_began args.rules args.h args.text.now (length args.out.now) _ longer.ensures (sym rule_bounds.ensures ∙ enum_told.is)
 
-pub returns-in-Shut : goal.returns-in-Shut
-returns-in-Shut c =
+pub returns-in-Err : goal.returns-in-Err
+returns-in-Err c =
     let r = (let args = c.args in
     let longer = c.longer in
     let rule_bounds = c.rule_bounds in
-    let v = c.in-Shut in
+    let v = c.in-Err in
     refused-both _ _ _ (import_shut args.rules args.h args.text.now (length args.out.now) _ longer.ensures _
     (sym rule_bounds.ensures ∙ v.is)) (strict-refuses _ _ _ _ _ (sym rule_bounds.ensures ∙ v.is))) in
     record { answer = r.0; out = r.1 }
 
-pub returns-in-Open : goal.returns-in-Open
-returns-in-Open c =
+pub returns-in-Ok : goal.returns-in-Ok
+returns-in-Ok c =
     let r = (let args = c.args in
     let longer = c.longer in
     let rule_bounds = c.rule_bounds in
-    let enum_told = c.in-Open in
+    let enum_told = c.in-Ok in
     both-whole args.rules args.h args.text.now args.out.now _ _
     (import-open args.rules args.h args.text.now (length args.out.now) _ longer.ensures (sym rule_bounds.ensures ∙ enum_told.is))
     (c.import_open.ensures.answer, c.import_open.ensures.out)) in

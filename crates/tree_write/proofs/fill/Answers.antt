@@ -14,7 +14,7 @@ pub write_entry-at-requires : goal.write_entry-at-requires
 write_entry-at-requires c =
     let loop-test = c.loop-i-test in
     let loop = c.loop-i in
-    let s = step _ _ _ _ _ _ loop-test.true c.entry_at-e.ensures _ loop.invariant.3 c.requires.records_value in
+    let s = step _ _ _ _ _ _ loop-test.true c.entry_at.ensures _ loop.invariant.3 c.requires.records_value in
     record { mode_bound = well_parts _ _ _ s.0; e_in_bounds = rw loop.invariant.2 (le_trans s.1 c.requires.records_in_bounds) }
 
 pub loop-i-preserved : goal.loop-i-preserved
@@ -22,7 +22,7 @@ loop-i-preserved c =
     let write-entry = c.write_entry-at in
     let loop-test = c.loop-i-test in
     let l = c.loop-i in
-    let s = step _ _ _ _ _ _ loop-test.true c.entry_at-e.ensures _ l.invariant.3 c.requires.records_value in
+    let s = step _ _ _ _ _ _ loop-test.true c.entry_at.ensures _ l.invariant.3 c.requires.records_value in
     let p = write-entry.ensures.value in
     let q = write-entry.ensures.out_after in (
       omega arith,
@@ -30,7 +30,7 @@ loop-i-preserved c =
       write-entry.auto.out ∙ l.invariant.2,
       rw p s.2,
       l.invariant.4 ∙ written_next _ _ _ l.i l.at _ loop-test.true
-          c.entry_at-e.ensures l.out s.0 ∙ rw (p, q),
+          c.entry_at.ensures l.out s.0 ∙ rw (p, q),
     )
 
 pub shape_of-out : goal.shape_of-out

@@ -12,6 +12,3 @@ abbrev pub invariant-loop-i : goal.invariant-loop-i
 invariant-loop-i l = (l.i ≤ l.many) × (l.many ≡ many (length l.records)) × (length l.out ≡ length l.initial.out)
     × (measured true l.h l.bytes 0 0 (records_of l.records) ≡ measured true l.h l.bytes l.i l.at (drop l.i (records_of l.records)))
     × (sets l.initial.out 0 (written l.h l.bytes (records_of l.records)) ≡ sets l.out l.at (written l.h l.bytes (drop l.i (records_of l.records))))
-
-abbrev pub decreases-loop-i : goal.decreases-loop-i
-decreases-loop-i l = l.many - l.i

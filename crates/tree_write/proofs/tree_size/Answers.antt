@@ -7,10 +7,10 @@ use Rattle.tree_write.proofs.tree_size.Goals as goal
 pub measure-requires : goal.measure-requires
 measure-requires c =
     let a = c.args in
-    within a.h a.bytes.now a.records.now _ (omega arith) (sym c.bounds.ensures ∙ c.in-Open.is)
+    within a.h a.bytes.now a.records.now _ (omega arith) (sym c.bounds.ensures ∙ c.in-Ok.is)
 
-pub returns-in-Shut : goal.returns-in-Shut
-returns-in-Shut c = sym (size-shut _ _ _ _ (sym c.bounds.ensures ∙ c.in-Shut.is))
+pub returns-in-Err : goal.returns-in-Err
+returns-in-Err c = sym (size-shut _ _ _ _ (sym c.bounds.ensures ∙ c.in-Err.is))
 
-pub returns-in-Open : goal.returns-in-Open
-returns-in-Open c = c.measure.ensures ∙ sym (size_open _ _ _ (sym c.bounds.ensures ∙ c.in-Open.is))
+pub returns-in-Ok : goal.returns-in-Ok
+returns-in-Ok c = c.measure.ensures ∙ sym (size_open _ _ _ (sym c.bounds.ensures ∙ c.in-Ok.is))

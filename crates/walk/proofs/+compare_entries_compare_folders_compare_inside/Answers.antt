@@ -181,7 +181,7 @@ pub compare_folders-overflow_sub-depth : goal.compare_folders-overflow_sub-depth
 compare_folders-overflow_sub-depth t c =
     let args = c.args in
     let open-both = c.open_both in
-    let l = c.in-Both in
+    let l = c.in-Ok in
     pos_of_ne-zero (both-within args.k args.bundle.now args.a.now args.b.now args.depth args.index.now l.l
     l.r (sym open-both.ensures ∙ l.is)).0
 
@@ -190,29 +190,29 @@ compare_folders-compare_entries-requires t c =
     let args = c.args in
     let pre = c.requires in
     let open-both = c.open_both in
-    let l = c.in-Both in
+    let l = c.in-Ok in
     let f = both-within args.k args.bundle.now args.a.now args.b.now args.depth args.index.now l.l l.r
     (sym open-both.ensures ∙ l.is) in (
       turning.opened-falls args.depth t l.l.left l.r.left c.decreases f.0 f.1.1 f.2.1,
       (pre.bundle_len_bound, (pre.pl_bound, (turning.short-next args.pl args.depth f.0 pre.short, (pre.small, (f.1.0, f.2.0))))),
     )
 
-pub compare_folders-returns-in-Closed : goal.compare_folders-returns-in-Closed
-compare_folders-returns-in-Closed t c =
+pub compare_folders-returns-in-Err : goal.compare_folders-returns-in-Err
+compare_folders-returns-in-Err t c =
     let args = c.args in
     let pre = c.requires in
     let open-both = c.open_both in
-    let v = c.in-Closed in record {
+    let v = c.in-Err in record {
       by_index = λ prefix e. turning.tree-closed args.depth args.k args.bundle.now args.a.now args.b.now args.index.now open-both.result
           open-both.ensures args.m _ args.items.now args.paths.now prefix v.v v.is;
       small_2 = pre.small;
     }
 
-pub compare_folders-returns-in-Both : goal.compare_folders-returns-in-Both
-compare_folders-returns-in-Both t c =
+pub compare_folders-returns-in-Ok : goal.compare_folders-returns-in-Ok
+compare_folders-returns-in-Ok t c =
     let args = c.args in
     let open-both = c.open_both in
-    let l = c.in-Both in
+    let l = c.in-Ok in
     let compare-entries = c.compare_entries in record {
       by_index = λ prefix e. turning.tree-both args.depth args.k args.bundle.now args.a.now args.b.now args.index.now open-both.result
           open-both.ensures args.m _ args.items.now args.paths.now prefix l.l l.r l.is compare-entries.result

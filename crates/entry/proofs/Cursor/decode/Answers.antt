@@ -8,7 +8,7 @@ pub overflow_sub-left : goal.overflow_sub-left
 overflow_sub-left c =
     let args = c.args in
     let extract-at = c.extract_at in
-    let m = c.in-Mode in
+    let m = c.in-Some in
     let find-nul = c.find_nul-end in
     name-within args.s.now args.h args.self.at _ _ _ (sym extract-at.ensures ∙ m.is) find-nul.ensures
 
@@ -16,7 +16,7 @@ pub returns-then-left-h : goal.returns-then-left-h
 returns-then-left-h c =
     let args = c.args in
     let extract-at = c.extract_at in
-    let m = c.in-Mode in
+    let m = c.in-Some in
     let find-nul = c.find_nul-end in
     let if1 = c.if-left-h in
     let short-part = c.short_part in
@@ -28,15 +28,15 @@ pub returns-else-left-h : goal.returns-else-left-h
 returns-else-left-h c =
     let args = c.args in
     let extract-at = c.extract_at in
-    let m = c.in-Mode in
+    let m = c.in-Some in
     let find-nul = c.find_nul-end in
     let if1 = c.if-left-h in
     sym (decode-whole args.s.now args.h args.self.at _ _ _ (sym extract-at.ensures ∙ m.is) find-nul.ensures if1.false)
 
-pub returns-in-Bad : goal.returns-in-Bad
-returns-in-Bad c =
+pub returns-in-None : goal.returns-in-None
+returns-in-None c =
     let args = c.args in
     let extract-at = c.extract_at in
-    let enum_told = c.in-Bad in
-    let broken2 = c.broken-in-Bad in
+    let enum_told = c.in-None in
+    let broken2 = c.broken-in-None in
     broken2.ensures ∙ sym (decode-bad args.s.now args.h args.self.at (sym extract-at.ensures ∙ enum_told.is))

@@ -4,8 +4,8 @@ use Rattle.mode.specs.Read.{made}
 use Rattle.mode.proofs.Laws.{made_at}
 use Rattle.mode.proofs.EntryMode.extract_at.Goals as goal
 
-pub returns-in-Bits : goal.returns-in-Bits
-returns-in-Bits c = ap made (sym c.in-Bits.is ∙ c.read_at.ensures) ∙ made_at _ _
+pub returns-in-Some : goal.returns-in-Some
+returns-in-Some c = ap made (sym c.in-Some.is ∙ c.read_at.ensures) ∙ made_at _ _
 
-pub returns-in-Bad : goal.returns-in-Bad
-returns-in-Bad c = ap made (sym c.in-Bad.is ∙ c.read_at.ensures) ∙ made_at _ _
+pub returns-in-None : goal.returns-in-None
+returns-in-None c = ap made (sym c.in-None.is ∙ c.read_at.ensures) ∙ made_at _ _
