@@ -14,7 +14,7 @@ use lookup::Looked;
 pub fn name_order(a: &[u8], atree: bool, b: &[u8], btree: bool) -> i8
     ensures { result ≡ order_number (name_order a.now atree b.now btree) }
 {
-    order::name_order(a, atree, b, btree).number()
+    order::order_number(order::name_order(a, atree, b, btree))
 }
 
 // Hands over the answer of a lookup, and returns its number. Not `border::hand`: C lends five numbers here (include/sarpukten.h).

@@ -70,8 +70,10 @@ fn placed(m: Marks, at: usize, l: Line, p: Result<usize, Misplaced>) -> Marks
 {
     match p {
         Ok(n) => next_entry(m, at, l, n),
-        Err(Misplaced::Double) => refused(m, SAME_NAME),
-        Err(Misplaced::NotAfter) => refused(m, ORDER),
+        Err(why) => match why {
+            Misplaced::Double => refused(m, SAME_NAME),
+            Misplaced::NotAfter => refused(m, ORDER),
+        },
     }
 }
 

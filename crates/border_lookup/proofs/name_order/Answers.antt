@@ -7,4 +7,4 @@ use Rattle.border_lookup.proofs.Laws.{order_fits}
 use Rattle.border_lookup.proofs.name_order.Goals as goal
 
 pub returns : goal.returns
-returns c = ap (λ z. to_z w8 (of_z w8 z)) (c.number.ensures ∙ ap order_number c.name_order.ensures) ∙ order_fits _
+returns c = ap (λ z. to_z w8 (of_z w8 z)) (c.order_number.ensures ∙ ap order_number c.name_order.ensures) ∙ order_fits _
