@@ -19,7 +19,7 @@ const LONGEST: usize = 135168;
 
 const MOST: usize = 6144;
 
-// A text, and a space behind it.
+// A text, and a space behind it. `find` has the same: a crate for these few lines would be no plainer.
 fn say_text(rt: &impl Print, t: ShortText) -> io::Result<()> {
     say(rt, t.bytes.get(..t.len).unwrap_or_default())?;
     say(rt, b" ")

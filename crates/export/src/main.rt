@@ -11,33 +11,20 @@ use tree_export::export_tree;
 // The longest object, and the room for its text: an entry takes less than twice its bytes.
 const LONGEST: usize = 131072;
 
-// The bytes from one place to another, or none where they do not lie inside.
-fn part(s: &[u8], from: usize, to: usize) -> &[u8] {
-    if s.len() < to {
-        return &s[0..0];
-    }
-    if to < from {
-        return &s[0..0];
-    }
-    &s[from..to]
-}
-
-fn export(rt: &impl Print, object: &[u8], h: usize, rules: u16, out: &mut [u8]) -> io::Result<()> {
+// What the words ask, and the object behind them.
+fn export(rt: &impl Print, s: &[u8], out: &mut [u8]) -> io::Result<()> {
+    let asked = ask(s);
+    let object = s.get(asked.from..).unwrap_or_default();
     if LONGEST < object.len() {
         return say_too_long(rt);
     }
-    let a = export_tree(object, h, rules, out);
+    let a = export_tree(object, asked.h, asked.rules, out);
     say_answer(rt, a, out)
-}
-
-fn asked(rt: &impl Print, s: &[u8], out: &mut [u8]) -> io::Result<()> {
-    let a = ask(s);
-    export(rt, part(s, a.from, s.len()), a.h, a.rules, out)
 }
 
 fn work(rt: &impl Print, input: &mut impl Read, all: &mut [u8], out: &mut [u8]) -> io::Result<()> {
     let n = read_full(input, all)?;
-    asked(rt, part(all, 0, n), out)
+    export(rt, all.get(..n).unwrap_or_default(), out)
 }
 
 fn main(rt: HostRuntime) -> io::Result<()> {

@@ -15,7 +15,7 @@ use std::io;
 use std::io::Read;
 use words::word_at;
 
-// A text, and a space behind it.
+// A text, and a space behind it. `bisect` has the same: a crate for these few lines would be no plainer.
 fn say_text(rt: &impl Print, t: ShortText) -> io::Result<()> {
     say(rt, t.bytes.get(..t.len).unwrap_or_default())?;
     say(rt, b" ")

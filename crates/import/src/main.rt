@@ -11,33 +11,20 @@ use tree_import::import_tree;
 // The longest text, and the room for its object, which is shorter.
 const LONGEST: usize = 262144;
 
-// The bytes from one place to another, or none where they do not lie inside.
-fn part(s: &[u8], from: usize, to: usize) -> &[u8] {
-    if s.len() < to {
-        return &s[0..0];
-    }
-    if to < from {
-        return &s[0..0];
-    }
-    &s[from..to]
-}
-
-fn import(rt: &impl Print, text: &[u8], h: usize, rules: u16, out: &mut [u8]) -> io::Result<()> {
+// What the words ask, and the text behind them.
+fn import(rt: &impl Print, s: &[u8], out: &mut [u8]) -> io::Result<()> {
+    let asked = ask(s);
+    let text = s.get(asked.from..).unwrap_or_default();
     if LONGEST < text.len() {
         return say_too_long(rt);
     }
-    let a = import_tree(text, h, rules, out);
+    let a = import_tree(text, asked.h, asked.rules, out);
     say_answer(rt, a, out)
-}
-
-fn asked(rt: &impl Print, s: &[u8], out: &mut [u8]) -> io::Result<()> {
-    let a = ask(s);
-    import(rt, part(s, a.from, s.len()), a.h, a.rules, out)
 }
 
 fn work(rt: &impl Print, input: &mut impl Read, all: &mut [u8], out: &mut [u8]) -> io::Result<()> {
     let n = read_full(input, all)?;
-    asked(rt, part(all, 0, n), out)
+    import(rt, all.get(..n).unwrap_or_default(), out)
 }
 
 fn main(rt: HostRuntime) -> io::Result<()> {

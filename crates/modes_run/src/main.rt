@@ -74,13 +74,6 @@ fn answered(rt: &impl Print, a: ModeAnswer, rest: usize) -> io::Result<()> {
     rt.write_all(b"\n")
 }
 
-fn rest_of(r: Option<(EntryMode, usize)>) -> usize {
-    match r {
-        Some((_, n)) => n,
-        None => 0,
-    }
-}
-
 fn one_text(rt: &impl Print, s: &[u8]) -> io::Result<()> {
     rt.write_all(b"`")?;
     rt.write_all(s)?;
@@ -88,7 +81,7 @@ fn one_text(rt: &impl Print, s: &[u8]) -> io::Result<()> {
     answered(
         rt,
         EntryMode::from_bytes(s),
-        rest_of(EntryMode::extract_at(s, 0)),
+        EntryMode::extract_at(s, 0).map_or(0, |(_, rest)| rest),
     )
 }
 

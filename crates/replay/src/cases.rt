@@ -1,9 +1,6 @@
 // The fields of a case, as the list has them (oracle/README.md, "The list format"). What a case is given and what is wanted lies in two lists: the
 // bytes `s`, with a window of the file first, and the numbers `g`. What stands where is said by the constants.
-ghost use Rattle.std.specs.Prelude.{◌<◌, ◌≤◌, length};
-
-use ground::byte_at;
-use std::num::{wrapping_add_usize, wrapping_sub_usize};
+ghost use Rattle.std.specs.Prelude.{◌≤◌, length};
 
 // Every case is shorter than a window. Behind it in `s` stand the bytes a, b and c, and those that are to be left.
 pub const WINDOW: usize = 40960;
@@ -54,15 +51,14 @@ pub const THIRD: usize = 5;
 // No answer has more numbers.
 pub const ANSWERS: usize = 16;
 
-// A field: the bit that says that a case has it, 0 where each has it; whether it is a list; whether it may begin and end as the bytes a or the list in
-// its place do; where it stands in `s` or in `g`, and for bytes where their length stands.
+// A field: the bit that says that a case has it, 0 where each has it; whether it may begin and end as the bytes a or the list in its place do; where it
+// stands in `s` or in `g`; and for bytes where their length stands, none for a list.
 #[derive(Clone, Copy)]
 struct Field {
     bit: u8,
-    list: bool,
     derived: bool,
     place: usize,
-    long: usize,
+    long: Option<usize>,
 }
 
 const ALWAYS: u8 = 0;
@@ -97,20 +93,18 @@ pub const FIELDS: usize = 10;
 fn list_field(bit: u8, derived: bool, place: usize) -> Field {
     Field {
         bit,
-        list: true,
         derived,
         place,
-        long: 0,
+        long: None,
     }
 }
 
 fn bytes_field(bit: u8, derived: bool, place: usize, long: usize) -> Field {
     Field {
         bit,
-        list: false,
         derived,
         place,
-        long,
+        long: Some(long),
     }
 }
 
@@ -130,138 +124,74 @@ fn field_of(i: usize) -> Field {
     }
 }
 
-// Whether a case has a field.
-fn there(s: &[u8], bit: u8) -> bool {
-    if bit == ALWAYS {
-        return true;
-    }
-    byte_at(s, 1) / bit % 2 == 1
+// The element at a place, 0 where there is none.
+pub fn given<T: Copy + Default>(s: &[T], i: usize) -> T {
+    if i < s.len() { s[i] } else { T::default() }
 }
 
-// A number, and the place after it.
-#[derive(Clone, Copy)]
-struct Number {
-    value: usize,
-    next: usize,
-}
-
-// The place after a number: its bytes but the last have the high bit set.
-fn past_number(s: &[u8], at: usize) -> usize {
-    let mut i = at;
-    while i < s.len() {
-        if s[i] < 128 {
-            return i + 1;
-        }
-        i += 1;
-    }
-    i
-}
-
-// Seven bits a byte, the least significant first.
-fn number_at(s: &[u8], at: usize) -> Number {
-    let next = past_number(s, at);
-    let mut value: usize = 0;
-    let mut i = next;
-    while at < i {
-        i -= 1;
-        value = value % 144115188075855872 * 128 + (byte_at(s, i) % 128) as usize;
-    }
-    Number { value, next }
-}
-
-// A number that only a derived field has, else 0.
-fn shared_at(s: &[u8], at: usize, derived: bool) -> Number {
-    if derived {
-        return number_at(s, at);
-    }
-    Number { value: 0, next: at }
-}
-
-// The smaller of two numbers.
-fn least(a: usize, b: usize) -> usize
-    ensures left { result ≤ a }
-    ensures right { result ≤ b }
-{
-    if a < b { a } else { b }
-}
-
-// The number at a place, 0 where there is none.
-pub fn given(g: &[usize], i: usize) -> usize {
-    if i < g.len() { g[i] } else { 0 }
-}
-
-pub fn set_number(g: &mut [usize], i: usize, x: usize) {
-    if i < g.len() {
-        g[i] = x;
-    }
-}
-
-fn set_byte(s: &mut [u8], i: usize, x: u8) {
+// Stores an element, where there is such a place.
+pub fn set<T: Copy>(s: &mut [T], i: usize, x: T) {
     if i < s.len() {
         s[i] = x;
     }
 }
 
-// The bytes from a place on, n or as many as there are.
-pub fn piece(s: &[u8], from: usize, n: usize) -> &[u8]
+// The elements from a place on, n or as many as there are.
+pub fn piece<T>(s: &[T], from: usize, n: usize) -> &[T]
     ensures { length result.now ≤ n }
 {
-    let start = least(from, s.len());
-    let end = start + least(n, s.len() - start);
-    &s[start..end]
+    let rest = s.get(from..).unwrap_or_default();
+    &rest[..n.min(rest.len())]
 }
 
-// The same of numbers.
-pub fn numbers(g: &[usize], from: usize, n: usize) -> &[usize] {
-    let start = least(from, g.len());
-    let end = start + least(n, g.len() - start);
-    &g[start..end]
-}
-
-// The i-th of n to move when they are moved up or down, so that none is lost where the places overlap.
-fn turn(up: bool, i: usize, n: usize) -> usize {
-    if up {
-        return wrapping_sub_usize(wrapping_sub_usize(n, i), 1);
-    }
-    i
-}
-
-// n bytes from one place to another.
-fn slide(s: &mut [u8], from: usize, to: usize, n: usize) {
-    let count = least(n, s.len());
-    let mut i: usize = 0;
-    while i < count {
-        let k = turn(from < to, i, count);
-        let x = byte_at(s, wrapping_add_usize(from, k));
-        set_byte(s, wrapping_add_usize(to, k), x);
-        i += 1;
+// n elements from one place to another, as far as both have them, in an order in which none is lost where the places overlap.
+fn slide<T: Copy + Default>(s: &mut [T], from: usize, to: usize, n: usize) {
+    let count = n.min(s.len());
+    for i in 0..count {
+        let k = if from < to { count - 1 - i } else { i };
+        let x = given(s, from.wrapping_add(k));
+        set(s, to.wrapping_add(k), x);
     }
 }
 
-// The same of numbers.
-fn slide_numbers(g: &mut [usize], from: usize, to: usize, n: usize) {
-    let count = least(n, g.len());
-    let mut i: usize = 0;
-    while i < count {
-        let k = turn(from < to, i, count);
-        let x = given(g, wrapping_add_usize(from, k));
-        set_number(g, wrapping_add_usize(to, k), x);
-        i += 1;
+// Whether a case has a field.
+fn there(s: &[u8], bit: u8) -> bool {
+    bit == ALWAYS || given(s, 1) & bit != 0
+}
+
+// The place after a number: its bytes but the last have the high bit set.
+fn past_number(s: &[u8], at: usize) -> usize {
+    for i in at..s.len() {
+        if s[i] < 128 {
+            return i + 1;
+        }
     }
+    at.max(s.len())
+}
+
+// A number, seven bits a byte, the least significant first; and the place after it.
+fn number_at(s: &[u8], at: usize) -> (usize, usize) {
+    let next = past_number(s, at);
+    let mut value: usize = 0;
+    for b in s.get(at..next).unwrap_or_default().iter().rev() {
+        value = value % 144115188075855872 * 128 + usize::from(*b % 128);
+    }
+    (value, next)
+}
+
+// A number that only a derived field has, else 0.
+fn shared_at(s: &[u8], at: usize, derived: bool) -> (usize, usize) {
+    if derived { number_at(s, at) } else { (0, at) }
 }
 
 // n numbers of the list, stored from a place on; the place after them.
-fn numbers_at(s: &[u8], at: usize, n: usize, g: &mut [usize], to: usize) -> usize {
-    let count = least(n, s.len());
-    let mut next = at;
-    let mut i: usize = 0;
-    while i < count {
-        let x = number_at(s, next);
-        set_number(g, wrapping_add_usize(to, i), x.value);
-        next = x.next;
-        i += 1;
+fn numbers_at(s: &[u8], mut at: usize, n: usize, g: &mut [usize], to: usize) -> usize {
+    for i in 0..n.min(s.len()) {
+        let (value, next) = number_at(s, at);
+        set(g, to.wrapping_add(i), value);
+        at = next;
     }
-    next
+    at
 }
 
 // What a field is made of: how many are new, where they stand in the case, and where they go; how many of the others stand behind them, where these
@@ -279,106 +209,102 @@ struct Made {
 
 // Of a field that goes to a place, where as many of the others stand.
 fn made_of(s: &[u8], at: usize, derived: bool, place: usize, others: usize) -> Made {
-    let n = number_at(s, at);
-    let p = shared_at(s, n.next, derived);
-    let q = shared_at(s, p.next, derived);
-    let to = wrapping_add_usize(place, p.value);
-    let then = wrapping_add_usize(to, n.value);
-    let last = wrapping_sub_usize(wrapping_add_usize(place, others), q.value);
-    let end = wrapping_add_usize(then, q.value);
+    let (new, at) = number_at(s, at);
+    let (ahead, at) = shared_at(s, at, derived);
+    let (behind, at) = shared_at(s, at, derived);
+    let to = place.wrapping_add(ahead);
+    let then = to.wrapping_add(new);
     Made {
-        new: n.value,
-        at: q.next,
+        new,
+        at,
         to,
-        behind: q.value,
-        last,
+        behind,
+        last: place.wrapping_add(others).wrapping_sub(behind),
         then,
-        long: wrapping_sub_usize(end, place),
+        long: then.wrapping_add(behind).wrapping_sub(place),
     }
 }
 
-// Bytes that begin and end as the bytes a do, of which there are so many.
-fn spread(s: &mut [u8], place: usize, long: usize, m: Made) {
-    slide(s, BYTES_A, place, long);
+// Bytes to their place, which begin and end as the bytes a do; the place after them in the case.
+fn take_bytes(s: &mut [u8], g: &mut [usize], f: Field, long: usize, at: usize) -> usize {
+    let others = given(g, LONG_A);
+    let m = made_of(s, at, f.derived, f.place, others);
+    slide(s, BYTES_A, f.place, others);
     slide(s, m.last, m.then, m.behind);
     slide(s, m.at, m.to, m.new);
-}
-
-// Bytes to their place; the place after them in the case.
-fn take_bytes(s: &mut [u8], g: &mut [usize], f: Field, at: usize) -> usize {
-    let long = given(g, LONG_A);
-    let m = made_of(s, at, f.derived, f.place, long);
-    spread(s, f.place, long, m);
-    set_number(g, f.long, m.long);
-    wrapping_add_usize(m.at, m.new)
+    set(g, long, m.long);
+    m.at.wrapping_add(m.new)
 }
 
 // A list to its place, the same.
 fn take_list(s: &[u8], g: &mut [usize], f: Field, at: usize) -> usize {
-    let m = made_of(
-        s,
-        at,
-        f.derived,
-        wrapping_add_usize(f.place, 1),
-        given(g, f.place),
-    );
-    slide_numbers(g, m.last, m.then, m.behind);
-    set_number(g, f.place, m.long);
+    let others = given(g, f.place);
+    let m = made_of(s, at, f.derived, f.place.wrapping_add(1), others);
+    slide(g, m.last, m.then, m.behind);
+    set(g, f.place, m.long);
     numbers_at(s, m.at, m.new, g, m.to)
 }
 
 // A field that is not there is as in the case before, or is not looked at.
 fn take_field(s: &mut [u8], g: &mut [usize], f: Field, at: usize) -> usize {
-    if there(s, f.bit) {
-        if f.list {
-            return take_list(s, g, f, at);
-        }
-        return take_bytes(s, g, f, at);
+    if !there(s, f.bit) {
+        return at;
+    }
+    match f.long {
+        Some(long) => take_bytes(s, g, f, long, at),
+        None => take_list(s, g, f, at),
+    }
+}
+
+// The fields from one to another; the place after them in the case.
+pub fn take(s: &mut [u8], g: &mut [usize], from: usize, to: usize, mut at: usize) -> usize {
+    for i in from..to {
+        at = take_field(s, g, field_of(i), at);
     }
     at
 }
 
-// The fields from one to another; the place after them in the case.
-pub fn take(s: &mut [u8], g: &mut [usize], from: usize, to: usize, at: usize) -> usize {
-    let mut next = at;
-    let mut i = from;
-    while i < to {
-        next = take_field(s, g, field_of(i), next);
-        i += 1;
+// A case that was taken: what a call is given, and what is wanted of it.
+#[derive(Clone, Copy)]
+pub struct Case<'a> {
+    pub s: &'a [u8],
+    pub g: &'a [usize],
+}
+
+impl<'a> Case<'a> {
+    // The bytes a.
+    pub fn a(self) -> &'a [u8] {
+        piece(self.s, BYTES_A, given(self.g, LONG_A))
     }
-    next
-}
 
-// What a call is given: the bytes a, and those of another field, none where the case has it not; and a list.
-pub fn a<'a, 'b>(s: &'a [u8], g: &'b [usize]) -> &'a [u8] {
-    piece(s, BYTES_A, given(g, LONG_A))
-}
-
-pub fn bytes<'a, 'b>(s: &'a [u8], g: &'b [usize], i: usize) -> &'a [u8] {
-    let f = field_of(i);
-    if there(s, f.bit) {
-        return piece(s, f.place, given(g, f.long));
+    // Those of another field, none where the case has it not.
+    pub fn bytes(self, i: usize) -> &'a [u8] {
+        let f = field_of(i);
+        match f.long {
+            Some(long) if there(self.s, f.bit) => piece(self.s, f.place, given(self.g, long)),
+            _ => &[],
+        }
     }
-    &s[..0]
-}
 
-pub fn list(g: &[usize], place: usize) -> &[usize] {
-    numbers(g, wrapping_add_usize(place, 1), given(g, place))
-}
-
-// A number of the case; 0 where it is left out.
-pub fn number_of(g: &[usize], i: usize) -> usize {
-    given(list(g, GIVEN), i)
-}
-
-pub fn rules(g: &[usize]) -> u16 {
-    (number_of(g, SECOND) % 65536) as u16
-}
-
-// The first list that is to be left, or the second, which has taken its place.
-pub fn left_list<'a, 'b>(s: &'a [u8], g: &'b [usize], place: usize) -> &'b [usize] {
-    if there(s, HAS_LISTS) {
-        return list(g, place);
+    pub fn list(self, place: usize) -> &'a [usize] {
+        piece(self.g, place.wrapping_add(1), given(self.g, place))
     }
-    &g[..0]
+
+    // A number of the case; 0 where it is left out.
+    pub fn number(self, i: usize) -> usize {
+        given(self.list(GIVEN), i)
+    }
+
+    pub fn rules(self) -> u16 {
+        (self.number(SECOND) % 65536) as u16
+    }
+
+    // The first list that is to be left, or the second, which has taken its place.
+    pub fn left_list(self, place: usize) -> &'a [usize] {
+        if there(self.s, HAS_LISTS) {
+            self.list(place)
+        } else {
+            &[]
+        }
+    }
 }

@@ -1,67 +1,44 @@
 // The calls on commits, as trees.rt has those on trees.
-use crate::cases::{ANSWERS, GIVEN, H, NUMBERS, SECOND, X, Y, a, given, list, number_of, numbers};
+use crate::cases::{ANSWERS, Case, GIVEN, H, NUMBERS, SECOND, X, Y, given, piece};
+use std::array;
 
 // 17: a commit, read.
-pub fn read_commit(s: &[u8], g: &[usize], p: &mut [usize], q: &mut [usize]) -> [usize; ANSWERS] {
+pub fn read_commit(c: Case, p: &mut [usize], q: &mut [usize]) -> [usize; ANSWERS] {
     let mut t = [0usize; ANSWERS];
-    border_commit::read_commit(a(s, g), number_of(g, H), p, q, &mut t);
+    border_commit::read_commit(c.a(), c.number(H), p, q, &mut t);
     t
 }
 
-// The five numbers of a header.
-fn header(k: &[usize]) -> [usize; 5] {
-    [
-        given(k, H),
-        given(k, H + 1),
-        given(k, H + 2),
-        given(k, H + 3),
-        given(k, H + 4),
-    ]
-}
-
-// The ten of a commit's parts, which start at a place.
-fn parts(k: &[usize], from: usize) -> [usize; 10] {
-    let mut t = [0usize; 10];
-    let mut i: usize = 0;
-    while i < 10 {
-        t[i] = given(k, std::num::wrapping_add_usize(from, i));
-        i += 1;
-    }
-    t
+// So many numbers of a list, from a place on.
+fn part<const N: usize>(k: &[usize], from: usize) -> [usize; N] {
+    array::from_fn(|i| given(k, from.wrapping_add(i)))
 }
 
 // 18: a header's value, unfolded.
-pub fn unfold(s: &[u8], g: &[usize], out: &mut [u8]) -> [usize; 4] {
+pub fn unfold(c: Case, out: &mut [u8]) -> [usize; 4] {
     let mut t = [0usize; 4];
-    border_commit::unfold_value(a(s, g), &header(list(g, GIVEN)), out, &mut t);
+    border_commit::unfold_value(c.a(), &part(c.list(GIVEN), H), out, &mut t);
     t
 }
 
 // 19: a commit's size, from its parts.
-pub fn commit_size(s: &[u8], g: &[usize]) -> [usize; 4] {
+pub fn commit_size(c: Case) -> [usize; 4] {
     let mut t = [0usize; 4];
-    let parts = parts(list(g, GIVEN), SECOND);
-    border_commit_write::commit_size(
-        a(s, g),
-        number_of(g, H),
-        &parts,
-        list(g, X),
-        list(g, Y),
-        &mut t,
-    );
+    let parts = part(c.list(GIVEN), SECOND);
+    border_commit_write::commit_size(c.a(), c.number(H), &parts, c.list(X), c.list(Y), &mut t);
     t
 }
 
 // 20: its bytes.
-pub fn write_commit(s: &[u8], g: &[usize], out: &mut [u8]) -> [usize; 4] {
+pub fn write_commit(c: Case, out: &mut [u8]) -> [usize; 4] {
     let mut t = [0usize; 4];
-    let parts = parts(list(g, GIVEN), SECOND);
+    let parts = part(c.list(GIVEN), SECOND);
     border_commit_write::write_commit(
-        a(s, g),
-        number_of(g, H),
+        c.a(),
+        c.number(H),
         &parts,
-        list(g, X),
-        list(g, Y),
+        c.list(X),
+        c.list(Y),
         out,
         &mut t,
     );
@@ -90,16 +67,16 @@ fn write_read(
     out: &mut [u8],
 ) -> [usize; 4] {
     let mut t = [0usize; 4];
-    let parents = numbers(p, 0, told[4]);
-    let headers = numbers(q, 0, told[5] % 206 * 5);
-    border_commit_write::write_commit(a, h, &parts(&told, 6), parents, headers, out, &mut t);
+    let parents = piece(p, 0, told[4]);
+    let headers = piece(q, 0, told[5] % 206 * 5);
+    border_commit_write::write_commit(a, h, &part(&told, 6), parents, headers, out, &mut t);
     t
 }
 
 // 21: a commit, read and written again as it was read.
-pub fn rewrite(s: &[u8], g: &[usize], out: &mut [u8]) -> [usize; 4] {
+pub fn rewrite(c: Case, out: &mut [u8]) -> [usize; 4] {
     let mut p = [0usize; NUMBERS];
     let mut q = [0usize; NUMBERS];
-    let told = read_whole(a(s, g), number_of(g, H), &mut p, &mut q);
-    write_read(told, a(s, g), number_of(g, H), &p, &q, out)
+    let told = read_whole(c.a(), c.number(H), &mut p, &mut q);
+    write_read(told, c.a(), c.number(H), &p, &q, out)
 }

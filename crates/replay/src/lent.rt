@@ -1,9 +1,8 @@
 // What is lent to a call, and how what it answered and left is held against what is wanted.
-ghost use Rattle.std.specs.Prelude.{◌<◌, ◌≤◌};
+ghost use Rattle.std.specs.Prelude.{◌≤◌};
 
-use crate::cases::{
-    ANSWERS, BYTES, LEFT, NUMBERS, WANTED, X, Y, bytes, given, left_list, list, number_of,
-};
+use crate::cases::{ANSWERS, BYTES, Case, LEFT, NUMBERS, WANTED, X, Y};
+use crate::wide::wide;
 
 // What is lent holds these before a call: what a call does not write is still so after it.
 pub const BYTE: u8 = 165;
@@ -20,79 +19,25 @@ pub struct Left {
 }
 
 // A room; more than there is cannot be lent, and nothing is.
-pub fn room(g: &[usize], i: usize, most: usize) -> usize
+pub fn room(c: Case, i: usize, most: usize) -> usize
     ensures { result ≤ most }
 {
-    let n = number_of(g, i);
-    if most < n {
-        return 0;
-    }
-    n
+    let n = c.number(i);
+    if most < n { 0 } else { n }
 }
 
-// What has to stand at a place of lent bytes.
-fn byte_right(want: &[u8], i: usize) -> u8 {
-    if i < want.len() { want[i] } else { BYTE }
-}
-
-// Whether what is wanted stands at the front of lent bytes, and the others are as they were.
-fn written(out: [u8; BYTES], want: &[u8], n: usize) -> bool
-    requires { n ≤ 16384 }
-{
-    if n < want.len() {
-        return false;
+// Whether what is wanted stands at the front of what was lent, and the others are as they were.
+fn left_as<T: Copy + PartialEq>(lent: Option<&[T]>, want: &[T], before: T) -> bool {
+    match lent.unwrap_or_default().strip_prefix(want) {
+        Some(rest) => rest.iter().all(|x| *x == before),
+        None => false,
     }
-    let mut i: usize = 0;
-    while i < n {
-        if out[i] != byte_right(want, i) {
-            return false;
-        }
-        i += 1;
-    }
-    true
-}
-
-fn number_right(want: &[usize], i: usize) -> usize {
-    if i < want.len() { want[i] } else { NUMBER }
-}
-
-// The same of numbers.
-fn stored(p: [usize; NUMBERS], want: &[usize], n: usize) -> bool
-    requires { n ≤ 1025 }
-{
-    if n < want.len() {
-        return false;
-    }
-    let mut i: usize = 0;
-    while i < n {
-        if p[i] != number_right(want, i) {
-            return false;
-        }
-        i += 1;
-    }
-    true
-}
-
-// Whether the numbers that were answered are those that are wanted.
-fn told_right(told: [usize; ANSWERS], want: &[usize]) -> bool {
-    let mut i: usize = 0;
-    while i < ANSWERS {
-        if told[i] != given(want, i) {
-            return false;
-        }
-        i += 1;
-    }
-    true
 }
 
 // Whether all is as it is to be.
-pub fn right(s: &[u8], g: &[usize], l: Left) -> bool {
-    let told = l.told;
-    let out = l.out;
-    let p = l.p;
-    let q = l.q;
-    told_right(told, list(g, WANTED))
-        & written(out, bytes(s, g, LEFT), room(g, 0, BYTES))
-        & stored(p, left_list(s, g, X), room(g, 1, NUMBERS))
-        & stored(q, left_list(s, g, Y), room(g, 2, NUMBERS))
+pub fn right(c: Case, l: Left) -> bool {
+    l.told == wide(c.list(WANTED))
+        && left_as(l.out.get(..room(c, 0, BYTES)), c.bytes(LEFT), BYTE)
+        && left_as(l.p.get(..room(c, 1, NUMBERS)), c.left_list(X), NUMBER)
+        && left_as(l.q.get(..room(c, 2, NUMBERS)), c.left_list(Y), NUMBER)
 }

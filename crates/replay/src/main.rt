@@ -13,12 +13,10 @@ mod trees;
 mod wide;
 
 use calls::called;
-use cases::{ALL_BYTES, ALL_NUMBERS, FIELDS, TAKEN, WINDOW, piece, take};
-use ground::byte_at;
+use cases::{ALL_BYTES, ALL_NUMBERS, Case, FIELDS, TAKEN, WINDOW, given, piece, take};
 use lent::right;
 use std::io;
 use std::io::Read;
-use std::num::{wrapping_add_usize, wrapping_sub_usize};
 
 // No list has more cases.
 const MOST_CASES: usize = 1048576;
@@ -26,58 +24,48 @@ const MOST_CASES: usize = 1048576;
 // The last call that there is.
 const CALLS: usize = 31;
 
-// How many cases each call has, and in the place of call 63 how many there are in all; behind them how many agree.
-const ALL: usize = 63;
-
-const AGREE: usize = 64;
-
-const COUNTS: usize = 128;
-
 // How many differences are said one by one: more than the cases that are wrong on purpose.
 const SAID: usize = 256;
 
-fn say(rt: &impl Print, s: &[u8]) -> io::Result<()> {
-    rt.write_all(s)
+// How many cases there are, and how many of them agree.
+#[derive(Clone, Copy)]
+struct Tally {
+    cases: usize,
+    agree: usize,
 }
 
-// A word, and a number behind it.
-fn say_with(rt: &impl Print, word: &[u8], n: usize) -> io::Result<()> {
-    say(rt, word)?;
-    rt.print(n)
-}
-
-// How many cases differ.
-fn differing(counts: [usize; COUNTS]) -> usize {
-    wrapping_sub_usize(counts[ALL], counts[ALL + AGREE])
-}
-
-// One case more, of a call, or of all.
-fn one_more(counts: [usize; COUNTS], call: usize, good: bool) -> [usize; COUNTS] {
-    let mut c = counts;
-    let at = call % AGREE;
-    c[at] = wrapping_add_usize(c[at], 1);
-    c[at + AGREE] = wrapping_add_usize(c[at + AGREE], good as usize);
-    c
-}
-
-fn counted(counts: [usize; COUNTS], call: usize, good: bool) -> [usize; COUNTS] {
-    one_more(one_more(counts, call % ALL, good), ALL, good)
-}
-
-// A case that differs is named: its index, from 0 on, and its call.
-fn say_verdict(
-    rt: &impl Print,
-    good: bool,
-    index: usize,
-    call: usize,
-    differ: usize,
-) -> io::Result<()> {
-    if good | (SAID < differ) {
-        return Ok(());
+impl Tally {
+    fn with(self, good: bool) -> Tally {
+        Tally {
+            cases: self.cases.wrapping_add(1),
+            agree: self.agree.wrapping_add(usize::from(good)),
+        }
     }
-    say_with(rt, b"differs: case ", index)?;
-    say_with(rt, b" call ", call)?;
-    say(rt, b"\n")
+
+    fn differing(self) -> usize {
+        self.cases.wrapping_sub(self.agree)
+    }
+}
+
+const NONE: Tally = Tally { cases: 0, agree: 0 };
+
+// The tally of each call, by its number, and of all.
+#[derive(Clone, Copy)]
+struct Tallies {
+    each: [Tally; 63],
+    all: Tally,
+}
+
+impl Tallies {
+    fn with(self, call: usize, good: bool) -> Tallies {
+        let mut each = self.each;
+        let at = call % 63;
+        each[at] = each[at].with(good);
+        Tallies {
+            each,
+            all: self.all.with(good),
+        }
+    }
 }
 
 // A case: its call, whether it agrees, and how many bytes it has.
@@ -91,8 +79,8 @@ struct Replayed {
 // The call, on what the case is given, and whether it answers and leaves what is wanted; so many bytes of the list were read. Where there is no such
 // call, nothing is taken.
 fn one_case(s: &mut [u8], g: &mut [usize], n: usize) -> Replayed {
-    let call = byte_at(s, 0) as usize;
-    if CALLS <= wrapping_sub_usize(call, 1) {
+    let call = usize::from(given(s, 0));
+    if !matches!(call, 1..=CALLS) {
         return Replayed {
             call,
             good: false,
@@ -100,9 +88,9 @@ fn one_case(s: &mut [u8], g: &mut [usize], n: usize) -> Replayed {
         };
     }
     let at = take(s, g, 0, TAKEN, 2);
-    let left = called(s, g);
+    let left = called(Case { s, g });
     let length = take(s, g, TAKEN, FIELDS, at);
-    let good = right(s, g, left) & (length <= n);
+    let good = right(Case { s, g }, left) && length <= n;
     Replayed { call, good, length }
 }
 
@@ -117,62 +105,49 @@ fn window(list: &[u8], s: &mut [u8], from: usize) -> usize {
     n
 }
 
+// A case that differs is named: its index, from 0 on, and its call.
+fn say_differing(rt: &impl Print, index: usize, call: usize) -> io::Result<()> {
+    println!(rt; "differs: case {index} call {call}")
+}
+
 // Each case is counted, and named where it differs. The list ends with its bytes, or with a call that there is not.
-fn replay(
-    rt: &impl Print,
-    list: &[u8],
-    s: &mut [u8],
-    g: &mut [usize],
-) -> io::Result<[usize; COUNTS]> {
-    let mut counts = [0usize; COUNTS];
-    let mut index: usize = 0;
+fn replay(rt: &impl Print, list: &[u8], s: &mut [u8], g: &mut [usize]) -> io::Result<Tallies> {
+    let mut tallies = Tallies {
+        each: [NONE; 63],
+        all: NONE,
+    };
     let mut from: usize = 0;
-    while index < MOST_CASES {
+    for index in 0..MOST_CASES {
         let n = window(list, s, from);
         if n == 0 {
-            return Ok(counts);
+            break;
         }
         let r = one_case(s, g, n);
-        let more = counted(counts, r.call, r.good);
-        counts = more;
-        say_verdict(rt, r.good, index, r.call, differing(more))?;
-        if r.length == 0 {
-            return Ok(counts);
+        tallies = tallies.with(r.call, r.good);
+        if !r.good && tallies.all.differing() <= SAID {
+            say_differing(rt, index, r.call)?;
         }
-        from = wrapping_add_usize(from, r.length);
-        index += 1;
+        if r.length == 0 {
+            break;
+        }
+        from = from.wrapping_add(r.length);
     }
-    Ok(counts)
+    Ok(tallies)
 }
 
-fn line(rt: &impl Print, counts: [usize; COUNTS], call: usize) -> io::Result<()> {
-    let at = call % ALL;
-    say_with(rt, b"call ", call)?;
-    say_with(rt, b": ", counts[at])?;
-    say_with(rt, b" agree ", counts[at + AGREE])?;
-    say(rt, b"\n")
-}
-
-fn lines(rt: &impl Print, counts: [usize; COUNTS]) -> io::Result<()> {
-    let mut call: usize = 1;
-    while call <= CALLS {
-        line(rt, counts, call)?;
-        call += 1;
-    }
-    Ok(())
-}
-
-fn sum(rt: &impl Print, counts: [usize; COUNTS]) -> io::Result<()> {
-    say_with(rt, b"cases ", counts[ALL])?;
-    say_with(rt, b", differ ", differing(counts))?;
-    say(rt, b"\n")
+// The line of a call.
+fn say_call(rt: &impl Print, call: usize, t: Tally) -> io::Result<()> {
+    println!(rt; "call {call}: {} agree {}", t.cases, t.agree)
 }
 
 // The whole list.
 fn work(rt: &impl Print, list: &[u8], s: &mut [u8], g: &mut [usize]) -> io::Result<()> {
-    let counts = replay(rt, list, s, g)?;
-    lines(rt, counts)?;
-    sum(rt, counts)
+    let tallies = replay(rt, list, s, g)?;
+    for call in 1..=CALLS {
+        say_call(rt, call, tallies.each[call])?;
+    }
+    let all = tallies.all;
+    println!(rt; "cases {}, differ {}", all.cases, all.differing())
 }
 
 fn main(rt: HostRuntime) -> io::Result<()> {
