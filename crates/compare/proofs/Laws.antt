@@ -8,12 +8,11 @@ use native.Mathlib.Decide.{dec_lt}
 use native.Mathlib.Omega.{arith}
 use lib.ListN.{length, get_or, take, drop, length-drop, take-append-drop}
 use lib.Seq.{drop-cons, take-add, take-take, get_or-take}
-use Rattle.std.specs.Int.{w32, w64, from_be_bytes}
-use Rattle.scan.specs.Word.{word, Bytes}
-use Rattle.scan.proofs.Word.{part_length, front, part_eight}
+use Rattle.scan.specs.Word.{word, Bytes, WordOf}
+use Rattle.scan.proofs.Word.{part_length}
 use Rattle.order.specs.Order.{by_number, opposite, next, name_order}
 use Rattle.order.proofs.Laws.{by_lt, by_gt, by-eq, order_flip}
-use Rattle.compare.specs.Told.{turned, NumberOf, Within, Ready, Told}
+use Rattle.compare.specs.Told.{turned, Within, Ready, Told}
 use Rattle.std.specs.declared.cmp.Ordering.{Ordering}
 use Rattle.std.specs.declared.cmp.Ordering.TheVariants.{Equal, Greater, Less}
 
@@ -25,9 +24,17 @@ turned-small zero w = omega arith
 turned-small (suc k) w =
     rw (pow-suc 256 k) (omega (arith, turned-small k (w / 256), mul-le-mul_right {m = w % 256} {n = 255} (256 ^ k) (omega arith)))
 
-turned_none : (w : ℕ) → turned 0 w ≡ 0
+pub turned_two : (w : ℕ) → w % 256 * 256 + w / 256 % 256 ≡ turned 2 w
 unfolding turned
-turned_none w = refl
+turned_two w = omega arith
+
+pub turned-four : (w : ℕ) → turned 2 w * 65536 + turned 2 (w / 65536) ≡ turned 4 w
+unfolding turned
+turned-four w = let e : w / 65536 ≡ w / 256 / 256 = omega arith in rw e (omega arith)
+
+pub turned_eight : (w : ℕ) → turned 4 w * 4294967296 + turned 4 (w / 4294967296) ≡ turned 8 w
+unfolding turned
+turned_eight w = let e : w / 4294967296 ≡ w / 256 / 256 / 256 / 256 = omega arith in rw e (omega arith)
 
 -- a byte more in front
 turned_front : (k b : ℕ) (bs : List ℕ) → b < 256 → turned (suc k) (word (b ∷ bs)) ≡ b * 256 ^ k + turned k (word bs)
@@ -36,64 +43,6 @@ turned_front k b bs h =
     let e : (word bs * 256 + b) % 256 ≡ b = omega arith in
     let f : (word bs * 256 + b) / 256 ≡ word bs = omega arith in
     rw (e, f)
-
-four_turned : (a b c d : ℕ) → a < 256 → b < 256 → c < 256 → d < 256
-    → from_be_bytes w32 (a ∷ b ∷ c ∷ d ∷ []) ≡ turned 4 (word (a ∷ b ∷ c ∷ d ∷ []))
-unfolding turned word
-four_turned a b c d a< b< c< d< =
-    omega (
-      arith,
-      turned_front 3 a (b ∷ c ∷ d ∷ []) a<,
-      turned_front 2 b (c ∷ d ∷ []) b<,
-      turned_front 1 c (d ∷ []) c<,
-      turned_front 0 d [] d<,
-    )
-
-eight_turned : (a b c d e f g h : ℕ) → a < 256 → b < 256 → c < 256 → d < 256 → e < 256 → f < 256 → g < 256 → h < 256
-    → from_be_bytes w64 (a ∷ b ∷ c ∷ d ∷ e ∷ f ∷ g ∷ h ∷ []) ≡ turned 8 (word (a ∷ b ∷ c ∷ d ∷ e ∷ f ∷ g ∷ h ∷ []))
-eight_turned a b c d e f g h a< b< c< d< e< f< g< h< =
-    omega (
-      arith,
-      turned_front 7 a (b ∷ c ∷ d ∷ e ∷ f ∷ g ∷ h ∷ []) a<,
-      turned_front 6 b (c ∷ d ∷ e ∷ f ∷ g ∷ h ∷ []) b<,
-      turned_front 5 c (d ∷ e ∷ f ∷ g ∷ h ∷ []) c<,
-      turned_front 4 d (e ∷ f ∷ g ∷ h ∷ []) d<,
-      turned_front 3 e (f ∷ g ∷ h ∷ []) e<,
-      turned_front 2 f (g ∷ h ∷ []) f<,
-      turned_front 1 g (h ∷ []) g<,
-      turned_front 0 h [] h<,
-      turned_none (word []),
-    )
-
--- four bytes of a list, and eight
-pub number_four : (s : List ℕ) (i : ℕ) → i + 4 ≤ length s → ((k : ℕ) → get_or s k 0 < 256)
-    → NumberOf 4 (take 4 (drop i s)) (from_be_bytes w32 (get_or s i 0 ∷ get_or s (i + 1) 0 ∷ get_or s (i + 2) 0 ∷ get_or s (i + 3) 0 ∷ []))
-unfolding Bytes turned word
-number_four s i h f =
-    let e : take 4 (drop i s) ≡ get_or s i 0 ∷ get_or s (i + 1) 0 ∷ get_or s (i + 2) 0 ∷ get_or s (i + 3) 0 ∷ [] =
-    rw (
-      front s i (i + 1) (omega arith) (omega arith),
-      front s (i + 1) (i + 2) (omega arith) (omega arith),
-      front s (i + 2) (i + 3) (omega arith) (omega arith),
-      front s (i + 3) (i + 4) (omega arith) (omega arith),
-    )
-    in
-    rw e
-    (record {
-      bytes = (f i, (f (i + 1), (f (i + 2), (f (i + 3), tt))));
-      value = four_turned (get_or s i 0) (get_or s (i + 1) 0) (get_or s (i + 2) 0) (get_or s (i + 3) 0) (f i) (f (i + 1)) (f (i + 2)) (f (i + 3));
-    })
-
-pub number_eight : (s : List ℕ) (i : ℕ) → i + 8 ≤ length s → ((k : ℕ) → get_or s k 0 < 256)
-    → NumberOf 8 (take 8 (drop i s)) (from_be_bytes w64 (get_or s i 0 ∷ get_or s (i + 1) 0 ∷ get_or s (i + 2) 0 ∷ get_or s (i + 3) 0 ∷ get_or s (i + 4) 0 ∷ get_or s (i + 5) 0 ∷ get_or s (i + 6) 0 ∷ get_or s (i + 7) 0 ∷ []))
-unfolding Bytes
-number_eight s i h f =
-    rw (part_eight s i h)
-    (record {
-      bytes = (f i, (f (i + 1), (f (i + 2), (f (i + 3), (f (i + 4), (f (i + 5), (f (i + 6), (f (i + 7), tt))))))));
-      value = eight_turned (get_or s i 0) (get_or s (i + 1) 0) (get_or s (i + 2) 0) (get_or s (i + 3) 0) (get_or s (i + 4) 0) (get_or s (i + 5) 0) (get_or s (i + 6) 0) (get_or s (i + 7) 0)
-          (f i) (f (i + 1)) (f (i + 2)) (f (i + 3)) (f (i + 4)) (f (i + 5)) (f (i + 6)) (f (i + 7));
-    })
 
 -- the lists that two words are made of stand as the words do, turned round
 word_below : (k : ℕ) (bs cs p q : List ℕ) (s t : Bool) → length bs ≡ length cs → length bs ≤ k → Bytes bs → Bytes cs
@@ -151,41 +100,50 @@ past (suc i) (x ∷ a) (y ∷ b) s t h k e =
     let z : x ≡ y = ap (λ (l : List ℕ). get_or l 0 0) e in
     rw (by-eq z) (past i a b s t (omega arith) (omega arith) (ap (λ (l : List ℕ). drop 1 l) e))
 
--- the next k bytes as numbers
-module _ (a b : List ℕ) (i k x y : ℕ) (r : Ready a b i k) (p : NumberOf k (take k (drop i a)) x) (q : NumberOf k (take k (drop i b)) y) where
+-- the next k bytes as words
+module _ (a b : List ℕ) (i k u v : ℕ) (r : Ready a b i k) (l : k ≤ 8) (p : WordOf (take k (drop i a)) u) (q : WordOf (take k (drop i b)) v) where
   left-length : length (take k (drop i a)) ≡ k
   left-length = part_length a i k r.0.0
 
   right-length : length (take k (drop i b)) ≡ k
   right-length = part_length b i k r.0.1
 
-  -- equal numbers: the names agree past them
-  pub numbers_same : x ≡ y → Told a b (i + k) Equal
-  unfolding Told
-  numbers_same e =
-      let same =
-      word-once k (take k (drop i a)) (take k (drop i b)) (left-length ∙ sym right-length) (omega (arith, left-length)) p.bytes q.bytes
-      (sym p.value ∙ e ∙ q.value)
-      in
-      rw (take-add i k a, take-add i k b, r.1, same)
+  same-list : turned 8 u ≡ turned 8 v → take k (drop i a) ≡ take k (drop i b)
+  same-list e =
+      word-once 8 (take k (drop i a)) (take k (drop i b)) (left-length ∙ sym right-length) (omega (arith, left-length)) p.bytes q.bytes
+      (ap (turned 8) (sym p.value) ∙ e ∙ ap (turned 8) q.value)
 
-  -- the lesser number is of the name that is below
-  number_order : x < y → (s t : Bool) → name_order a s b t ≡ Less
-  number_order h s t =
-      let w = word_below k (take k (drop i a)) (take k (drop i b)) (drop k (drop i a)) (drop k (drop i b)) s t (left-length ∙ sym right-length)
+  -- equal words: the names agree past them
+  pub words_same : u ≡ v → Told a b (i + k) Equal
+  unfolding Told
+  words_same e = rw (take-add i k a, take-add i k b, r.1, same-list (ap (turned 8) e))
+
+  -- the lesser word, turned round, is of the name that is below
+  word_order : turned 8 u < turned 8 v → (s t : Bool) → name_order a s b t ≡ Less
+  word_order h s t =
+      let w = word_below 8 (take k (drop i a)) (take k (drop i b)) (drop k (drop i a)) (drop k (drop i b)) s t (left-length ∙ sym right-length)
       (omega (arith, left-length)) p.bytes q.bytes (rw (← p.value, ← q.value) h) in
       past i a b s t (omega (arith, r.0.0)) (omega (arith, r.0.1)) r.1 ∙ (rw (take-append-drop k (drop i a), take-append-drop k (drop i b)) at w)
 
-  pub numbers_below : x < y → Told a b (i + k) Less
+  pub words_below : {x y : ℕ} → x ≡ turned 8 u → y ≡ turned 8 v → x < y → Told a b (i + k) Less
   unfolding Told
-  numbers_below h = number_order h
+  words_below f g h = word_order (rw (← f, ← g) h)
 
--- the greater number is of the name that is above
-pub numbers_above : (a b : List ℕ) (i k x y : ℕ) → Ready a b i k → NumberOf k (take k (drop i a)) x → NumberOf k (take k (drop i b)) y
-    → y < x → Told a b (i + k) Greater
+  -- no other word is the same, turned round
+  turned-once : turned 8 u ≡ turned 8 v → u ≡ v
+  turned-once e = p.value ∙ ap word (same-list e) ∙ sym q.value
+
+-- the greater word is of the name that is above
+pub words_above : (a b : List ℕ) (i k u v : ℕ) → Ready a b i k → k ≤ 8 → WordOf (take k (drop i a)) u → WordOf (take k (drop i b)) v
+    → {x y : ℕ} → x ≡ turned 8 u → y ≡ turned 8 v → (u ≡ v → ⊥) → y ≤ x → Told a b (i + k) Greater
 unfolding Told
-numbers_above a b i k x y r p q h s t =
-    order_flip b t a s ∙ ap opposite (number_order b a i k y x ((r.0.1, r.0.0), sym r.1) q p h t s)
+words_above a b i k u v r l p q {x} {y} f g d h s t =
+    elim (dec_lt y x) [
+      | yes j ↦
+          order_flip b t a s
+          ∙ ap opposite (word_order b a i k v u ((r.0.1, r.0.0), sym r.1) l q p (rw (← f, ← g) j) t s)
+      | no j ↦ absurd (d (turned-once a b i k u v r l p q (omega arith)))
+    ]
 
 -- ---- what is told, passed on
 

@@ -1,6 +1,5 @@
 -- What a comparison of the first bytes of two names tells of their order (docs/FORMAT.md, "Order"). Assumes nothing.
 use Rattle.std.specs.Prelude.{ℕ, zero, suc, ◌+◌, ◌*◌, ◌/◌, ◌%◌, ◌^◌, ◌≤◌, ◌≡◌, Bool, List, length, take}
-use Rattle.scan.specs.Word.{word, Bytes}
 use Rattle.order.specs.Order.{name_order}
 use Rattle.std.specs.declared.cmp.Ordering.{Ordering}
 use Rattle.std.specs.declared.cmp.Ordering.TheVariants.{Equal, Greater, Less}
@@ -9,11 +8,6 @@ use Rattle.std.specs.declared.cmp.Ordering.TheVariants.{Equal, Greater, Less}
 unfoldable pub turned : ℕ → ℕ → ℕ
 turned zero w = 0
 turned (suc k) w = w % 256 * 256 ^ k + turned k (w / 256)
-
--- the number is made of these k bytes, the first highest
-pub record NumberOf (k : ℕ) (bs : List ℕ) (x : ℕ) : Type 0 where
-  pub bytes : Bytes bs
-  pub value : x ≡ turned k (word bs)
 
 -- both names have so many bytes
 abbrev pub Within : List ℕ → List ℕ → ℕ → Type 0

@@ -1,37 +1,65 @@
 // Git's comparison of two names by words and blocks, for the lookup (docs/FORMAT.md, "Order"): what `order::name_order` answers, in fewer steps and more code.
 #![tactic(auto)]
 
-ghost use Rattle.std.specs.Prelude.{◌≡◌, false, true, ◌+◌, ◌≤◌, length, take, drop};
+ghost use Rattle.std.specs.Prelude.{◌≡◌, ◌+◌, ◌≤◌, ◌<◌, length, take, drop};
+ghost use Rattle.scan.specs.Word.{WordOf};
 ghost use Rattle.order.specs.Order.{name_order};
-ghost use Rattle.compare.specs.Told.{NumberOf, Within, Ready, Told};
+ghost use Rattle.compare.specs.Told.{turned, Within, Ready, Told};
 
 use ground::shorter;
 use order::by_next;
 use std::cmp::Ordering;
 
-// Four bytes as one number, the first highest.
-fn four(s: &[u8], i: usize) -> u32
-    requires { i + 4 ≤ length s.now }
-    ensures { NumberOf 4 (take 4 (drop i s.now)) result }
+// A byte as a number of eight bytes.
+fn wide(x: u8) -> u64
+    ensures same { result ≡ x }
+    ensures small { result < 256 }
 {
-    u32::from_be_bytes([s[i], s[i + 1], s[i + 2], s[i + 3]])
+    x as u64
 }
 
-// Eight bytes as one number, the first highest.
+// Four bytes as one number, the first lowest.
+fn four(s: &[u8], i: usize) -> u64
+    requires { i + 4 ≤ length s.now }
+    ensures made { WordOf (take 4 (drop i s.now)) result }
+    ensures small { result < 4294967296 }
+{
+    let a = wide(s[i]);
+    let b = wide(s[i + 1]);
+    let c = wide(s[i + 2]);
+    let d = wide(s[i + 3]);
+    a + b * 256 + c * 65536 + d * 16777216
+}
+
+// Eight bytes as one number, the first lowest.
 fn eight(s: &[u8], i: usize) -> u64
     requires { i + 8 ≤ length s.now }
-    ensures { NumberOf 8 (take 8 (drop i s.now)) result }
+    ensures { WordOf (take 8 (drop i s.now)) result }
 {
-    u64::from_be_bytes([
-        s[i],
-        s[i + 1],
-        s[i + 2],
-        s[i + 3],
-        s[i + 4],
-        s[i + 5],
-        s[i + 6],
-        s[i + 7],
-    ])
+    let low = four(s, i);
+    let high = four(s, i + 4);
+    low + high * 4294967296
+}
+
+// The two lowest bytes of a number, the lowest first.
+fn turn_2(w: u64) -> u64
+    ensures { result ≡ turned 2 w }
+{
+    w % 256 * 256 + w / 256 % 256
+}
+
+// The four lowest bytes of a number, the lowest first.
+fn turn_4(w: u64) -> u64
+    ensures { result ≡ turned 4 w }
+{
+    turn_2(w) * 65536 + turn_2(w / 65536)
+}
+
+// The eight bytes of a number, the lowest first.
+fn turn_8(w: u64) -> u64
+    ensures { result ≡ turned 8 w }
+{
+    turn_4(w) * 4294967296 + turn_4(w / 4294967296)
 }
 
 // Two names that agree up to a place, by their next four bytes.
@@ -44,7 +72,7 @@ fn order_4(a: &[u8], b: &[u8], i: usize) -> Ordering
     if x == y {
         return Ordering::Equal;
     }
-    if x < y {
+    if turn_8(x) < turn_8(y) {
         return Ordering::Less;
     }
     Ordering::Greater
@@ -60,7 +88,7 @@ fn order_8(a: &[u8], b: &[u8], i: usize) -> Ordering
     if x == y {
         return Ordering::Equal;
     }
-    if x < y {
+    if turn_8(x) < turn_8(y) {
         return Ordering::Less;
     }
     Ordering::Greater
@@ -95,22 +123,27 @@ fn order_few(a: &[u8], b: &[u8], n: usize) -> Ordering
     requires { Within a.now b.now n }
     ensures { Told a.now b.now n result }
 {
-    for i in 0..n {
+    let mut i = 0;
+    while i < n {
         if a[i] < b[i] {
             return Ordering::Less;
         }
         if b[i] < a[i] {
             return Ordering::Greater;
         }
+        i += 1;
     }
     Ordering::Equal
 }
 
-// By their first n bytes, four or more, and at most eight: the first four, and the last four, which may overlap them.
-fn from_4(a: &[u8], b: &[u8], n: usize) -> Ordering
-    requires { Within a.now b.now n × (4 ≤ n) × (n ≤ 8) }
+// By their first n bytes, at most eight: the first four, and the last four, which may overlap them.
+fn under_8(a: &[u8], b: &[u8], n: usize) -> Ordering
+    requires { Within a.now b.now n × (n ≤ 8) }
     ensures { Told a.now b.now n result }
 {
+    if n < 4 {
+        return order_few(a, b, n);
+    }
     match order_4(a, b, 0) {
         Ordering::Less => Ordering::Less,
         Ordering::Equal => order_4(a, b, n - 4),
@@ -118,11 +151,14 @@ fn from_4(a: &[u8], b: &[u8], n: usize) -> Ordering
     }
 }
 
-// By their first n bytes, eight or more, and at most sixteen.
-fn from_8(a: &[u8], b: &[u8], n: usize) -> Ordering
-    requires { Within a.now b.now n × (8 ≤ n) × (n ≤ 16) }
+// By their first n bytes, at most sixteen.
+fn under_16(a: &[u8], b: &[u8], n: usize) -> Ordering
+    requires { Within a.now b.now n × (n ≤ 16) }
     ensures { Told a.now b.now n result }
 {
+    if n < 8 {
+        return under_8(a, b, n);
+    }
     match order_8(a, b, 0) {
         Ordering::Less => Ordering::Less,
         Ordering::Equal => order_8(a, b, n - 8),
@@ -142,19 +178,21 @@ fn from_16(a: &[u8], b: &[u8], n: usize) -> Ordering
     }
 }
 
-// Whether two names that agree up to a place differ in the n bytes from there on. The loop has no way out, so that many are looked at at once.
-fn differ(a: &[u8], b: &[u8], i: usize, n: usize) -> bool
+// 0 where two names that agree up to a place agree in the n bytes from there on too, and 1 where not. The loop has no way out.
+fn differ(a: &[u8], b: &[u8], i: usize, n: usize) -> u8
     requires { Ready a.now b.now i n }
-    ensures none { result ≡ false → take (i + n) a.now ≡ take (i + n) b.now }
-    ensures some { result ≡ true → take (i + n) a.now ≡ take (i + n) b.now → ⊥ }
+    ensures none { result ≡ 0 → take (i + n) a.now ≡ take (i + n) b.now }
+    ensures some { (result ≡ 0 → ⊥) → take (i + n) a.now ≡ take (i + n) b.now → ⊥ }
 {
-    let mut found = false;
-    for k in 0..n {
+    let mut hit: u8 = 0;
+    let mut k: usize = 0;
+    while k < n {
         if a[i + k] != b[i + k] {
-            found = true;
+            hit = 1;
         }
+        k += 1;
     }
-    found
+    hit
 }
 
 // By their first n bytes, thirty-two or more, and at most sixty-four.
@@ -162,7 +200,7 @@ fn from_32(a: &[u8], b: &[u8], n: usize) -> Ordering
     requires { Within a.now b.now n × (32 ≤ n) × (n ≤ 64) }
     ensures { Told a.now b.now n result }
 {
-    if differ(a, b, 0, 16) {
+    if differ(a, b, 0, 16) != 0 {
         return order_16(a, b, 0);
     }
     match order_16(a, b, 16) {
@@ -177,11 +215,10 @@ fn after_64(a: &[u8], b: &[u8], n: usize) -> Ordering
     requires { Within a.now b.now n × (take 64 a.now ≡ take 64 b.now) × (64 ≤ n) }
     ensures { Told a.now b.now n result }
 {
-    // By place: the last block ends with the names, and may overlap the one before.
     let last = n - 32;
     let mut i = 64;
     while i < last {
-        if differ(a, b, i, 32) {
+        if differ(a, b, i, 32) != 0 {
             return order_32(a, b, i);
         }
         i += 32;
@@ -206,10 +243,10 @@ fn from_64(a: &[u8], b: &[u8], n: usize) -> Ordering
     requires { Within a.now b.now n × (64 ≤ n) }
     ensures { Told a.now b.now n result }
 {
-    if differ(a, b, 0, 32) {
+    if differ(a, b, 0, 32) != 0 {
         return order_32(a, b, 0);
     }
-    if differ(a, b, 32, 16) {
+    if differ(a, b, 32, 16) != 0 {
         return order_16(a, b, 32);
     }
     after_48(a, b, n)
@@ -220,14 +257,16 @@ fn by_first(a: &[u8], b: &[u8], n: usize) -> Ordering
     requires { Within a.now b.now n }
     ensures { Told a.now b.now n result }
 {
-    match n {
-        64.. => from_64(a, b, n),
-        32..64 => from_32(a, b, n),
-        16..32 => from_16(a, b, n),
-        8..16 => from_8(a, b, n),
-        4..8 => from_4(a, b, n),
-        0..4 => order_few(a, b, n),
+    if 64 <= n {
+        return from_64(a, b, n);
     }
+    if 32 <= n {
+        return from_32(a, b, n);
+    }
+    if 16 <= n {
+        return from_16(a, b, n);
+    }
+    under_16(a, b, n)
 }
 
 // Names of any length and with any bytes; each says whether it is a tree's.

@@ -18,10 +18,7 @@ fn begin(text: &[u8], mark: u8, place: usize) -> usize
         return place;
     }
     let at = scan::find_byte(text, place, mark);
-    if at < text.len() {
-        return at + 1;
-    }
-    text.len()
+    text.len().min(at + 1)
 }
 
 // The place where the bytes that begin at a place end.
@@ -32,23 +29,14 @@ fn end(text: &[u8], width: usize, from: usize) -> usize
     if width == 0 {
         return scan::find_nul(text, from);
     }
-    if width < text.len() - from {
-        return from + width;
-    }
-    text.len()
+    from + width.min(text.len() - from)
 }
 
 // Keys that compare Equal so far: the shorter is below, and of one length the smaller element.
 fn below_same(a: usize, b: usize, x: u32, y: u32) -> bool
     ensures { result ≡ decide (by_number a b) (ltb x y) }
 {
-    if a < b {
-        return true;
-    }
-    if b < a {
-        return false;
-    }
-    x < y
+    a < b || a == b && x < y
 }
 
 // The byte at a place of the bytes that begin at another, and one more: 0 where those have ended.
@@ -77,27 +65,17 @@ fn next_at(text: &[u8], width: usize, from: usize, i: usize) -> u16
 fn by_next(p: u16, ptree: bool, q: u16, qtree: bool) -> Ordering
     ensures { result ≡ by_number (ended p ptree) (ended q qtree) }
 {
-    let x = end_of(p, ptree);
-    let y = end_of(q, qtree);
-    if x < y {
-        return Ordering::Less;
-    }
-    if y < x {
-        return Ordering::Greater;
-    }
-    Ordering::Equal
+    order::by_number(end_of(p, ptree), end_of(q, qtree))
 }
 
+// What a number of a byte stands for: 0 is a name's end, and for a folder a slash.
 fn end_of(p: u16, tree: bool) -> u16
     ensures { result ≡ ended p tree }
 {
-    if p != 0 {
-        return p;
+    match (p, tree) {
+        (0, true) => 48,
+        _ => p,
     }
-    if tree {
-        return 48;
-    }
-    0
 }
 
 // Git's comparison of the names that begin at two places, which reads no further than it has to.
@@ -105,14 +83,12 @@ fn names(text: &[u8], width: usize, a: usize, atree: bool, b: usize, btree: bool
     requires { (a ≤ length text.now) × (b ≤ length text.now) }
     ensures { result ≡ name_order (cut_to width (drop a text.now)) atree (cut_to width (drop b text.now)) btree }
 {
+    // By hand: how long the names are is found on the way.
     let mut i = 0;
     loop {
         let p = next_at(text, width, a, i);
         let q = next_at(text, width, b, i);
-        if p == 0 {
-            return by_next(p, atree, q, btree);
-        }
-        if p != q {
+        if p == 0 || p != q {
             return by_next(p, atree, q, btree);
         }
         i += 1;

@@ -18,7 +18,7 @@ pub fn order_number(o: Ordering) -> i8
 }
 
 // Two positions compared as numbers.
-fn by_number(x: u16, y: u16) -> Ordering
+pub fn by_number(x: u16, y: u16) -> Ordering
     ensures { result ≡ by_number x y }
 {
     if x < y {
@@ -57,14 +57,12 @@ pub fn name_order(a: &[u8], atree: bool, b: &[u8], btree: bool) -> Ordering
     ensures { result ≡ name_order a.now atree b.now btree }
 {
     let i = scan::common_start(a, b);
-    if a.len() <= i {
-        return by_next(a, atree, b, btree, i);
-    }
-    if b.len() <= i {
+    if a.len() <= i || b.len() <= i {
         return by_next(a, atree, b, btree, i);
     }
     if a[i] < b[i] {
-        return Ordering::Less;
+        Ordering::Less
+    } else {
+        Ordering::Greater
     }
-    Ordering::Greater
 }

@@ -2,7 +2,7 @@
 use Prim.Native.Nat.{ℕ, zero, suc, ◌+◌, ◌-◌, ◌*◌, ◌/◌, ◌%◌, ◌^◌, ◌<◌, ◌≤◌}
 use mathlib.Core.Path.{◌≡◌, refl, sym, ap, ◌∙◌}
 use mathlib.Core.Bool.{Bool, true, false, ◌&&◌}
-use mathlib.Core.List.{List, [], ◌∷◌}
+use mathlib.Core.List.{List, [], ◌∷◌, ◌++◌}
 use mathlib.Core.Logic.{⊎_elim}
 use native.Mathlib.Nat.{mul_assoc, pow-suc}
 use native.Mathlib.Numerals.{add-one}
@@ -11,7 +11,7 @@ use lib.Bits.{bit_and, bit_or, bit_xor, and_block, or_block, xor_block, and_le_l
 use lib.Count.{count_trailing_zeros}
 use lib.Dec.{eqb, lit<}
 use lib.ListN.{length, get_or, take, drop, replicate, length-drop}
-use lib.Seq.{drop-cons, length-take-le}
+use lib.Seq.{drop-cons, drop-drop, take-add, length-take-le}
 use borrow.Author.Tests.{eqb-true, eq-eqb, ne_eqb}
 use Rattle.std.specs.Int.{w64, from_le_bytes}
 use Rattle.ground.specs.Basics.{pick}
@@ -24,11 +24,10 @@ use Rattle.scan.specs.Word.{word, Bytes, WordOf, marks_of, zeros, Marked}
 pub part_length : (s : List ℕ) (i k : ℕ) → i + k ≤ length s → length (take k (drop i s)) ≡ k
 part_length s i k h = length-take-le k (drop i s) (simp length-drop (omega arith))
 
--- the bytes from a place on: the one there, and the rest
-pub front : (s : List ℕ) (i j : ℕ) → i < length s → j ≡ i + 1 → drop i s ≡ get_or s i 0 ∷ drop j s
+front : (s : List ℕ) (i j : ℕ) → i < length s → j ≡ i + 1 → drop i s ≡ get_or s i 0 ∷ drop j s
 front s i j h f = drop-cons s i 0 h ∙ rw (f, add-one)
 
-pub part_eight : (s : List ℕ) (i : ℕ) → i + 8 ≤ length s
+part_eight : (s : List ℕ) (i : ℕ) → i + 8 ≤ length s
     → take 8 (drop i s) ≡ get_or s i 0 ∷ get_or s (i + 1) 0 ∷ get_or s (i + 2) 0 ∷ get_or s (i + 3) 0 ∷ get_or s (i + 4) 0 ∷ get_or s (i + 5) 0 ∷ get_or s (i + 6) 0 ∷ get_or s (i + 7) 0 ∷ []
 part_eight s i h =
     rw (
@@ -43,15 +42,51 @@ part_eight s i h =
     )
 
 -- eight bytes of a list
-pub word_eight : (s : List ℕ) (i : ℕ) → i + 8 ≤ length s → ((k : ℕ) → get_or s k 0 < 256)
+pub word_of_eight : (s : List ℕ) (i : ℕ) → i + 8 ≤ length s → ((k : ℕ) → get_or s k 0 < 256)
     → WordOf (take 8 (drop i s)) (from_le_bytes w64 (get_or s i 0 ∷ get_or s (i + 1) 0 ∷ get_or s (i + 2) 0 ∷ get_or s (i + 3) 0 ∷ get_or s (i + 4) 0 ∷ get_or s (i + 5) 0 ∷ get_or s (i + 6) 0 ∷ get_or s (i + 7) 0 ∷ []))
 unfolding Bytes word
-word_eight s i h f =
+word_of_eight s i h f =
     rw (part_eight s i h)
     (record {
       bytes = (f i, (f (i + 1), (f (i + 2), (f (i + 3), (f (i + 4), (f (i + 5), (f (i + 6), (f (i + 7), tt))))))));
       value = omega arith;
     })
+
+part-four : (s : List ℕ) (i : ℕ) → i + 4 ≤ length s
+    → take 4 (drop i s) ≡ get_or s i 0 ∷ get_or s (i + 1) 0 ∷ get_or s (i + 2) 0 ∷ get_or s (i + 3) 0 ∷ []
+part-four s i h =
+    rw (
+      front s i (i + 1) (omega arith) (omega arith),
+      front s (i + 1) (i + 2) (omega arith) (omega arith),
+      front s (i + 2) (i + 3) (omega arith) (omega arith),
+      front s (i + 3) (i + 4) (omega arith) (omega arith),
+    )
+
+pub word-four : (s : List ℕ) (i a b c d : ℕ) → i + 4 ≤ length s
+    → a ≡ get_or s i 0 → b ≡ get_or s (i + 1) 0 → c ≡ get_or s (i + 2) 0 → d ≡ get_or s (i + 3) 0
+    → a < 256 → b < 256 → c < 256 → d < 256 → WordOf (take 4 (drop i s)) (a + b * 256 + c * 65536 + d * 16777216)
+unfolding Bytes word
+word-four s i a b c d h ea eb ec ed a< b< c< d< =
+    rw (part-four s i h, ← ea, ← eb, ← ec, ← ed) (record { bytes = (a<, (b<, (c<, (d<, tt)))); value = omega arith })
+
+word_append : (bs cs : List ℕ) → word (bs ++ cs) ≡ word bs + word cs * 256 ^ length bs
+unfolding word
+word_append [] cs = omega arith
+word_append (a ∷ bs) cs = rw (pow-suc 256 (length bs)) (omega (arith, word_append bs cs, mul_assoc (word cs) (256 ^ length bs) 256))
+
+bytes_append : (bs cs : List ℕ) → Bytes bs → Bytes cs → Bytes (bs ++ cs)
+unfolding Bytes
+bytes_append [] cs p q = q
+bytes_append (a ∷ bs) cs p q = (p.0, bytes_append bs cs p.1 q)
+
+-- two words of four bytes are one of eight
+pub word_eight : (s : List ℕ) (i u v : ℕ) → i + 8 ≤ length s → WordOf (take 4 (drop i s)) u → WordOf (take 4 (drop (i + 4) s)) v
+    → WordOf (take 8 (drop i s)) (u + v * 4294967296)
+word_eight s i u v h p q =
+    let e : take 8 (drop i s) ≡ take 4 (drop i s) ++ take 4 (drop (i + 4) s) = take-add 4 4 (drop i s) ∙ rw (drop-drop 4 i s) in
+    let n : length (take 4 (drop i s)) ≡ 4 = part_length s i 4 (omega arith) in
+    let w = rw n at (word_append (take 4 (drop i s)) (take 4 (drop (i + 4) s))) in
+    rw e (record { bytes = bytes_append _ _ p.bytes q.bytes; value = omega (arith, w, p.value, q.value) })
 
 -- ---- the marks of the bytes that are 0
 

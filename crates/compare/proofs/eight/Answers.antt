@@ -1,7 +1,9 @@
 -- `compare::eight` meets its contract. Assumes nothing.
 use native.Mathlib.Omega.{arith}
-use Rattle.compare.proofs.Laws.{number_eight}
+use Rattle.scan.proofs.Word.{word_eight}
 use Rattle.compare.proofs.eight.Goals as goal
 
 pub returns : goal.returns
-returns c = rw c.from_be_bytes.ensures (number_eight c.args.s.now c.args.i c.requires (λ k. omega (arith, c.type_inv.s k)))
+returns c =
+    let args = c.args in
+    word_eight args.s.now args.i _ _ (omega arith) c.four-low.ensures.made c.four-high.ensures.made

@@ -4,14 +4,14 @@ use borrow.Author.Tests.{eq-eqb, ne_eqb}
 use Rattle.keys.specs.Key.{ended}
 use Rattle.keys.proofs.end_of.Goals as goal
 
-pub returns-then-p-ne0 : goal.returns-then-p-ne0
+pub returns-in-0-true : goal.returns-in-0-true
 unfolding ended
-returns-then-p-ne0 c = rw (ne_eqb c.args.p 0 c.if-p-ne0.true) refl
+returns-in-0-true c = rw (eq-eqb c.args.p 0 c.in-0-true.is-0, c.in-0-true.is-1) refl
 
-pub returns-then-tree : goal.returns-then-tree
+pub returns-in_default : goal.returns-in_default
 unfolding ended
-returns-then-tree c = rw (eq-eqb c.args.p 0 c.if-p-ne0.false, c.if-tree.true) refl
+returns-in_default c = rw (eq-eqb c.args.p 0 c.in_default.is-0, c.in_default.is-1) c.in_default.is-0
 
-pub returns : goal.returns
+pub returns-in_default-2 : goal.returns-in_default-2
 unfolding ended
-returns c = rw (eq-eqb c.args.p 0 c.if-p-ne0.false, c.if-tree.false) refl
+returns-in_default-2 c = rw (ne_eqb c.args.p 0 c.in_default.is-0.1) refl

@@ -7,6 +7,7 @@ use native.Mathlib.Omega.{arith}
 use mathlib.Core.Path.{◌∙◌}
 use lib.ListN.{length-drop}
 use Rattle.keys.proofs.names.Goals as goal
+use Rattle.keys.proofs.names.Goals.{then-p-eq0-via-then-p-eq0, then-p-eq0-via-else-p-eq0+then-p-q}
 
 pub loop-width-init : goal.loop-width-init
 loop-width-init c =
@@ -23,21 +24,13 @@ pub returns-then-p-eq0 : goal.returns-then-p-eq0
 returns-then-p-eq0 c =
     let args = c.args in
     let loop = c.loop-width in
-    let next-at = c.next_at-p in
-    let next-at2 = c.next_at-q in
-    let if1 = c.if-p-eq0 in
-    let by_next = c.by_next in
-    by_next.ensures ∙ walk_end _ _ loop.i loop.invariant _ _ next-at.ensures next-at2.ensures args.atree args.btree if1.true
-
-pub returns-then-p-q : goal.returns-then-p-q
-returns-then-p-q c =
-    let args = c.args in
-    let loop = c.loop-width in
-    let next-at = c.next_at-p in
-    let next-at2 = c.next_at-q in
-    let if2 = c.if-p-q in
-    let by-next2 = c.by_next-then-p-q in
-    by-next2.ensures ∙ walk_off _ _ loop.i loop.invariant _ _ next-at.ensures next-at2.ensures args.atree args.btree if2.true
+    let p = c.next_at-p.ensures in
+    let q = c.next_at-q.ensures in
+    c.by_next.ensures
+    ∙ elim c.then-p-eq0.branch [
+      | then-p-eq0-via-then-p-eq0 w ↦ walk_end _ _ loop.i loop.invariant _ _ p q args.atree args.btree w.if-p-eq0.true
+      | then-p-eq0-via-else-p-eq0+then-p-q w ↦ walk_off _ _ loop.i loop.invariant _ _ p q args.atree args.btree w.if-p-q.true
+    ]
 
 pub overflow_add-i : goal.overflow_add-i
 overflow_add-i c =
