@@ -70,47 +70,39 @@ fn count_headers(s: &[u8], at: usize) -> HeaderCount
     ensures { result ≡ tally 0 (heads s.now at) }
 {
     let mut p = at;
-    let mut n: usize = 0;
-    loop {
-        match extra_at(s, p) {
-            None => {
-                return HeaderCount { count: n, end: p };
-            }
-            Some((_, next)) => {
-                p = next;
-                n += 1;
-            }
-        }
+    let mut n = 0;
+    while let Some((_, next)) = extra_at(s, p) {
+        p = next;
+        n += 1;
     }
+    HeaderCount { count: n, end: p }
 }
 
 // An author's or committer's line at a place: 11 where it is missing, 12 where its value has not the actor form.
 fn actor_at(s: &[u8], at: usize, word: &[u8], field: usize) -> Result<(usize, usize), Refusal>
     ensures { result ≡ actor_at s.now at word.now field }
 {
-    match value_line(s, at, word) {
-        None => Err(Refusal {
+    let Some((from, to)) = value_line(s, at, word) else {
+        return Err(Refusal {
             verdict: Verdict {
                 number: COMMIT_FIELD,
                 place: at,
                 ..FINE
             },
-            field: field,
-        }),
-        Some((from, to)) => {
-            if is_actor(&s[from..to]) {
-                return Ok((from, to));
-            }
-            Err(Refusal {
-                verdict: Verdict {
-                    number: ACTOR,
-                    place: at,
-                    ..FINE
-                },
-                field: 0,
-            })
-        }
+            field,
+        });
+    };
+    if !is_actor(&s[from..to]) {
+        return Err(Refusal {
+            verdict: Verdict {
+                number: ACTOR,
+                place: at,
+                ..FINE
+            },
+            field: 0,
+        });
     }
+    Ok((from, to))
 }
 
 // The encoding's line at a place.
@@ -180,16 +172,9 @@ fn ending(s: &[u8], n: usize, a: usize, e: usize, b: usize, f: usize) -> Result<
 fn people(s: &[u8], n: usize, p: usize) -> Result<Found, Refusal>
     ensures { result ≡ people_of s.now n p }
 {
-    match actor_at(s, p, b"author", 2) {
-        Err(r) => Err(r),
-        Ok((a, e)) => {
-            let q = e + 1;
-            match actor_at(s, q, b"committer", 3) {
-                Err(x) => Err(x),
-                Ok((b, f)) => ending(s, n, a, e, b, f),
-            }
-        }
-    }
+    let (a, e) = actor_at(s, p, b"author", 2)?;
+    let (b, f) = actor_at(s, e + 1, b"committer", 3)?;
+    ending(s, n, a, e, b, f)
 }
 
 // Where the parts stand, or the first field that fails.
@@ -217,34 +202,31 @@ pub fn decide(s: &[u8], h: usize, np: usize, nh: usize) -> Result<Found, Refusal
     ensures { result ≡ outcome_of s.now h np nh }
 {
     match bounds(h, s.len(), longer(np, nh)) {
-        Err(verdict) => Err(Refusal { verdict, field: 0 }),
-        Ok(()) => match fields(s, h) {
-            Err(r) => Err(r),
-            Ok(f) => {
-                let n = f.parents;
-                let m = f.headers;
-                if np < n {
-                    return Err(Refusal {
-                        verdict: Verdict {
-                            number: FEW_RECORDS,
-                            place: n,
-                            ..FINE
-                        },
-                        field: 0,
-                    });
-                }
-                if nh < m {
-                    return Err(Refusal {
-                        verdict: Verdict {
-                            number: FEW_RECORDS,
-                            place: m,
-                            ..FINE
-                        },
-                        field: 0,
-                    });
-                }
-                Ok(f)
-            }
-        },
+        Err(verdict) => return Err(Refusal { verdict, field: 0 }),
+        Ok(()) => {}
     }
+    let f = fields(s, h)?;
+    let n = f.parents;
+    let m = f.headers;
+    if np < n {
+        return Err(Refusal {
+            verdict: Verdict {
+                number: FEW_RECORDS,
+                place: n,
+                ..FINE
+            },
+            field: 0,
+        });
+    }
+    if nh < m {
+        return Err(Refusal {
+            verdict: Verdict {
+                number: FEW_RECORDS,
+                place: m,
+                ..FINE
+            },
+            field: 0,
+        });
+    }
+    Ok(f)
 }

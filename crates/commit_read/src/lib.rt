@@ -27,14 +27,10 @@ fn fill_parents(out: &mut [usize], n: usize, at: usize, h: usize)
     requires h_bound { at + n * (8 + 2 * h) < 18446744073709551616 }
     ensures { out.new ≡ stored h out.old 0 at n }
 {
-    let mut left = n;
-    let mut i: usize = 0;
     let mut p = at;
-    while left != 0 {
+    for i in 0..n {
         out[i] = p + 7;
-        p = p + (8 + 2 * h);
-        i += 1;
-        left -= 1;
+        p += 8 + 2 * h;
     }
 }
 
@@ -62,9 +58,8 @@ fn fill_headers(s: &[u8], at: usize, out: &mut [usize])
 fn refused(r: Refusal) -> CommitRead
     ensures { result ≡ refused_read r }
 {
-    let verdict = r.verdict;
     CommitRead {
-        verdict: verdict,
+        verdict: r.verdict,
         field: r.field,
         parents: 0,
         headers: 0,
@@ -87,13 +82,12 @@ fn refused(r: Refusal) -> CommitRead
 fn done(f: Found) -> CommitRead
     ensures { result ≡ done_read f }
 {
-    let parts = f.parts;
     CommitRead {
         verdict: FINE,
         field: 0,
         parents: f.parents,
         headers: f.headers,
-        parts: parts,
+        parts: f.parts,
     }
 }
 
@@ -112,11 +106,8 @@ pub fn read_commit(
     match decide(bytes, h, parents.len(), room) {
         Err(r) => refused(r),
         Ok(f) => {
-            let at = 6 + 2 * h;
-            let n = f.parents;
-            let first = f.first;
-            fill_parents(parents, n, at, h);
-            fill_headers(bytes, first, headers);
+            fill_parents(parents, f.parents, 6 + 2 * h, h);
+            fill_headers(bytes, f.first, headers);
             done(f)
         }
     }

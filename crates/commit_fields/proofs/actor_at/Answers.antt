@@ -14,23 +14,19 @@ slice_bounds-is_actor-start c = omega (arith, line-fits _ _ _ _ _ (sym c.value_l
 pub slice_bounds-is_actor-end : goal.slice_bounds-is_actor-end
 slice_bounds-is_actor-end c = omega (arith, line-fits _ _ _ _ _ (sym c.value_line.ensures ∙ c.in-Some.is))
 
-pub returns-then-is_actor : goal.returns-then-is_actor
-returns-then-is_actor c =
-    let from = c.in-Some in
-    let value_line = c.value_line in
-    let args = c.args in
-    sym (actor_good args.s.now args.at args.word.now args.field _ _ (sym value_line.ensures ∙ from.is)
-    (sym c.is_actor.ensures ∙ c.if-is_actor.true))
+pub returns-in_default : goal.returns-in_default
+returns-in_default c =
+    let a = c.args in
+    sym (actor_missing a.s.now a.at a.word.now a.field (sym c.value_line.ensures ∙ c.in_default.is))
 
-pub returns-in-None : goal.returns-in-None
-returns-in-None c =
-    let args = c.args in
-    sym (actor_missing args.s.now args.at args.word.now args.field (sym c.value_line.ensures ∙ c.in-None.is))
+pub returns-then-not-is_actor : goal.returns-then-not-is_actor
+returns-then-not-is_actor c =
+    let a = c.args in
+    sym (actor_bad a.s.now a.at a.word.now a.field _ _ (sym c.value_line.ensures ∙ c.in-Some.is)
+    (sym c.is_actor.ensures ∙ c.if-not-is_actor.true))
 
-pub returns-else-is_actor : goal.returns-else-is_actor
-returns-else-is_actor c =
-    let from = c.in-Some in
-    let value_line = c.value_line in
-    let args = c.args in
-    sym (actor_bad args.s.now args.at args.word.now args.field _ _ (sym value_line.ensures ∙ from.is)
-    (sym c.is_actor.ensures ∙ c.if-is_actor.false))
+pub returns : goal.returns
+returns c =
+    let a = c.args in
+    sym (actor_good a.s.now a.at a.word.now a.field _ _ (sym c.value_line.ensures ∙ c.in-Some.is)
+    (sym c.is_actor.ensures ∙ c.if-not-is_actor.false))

@@ -9,10 +9,10 @@ use Rattle.commit_fields.proofs.count_headers.Goals as goal
 pub loop-next-init : goal.loop-next-init
 loop-next-init c = (omega arith, refl)
 
-pub returns-in-None : goal.returns-in-None
-returns-in-None c =
+pub returns : goal.returns
+returns c =
     let loop = c.loop-next in
-    sym (loop.invariant.1 ∙ tally_end loop.n _ (heads_end _ _ _ (sym c.extra_at.ensures ∙ c.in-None.is)))
+    sym (loop.invariant.1 ∙ tally_end loop.n _ (heads_end _ _ _ (sym c.extra_at.ensures ∙ c.in_default.is)))
 
 pub overflow_add-n : goal.overflow_add-n
 overflow_add-n c = let x = extra_next _ _ (sym c.extra_at.ensures ∙ c.in-Some.is) in omega (arith, x)

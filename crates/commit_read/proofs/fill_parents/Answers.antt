@@ -1,55 +1,40 @@
 -- `commit_read::fill_parents` meets its contract. Assumes nothing.
-use Prim.Native.Nat.{◌+◌, ◌*◌}
-use mathlib.Core.Path.{refl, sym, ◌∙◌}
-use native.Mathlib.Omega.{arith}
-use lib.ListN.{length-set}
+use Rattle.std.proofs.Common.{◌≡◌, ◌+◌, ◌-◌, ◌*◌, sym, ap, ◌∙◌, refl, set, arith}
+use native.Mathlib.Nat.{sub-zero}
+use Rattle.commit_read.specs.Stored.{stored}
 use Rattle.commit_read.proofs.Laws.{stored-none, stored_more, one_less}
 use Rattle.commit_read.proofs.fill_parents.Goals as goal
 
-pub loop-left-init : goal.loop-left-init
-loop-left-init c = (omega arith, refl, c.requires.h_bound, refl)
+pub loop-i-init : goal.loop-i-init
+loop-i-init c = record { inside = rw sub-zero c.requires.h_bound; rest = rw sub-zero refl }
 
 pub overflow_add-out : goal.overflow_add-out
 overflow_add-out c =
-    omega (arith, c.loop-left.invariant.2, one_less c.loop-left.p c.loop-left.left (8 + 2 * c.args.h) c.loop-left-test.true)
-
-pub bounds-out-i : goal.bounds-out-i
-bounds-out-i c = omega (arith, c.loop-left.invariant.0, c.loop-left.invariant.1, c.requires.n_in_bounds, c.loop-left-test.true)
+    let l = c.loop-i in
+    omega (arith, l.invariant.inside, one_less l.p (c.args.n - l.i) (8 + 2 * c.args.h) (omega (arith, c.loop-i-test.true)))
 
 pub overflow_mul-p : goal.overflow_mul-p
 overflow_mul-p c =
-    omega (arith, c.loop-left.invariant.2, one_less c.loop-left.p c.loop-left.left (8 + 2 * c.args.h) c.loop-left-test.true)
+    let l = c.loop-i in
+    omega (arith, l.invariant.inside, one_less l.p (c.args.n - l.i) (8 + 2 * c.args.h) (omega (arith, c.loop-i-test.true)))
 
 pub overflow_add-p : goal.overflow_add-p
 overflow_add-p c =
-    omega (arith, c.loop-left.invariant.2, one_less c.loop-left.p c.loop-left.left (8 + 2 * c.args.h) c.loop-left-test.true)
+    let l = c.loop-i in
+    omega (arith, l.invariant.inside, one_less l.p (c.args.n - l.i) (8 + 2 * c.args.h) (omega (arith, c.loop-i-test.true)))
 
-pub overflow_add-p-in-loop-left : goal.overflow_add-p-in-loop-left
-overflow_add-p-in-loop-left c =
-    omega (arith, c.loop-left.invariant.2, one_less c.loop-left.p c.loop-left.left (8 + 2 * c.args.h) c.loop-left-test.true)
-
-pub overflow_add-i : goal.overflow_add-i
-overflow_add-i c = omega (arith, c.loop-left.invariant.0)
-
-pub loop-left-preserved : goal.loop-left-preserved
-loop-left-preserved c =
-    let args = c.args in (
-      omega (arith, c.loop-left.invariant.0, c.loop-left-test.true),
-      simp length-set c.loop-left.invariant.1,
-      omega (
-        arith,
-        c.loop-left.invariant.2,
-        one_less c.loop-left.p c.loop-left.left (8 + 2 * args.h)
-            c.loop-left-test.true,
-      ),
-      c.loop-left.invariant.3 ∙ stored_more args.h c.loop-left.out c.loop-left.i c.loop-left.p
-          c.loop-left.left c.loop-left-test.true,
-    )
-
-pub shape_of-out : goal.shape_of-out
-shape_of-out c = c.loop-left.invariant.1
+pub loop-i-preserved : goal.loop-i-preserved
+loop-i-preserved c =
+    let a = c.args in
+    let l = c.loop-i in
+    let some : a.n - l.i ≡ 0 → ⊥ = λ e. omega (arith, c.loop-i-test.true) in
+    let z : a.n - l.i - 1 ≡ a.n - (l.i + 1) = omega arith in
+    record {
+      inside = omega (arith, l.invariant.inside, one_less l.p (a.n - l.i) (8 + 2 * a.h) some, ap (λ k. k * (8 + 2 * a.h)) z);
+      rest = l.invariant.rest ∙ stored_more a.h l.out l.i l.p (a.n - l.i) some ∙ ap (stored a.h (set l.out l.i (l.p + 7)) (l.i + 1) (l.p + (8 + 2 * a.h))) z;
+    }
 
 pub returns : goal.returns
 returns c =
-    sym (c.loop-left.invariant.3 ∙ stored-none c.args.h c.loop-left.out c.loop-left.i c.loop-left.p
-    c.loop-left.left c.loop-left-test.false)
+    let l = c.loop-i in
+    sym (l.invariant.rest ∙ stored-none c.args.h l.out l.i l.p (c.args.n - l.i) (omega (arith, c.loop-i-test.false)))

@@ -5,11 +5,11 @@ use Rattle.commit_fields.proofs.Laws.{outcome_fits}
 use Rattle.commit_read.proofs.Laws.{answer_fails, answer-whole, parents-kept, headers-kept, parents-done, headers-done}
 use Rattle.commit_read.proofs.read_commit.Goals as goal
 
-pub overflow_mul-at : goal.overflow_mul-at
-overflow_mul-at c = omega (arith, (outcome_fits _ _ _ _ _ (sym c.decide.ensures ∙ c.in-Ok.is)).small)
+pub overflow_mul-h : goal.overflow_mul-h
+overflow_mul-h c = omega (arith, (outcome_fits _ _ _ _ _ (sym c.decide.ensures ∙ c.in-Ok.is)).small)
 
-pub overflow_add-at : goal.overflow_add-at
-overflow_add-at c = omega (arith, (outcome_fits _ _ _ _ _ (sym c.decide.ensures ∙ c.in-Ok.is)).small)
+pub overflow_add-h : goal.overflow_add-h
+overflow_add-h c = omega (arith, (outcome_fits _ _ _ _ _ (sym c.decide.ensures ∙ c.in-Ok.is)).small)
 
 pub fill_parents-requires : goal.fill_parents-requires
 fill_parents-requires c =
