@@ -29,7 +29,7 @@ use Rattle.arriving.specs.declared.Phase.{Phase}
 use Rattle.arriving.specs.declared.Phase.TheVariants.{Head, Name, Id}
 use Rattle.arriving.specs.declared.Marks.{Marks}
 use Rattle.arriving.specs.declared.Check.{Check}
-use Rattle.arriving.specs.Feed.{together, refuse, meet, name_marks, name_held, longer, is_over, judged, leaves_none, placing, ends_next, next_entry, placed, closed, closed_ends, id_marks, id_ends, body, bodies, head_step, over_in, over, turn_in, byte_step, feed_of, fresh, start_of, head_part, end_in, finish_of, most_held, body_in}
+use Rattle.arriving.specs.Feed.{together, refuse, meet, name_marks, name_held, longer, is_over, judged, placing, ends_next, next_entry, placed, closed, closed_ends, id_marks, id_ends, body, bodies, head_step, over_in, over, turn_in, byte_step, feed_of, fresh, start_of, head_part, end_in, finish_of, most_held, body_in}
 use Rattle.doubles.specs.declared.Misplaced.{Misplaced}
 use Rattle.doubles.specs.declared.Misplaced.TheVariants.{Double, NotAfter}
 use Rattle.std.specs.Prelude.{Err, None, Ok, Option, Result, Some}
@@ -157,12 +157,6 @@ module _ (held : List ℕ) (last : Last) (l : Line) where
 -- what is answered, and what is open then
 abbrev pub Closes : List ℕ → Marks → Line → ℕ → Marks → List ℕ → Type 0
 Closes ends m l n r left = (r ≡ closed ends m l n) × (left ≡ closed_ends ends m l n)
-
-pub leaves-folder : (last : Last) → last.folder ≡ true → true ≡ leaves_none last
-leaves-folder last e = rw e
-
-pub leaves-file : (last : Last) → last.folder ≡ false → eqb last.size 0 ≡ leaves_none last
-leaves-file last e = rw e
 
 module _ (ends : List ℕ) (m : Marks) (l : Line) (n : ℕ) where
   pub closed-refused : (n ≡ 0 → ⊥) → Closes ends m l n (refuse m (verdict n m.first)) ends
@@ -332,11 +326,10 @@ module _ (m : Marks) where
     pub over-mode : (a : EntryMode) (i : ℕ) → read_mode (take k m.head) ≡ Some (a, i) → refuse m (verdict 2 0) ≡ over_in m m.phase
     over-mode a i r = rw (e, ne_eqb k 0 z, r)
 
-  pub over-name : (l : Line) → m.phase ≡ Name l → refuse m (verdict 2 0) ≡ over_in m m.phase
-  over-name l e = rw e
-
-  pub over-id : (l : Line) (left : ℕ) → m.phase ≡ Id l left → refuse m (verdict 2 0) ≡ over_in m m.phase
-  over-id l left e = rw e
+  pub over-past_mode : ((x : Line) × (m.phase ≡ Name x)) ⊎ ((x : Line) × (left : ℕ) × (m.phase ≡ Id x left))
+      → refuse m (verdict 2 0) ≡ over_in m m.phase
+  over-past_mode (inl (x, e)) = rw e
+  over-past_mode (inr (x, left, e)) = rw e
 
 -- ---- a byte
 

@@ -17,7 +17,8 @@ pub enum Stand {
     NotOver,
 }
 
-// The entry before: how many bytes its name has, and whether it is a folder. An empty name says that there is none.
+// The entry before: how many bytes its name has, and whether it is a folder. An empty name says that there is none, and no Option: any two
+// of the numbers that C lends are an entry before (include/sarpukten.h), and come back as they were (`marks_back`).
 #[derive(Clone, Copy)]
 pub struct Last {
     pub size: usize,
@@ -60,7 +61,7 @@ pub struct Marks {
 }
 
 // The check: the held name, which the name that arrives overwrites; the lengths of the names of earlier files with which it begins, the
-// longest last; and the marks.
+// longest last; and the marks. The code takes the three apart, since C lends the two rooms one by one (`sarpukten_check_piece`).
 #[derive(Clone, Copy)]
 pub struct Check {
     pub held: [u8; 4096],

@@ -3,7 +3,7 @@
 
 ghost use Rattle.std.specs.Prelude.{◌≡◌};
 ghost use Rattle.bundle.specs.Bundle.{check_of};
-ghost use Rattle.border_bundle.specs.Border.{object_asked, checked_numbers, object_numbers};
+ghost use Rattle.border_bundle.specs.Border.{no_object, object_asked, checked_numbers, object_numbers};
 
 use finding::find_object;
 use ground::{FINE, NOT_THERE, Verdict, longer, sizes};
@@ -28,27 +28,29 @@ pub fn check_bundle(bytes: &[u8], answer: &mut [usize; 6]) -> usize
     v.number
 }
 
+// A refusal has no kind and no place.
+fn no_object(verdict: Verdict) -> Object
+    ensures { result ≡ no_object verdict }
+{
+    Object {
+        verdict,
+        kind: 0,
+        start: 0,
+        end: 0,
+    }
+}
+
 // The object of an id: refusals 2, 15.
 pub fn object_of(bytes: &[u8], id: &[u8]) -> Object
     ensures { result ≡ object_asked bytes.now id.now }
 {
     match sizes(longer(bytes.len(), id.len()), 0) {
-        Err(v) => Object {
-            verdict: v,
-            kind: 0,
-            start: 0,
-            end: 0,
-        },
+        Err(v) => no_object(v),
         Ok(()) => match find_object(bytes, id) {
-            None => Object {
-                verdict: Verdict {
-                    number: NOT_THERE,
-                    ..FINE
-                },
-                kind: 0,
-                start: 0,
-                end: 0,
-            },
+            None => no_object(Verdict {
+                number: NOT_THERE,
+                ..FINE
+            }),
             Some(f) => Object {
                 verdict: FINE,
                 kind: f.kind,

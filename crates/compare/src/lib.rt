@@ -1,7 +1,7 @@
 // Git's comparison of two names by words and blocks, for the lookup (docs/FORMAT.md, "Order"): what `order::name_order` answers, in fewer steps and more code.
 #![tactic(auto)]
 
-ghost use Rattle.std.specs.Prelude.{◌≡◌, ◌+◌, ◌≤◌, ◌<◌, length, take, drop};
+ghost use Rattle.std.specs.Prelude.{◌≡◌, false, true, ◌+◌, ◌≤◌, length, take, drop};
 ghost use Rattle.order.specs.Order.{name_order};
 ghost use Rattle.compare.specs.Told.{NumberOf, Within, Ready, Told};
 
@@ -95,27 +95,22 @@ fn order_few(a: &[u8], b: &[u8], n: usize) -> Ordering
     requires { Within a.now b.now n }
     ensures { Told a.now b.now n result }
 {
-    let mut i = 0;
-    while i < n {
+    for i in 0..n {
         if a[i] < b[i] {
             return Ordering::Less;
         }
         if b[i] < a[i] {
             return Ordering::Greater;
         }
-        i += 1;
     }
     Ordering::Equal
 }
 
-// By their first n bytes, at most eight: the first four, and the last four, which may overlap them.
-fn under_8(a: &[u8], b: &[u8], n: usize) -> Ordering
-    requires { Within a.now b.now n × (n ≤ 8) }
+// By their first n bytes, four or more, and at most eight: the first four, and the last four, which may overlap them.
+fn from_4(a: &[u8], b: &[u8], n: usize) -> Ordering
+    requires { Within a.now b.now n × (4 ≤ n) × (n ≤ 8) }
     ensures { Told a.now b.now n result }
 {
-    if n < 4 {
-        return order_few(a, b, n);
-    }
     match order_4(a, b, 0) {
         Ordering::Less => Ordering::Less,
         Ordering::Equal => order_4(a, b, n - 4),
@@ -123,14 +118,11 @@ fn under_8(a: &[u8], b: &[u8], n: usize) -> Ordering
     }
 }
 
-// By their first n bytes, at most sixteen.
-fn under_16(a: &[u8], b: &[u8], n: usize) -> Ordering
-    requires { Within a.now b.now n × (n ≤ 16) }
+// By their first n bytes, eight or more, and at most sixteen.
+fn from_8(a: &[u8], b: &[u8], n: usize) -> Ordering
+    requires { Within a.now b.now n × (8 ≤ n) × (n ≤ 16) }
     ensures { Told a.now b.now n result }
 {
-    if n < 8 {
-        return under_8(a, b, n);
-    }
     match order_8(a, b, 0) {
         Ordering::Less => Ordering::Less,
         Ordering::Equal => order_8(a, b, n - 8),
@@ -150,21 +142,19 @@ fn from_16(a: &[u8], b: &[u8], n: usize) -> Ordering
     }
 }
 
-// 0 where two names that agree up to a place agree in the n bytes from there on too, and 1 where not. The loop has no way out.
-fn differ(a: &[u8], b: &[u8], i: usize, n: usize) -> u8
+// Whether two names that agree up to a place differ in the n bytes from there on. The loop has no way out, so that many are looked at at once.
+fn differ(a: &[u8], b: &[u8], i: usize, n: usize) -> bool
     requires { Ready a.now b.now i n }
-    ensures none { result ≡ 0 → take (i + n) a.now ≡ take (i + n) b.now }
-    ensures some { (result ≡ 0 → ⊥) → take (i + n) a.now ≡ take (i + n) b.now → ⊥ }
+    ensures none { result ≡ false → take (i + n) a.now ≡ take (i + n) b.now }
+    ensures some { result ≡ true → take (i + n) a.now ≡ take (i + n) b.now → ⊥ }
 {
-    let mut hit: u8 = 0;
-    let mut k: usize = 0;
-    while k < n {
+    let mut found = false;
+    for k in 0..n {
         if a[i + k] != b[i + k] {
-            hit = 1;
+            found = true;
         }
-        k += 1;
     }
-    hit
+    found
 }
 
 // By their first n bytes, thirty-two or more, and at most sixty-four.
@@ -172,7 +162,7 @@ fn from_32(a: &[u8], b: &[u8], n: usize) -> Ordering
     requires { Within a.now b.now n × (32 ≤ n) × (n ≤ 64) }
     ensures { Told a.now b.now n result }
 {
-    if differ(a, b, 0, 16) != 0 {
+    if differ(a, b, 0, 16) {
         return order_16(a, b, 0);
     }
     match order_16(a, b, 16) {
@@ -187,10 +177,11 @@ fn after_64(a: &[u8], b: &[u8], n: usize) -> Ordering
     requires { Within a.now b.now n × (take 64 a.now ≡ take 64 b.now) × (64 ≤ n) }
     ensures { Told a.now b.now n result }
 {
+    // By place: the last block ends with the names, and may overlap the one before.
     let last = n - 32;
     let mut i = 64;
     while i < last {
-        if differ(a, b, i, 32) != 0 {
+        if differ(a, b, i, 32) {
             return order_32(a, b, i);
         }
         i += 32;
@@ -215,10 +206,10 @@ fn from_64(a: &[u8], b: &[u8], n: usize) -> Ordering
     requires { Within a.now b.now n × (64 ≤ n) }
     ensures { Told a.now b.now n result }
 {
-    if differ(a, b, 0, 32) != 0 {
+    if differ(a, b, 0, 32) {
         return order_32(a, b, 0);
     }
-    if differ(a, b, 32, 16) != 0 {
+    if differ(a, b, 32, 16) {
         return order_16(a, b, 32);
     }
     after_48(a, b, n)
@@ -229,16 +220,14 @@ fn by_first(a: &[u8], b: &[u8], n: usize) -> Ordering
     requires { Within a.now b.now n }
     ensures { Told a.now b.now n result }
 {
-    if 64 <= n {
-        return from_64(a, b, n);
+    match n {
+        64.. => from_64(a, b, n),
+        32..64 => from_32(a, b, n),
+        16..32 => from_16(a, b, n),
+        8..16 => from_8(a, b, n),
+        4..8 => from_4(a, b, n),
+        0..4 => order_few(a, b, n),
     }
-    if 32 <= n {
-        return from_32(a, b, n);
-    }
-    if 16 <= n {
-        return from_16(a, b, n);
-    }
-    under_16(a, b, n)
 }
 
 // Names of any length and with any bytes; each says whether it is a tree's.

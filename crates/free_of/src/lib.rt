@@ -11,6 +11,7 @@ fn is_free_far(s: &[u8], x: u8) -> bool
     requires { 32 ≤ length s.now }
     ensures { result ≡ free_of x s.now }
 {
+    // By place: the last block ends with the bytes.
     let last = s.len() - 32;
     let mut at = 0;
     while at < last {

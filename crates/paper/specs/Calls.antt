@@ -314,6 +314,7 @@ piece_questions =
     ∷ call piece_judge.sharing.Kinds.ps piece_judge.sharing.Kinds.r piece_judge.sharing.Reads.Asked piece_judge.sharing.Reads.Post
     ∷ call piece_judge.judge.Kinds.ps piece_judge.judge.Kinds.r piece_judge.judge.Reads.Asked piece_judge.judge.Reads.Post
     ∷ call piece_marks.fresh.Kinds.ps piece_marks.fresh.Kinds.r piece_marks.fresh.Reads.Asked piece_marks.fresh.Reads.Post
+    ∷ call piece_marks.refuse.Kinds.ps piece_marks.refuse.Kinds.r piece_marks.refuse.Reads.Asked piece_marks.refuse.Reads.Post
     ∷ call piece_marks.placed_at.Kinds.ps piece_marks.placed_at.Kinds.r piece_marks.placed_at.Reads.Asked piece_marks.placed_at.Reads.Post
     ∷ call piece_marks.is_full.Kinds.ps piece_marks.is_full.Kinds.r piece_marks.is_full.Reads.Asked piece_marks.is_full.Reads.Post
     ∷ call piece_marks.over.Kinds.ps piece_marks.over.Kinds.r piece_marks.over.Reads.Asked piece_marks.over.Reads.Post

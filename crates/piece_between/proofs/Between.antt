@@ -1,95 +1,22 @@
--- The ways through the tests, and what they say. Assumes nothing.
-use Prim.Native.Nat.{ℕ, ◌+◌, ◌-◌, ◌≤◌, ◌<◌}
+-- What the tests say, and the marks after some entries. Assumes nothing.
+use Prim.Native.Nat.{ℕ, ◌+◌, ◌≤◌, ◌<◌}
 use native.Mathlib.Omega.{arith}
-use mathlib.Core.Path.{◌≡◌, refl, ap, sym, ◌∙◌}
+use mathlib.Core.Path.{◌≡◌, ap, ◌∙◌}
 use mathlib.Core.Bool.{Bool, true, false, ◌&&◌}
 use mathlib.Core.List.{List}
 use lib.Dec.{eqb, ltb, leb}
-use lib.ListN.{replicate}
-use borrow.Author.Tests.{eq-eqb, ne_eqb, eqb-true, ltb-true, lt-ltb, le-ltb, leb-true, leb-false, le-leb, lt-leb}
+use borrow.Author.Tests.{eqb-true, ltb-true, leb-true}
 use Rattle.ground.specs.Verdict.{verdict, fine, most_bytes}
 use Rattle.ground.specs.declared.Verdict.{Verdict}
 use Rattle.ground.proofs.Laws.{and_left, and_right}
 use Rattle.arriving.specs.Feed.{most_held, fresh}
-use Rattle.arriving.specs.declared.Last.{Last}
-use Rattle.arriving.specs.declared.Line.{Line}
 use Rattle.arriving.specs.declared.Phase.{Phase}
 use Rattle.arriving.specs.declared.Phase.TheVariants.{Head, Name, Id}
 use Rattle.arriving.specs.declared.Marks.{Marks}
 use Rattle.piece_between.specs.Between.{is_next, is_fine, is_after, is_first, is_between, head_after, ran_of}
 use Rattle.piece_run.specs.declared.Run.{Run}
 
--- ---- the ways through the tests
-
--- none of an entry's first bytes has come
-pub next-is : (p : Phase) (k : ℕ) → p ≡ Head k → eqb k 0 ≡ is_next p
-next-is p k e = rw e
-
-pub next-name : (p : Phase) (l : Line) → p ≡ Name l → false ≡ is_next p
-next-name p l e = rw e
-
-pub next-id : (p : Phase) (l : Line) (left : ℕ) → p ≡ Id l left → false ≡ is_next p
-next-id p l left e = rw e
-
--- nothing is refused
-pub fine-number : (v : Verdict) → (v.number ≡ 0 → ⊥) → false ≡ is_fine v
-fine-number v n = rw (ne_eqb v.number 0 n)
-
-pub fine-place : (v : Verdict) → v.number ≡ 0 → (v.place ≡ 0 → ⊥) → false ≡ is_fine v
-fine-place v e n = rw (eq-eqb v.number 0 e, ne_eqb v.place 0 n)
-
-pub fine-part : (v : Verdict) → v.number ≡ 0 → v.place ≡ 0 → eqb v.part 0 ≡ is_fine v
-fine-part v e f = rw (eq-eqb v.number 0 e, eq-eqb v.place 0 f)
-
--- there is an entry before
-pub after_none : (last : Last) → last.size ≡ 0 → false ≡ is_after last
-after_none last e = rw (le-ltb 0 last.size (omega arith))
-
-pub after-some : (last : Last) → (last.size ≡ 0 → ⊥) → leb last.size most_held ≡ is_after last
-after-some last n = rw (lt-ltb 0 last.size (omega arith))
-
--- an entry begins at a place
-module _ (at first left : ℕ) where
-  pub first-not : (first ≡ at → ⊥) → false ≡ is_first at first left
-  first-not n = rw (ne_eqb first at n)
-
-  module _ (e : first ≡ at) where
-    pub first_past : most_bytes < at → false ≡ is_first at first left
-    first_past w = rw (eq-eqb first at e, lt-leb (at + left) most_bytes (omega arith))
-
-    pub first-within : at ≤ most_bytes → leb left (most_bytes - at) ≡ is_first at first left
-    first-within w = rw (eq-eqb first at e) (go (leb left (most_bytes - at)) refl)
-      where
-        go : (v : Bool) → leb left (most_bytes - at) ≡ v → v ≡ leb (at + left) most_bytes
-        go true z = sym (le-leb (at + left) most_bytes (omega (arith, leb-true left (most_bytes - at) z)))
-        go false z = sym (lt-leb (at + left) most_bytes (omega (arith, leb-false left (most_bytes - at) z)))
-
--- all of them, one after the other
-module _ (m : Marks) (left : ℕ) where
-  pub between_next : is_next m.phase ≡ false → false ≡ is_between m left
-  unfolding is_between
-  between_next a = rw a
-
-  module _ (a : is_next m.phase ≡ true) where
-    pub between-fine : is_fine m.verdict ≡ false → false ≡ is_between m left
-    unfolding is_between
-    between-fine b = rw (a, b)
-
-    module _ (b : is_fine m.verdict ≡ true) where
-      pub between-after : is_after m.last ≡ false → false ≡ is_between m left
-      unfolding is_between
-      between-after c = rw (a, b, c)
-
-      module _ (c : is_after m.last ≡ true) where
-        pub between_first : is_first m.at m.first left ≡ false → false ≡ is_between m left
-        unfolding is_between
-        between_first d = rw (a, b, c, d)
-
-        pub between-long : is_first m.at m.first left ≡ true → ltb 8 m.h ≡ is_between m left
-        unfolding is_between
-        between-long d = rw (a, b, c, d)
-
--- ---- what they say
+-- ---- what the tests say
 
 -- an entry begins, after one before, and so many bytes more keep the bound
 pub record Between (m : Marks) (left : ℕ) : Type 0 where
@@ -142,12 +69,6 @@ between_is m left e =
     }
 
 -- ---- the marks after some entries
-
-pub head-same : (head : List ℕ) (i next : ℕ) → next ≡ i → head ≡ head_after head i next
-head-same head i next e = rw (eq-eqb next i e)
-
-pub head-new : (head : List ℕ) (i next : ℕ) → (next ≡ i → ⊥) → replicate 8 0 ≡ head_after head i next
-head-new head i next e = rw (ne_eqb next i e)
 
 module _ (m : Marks) (at all i : ℕ) (t : Run) where
   pub ran_double : t.double ≡ true → (x : Marks) → x ≡ fresh m.h m.rules (verdict 17 at) → record { marks = x; next = all } ≡ ran_of m at all i t

@@ -31,10 +31,7 @@ fn head_part(head: [u8; 8], k: usize) -> usize
         None => NO_MODE,
         Some((_, at)) => {
             let end = find_nul(&head[..n], at);
-            if n <= end {
-                return NO_NUL;
-            }
-            CUT_ID
+            if n <= end { NO_NUL } else { CUT_ID }
         }
     }
 }

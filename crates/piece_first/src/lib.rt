@@ -16,6 +16,7 @@ fn bodies(held: &mut [u8; 4096], ends: &mut [u32; 4097], m: Marks, head: [u8; 8]
     ensures { together held.new ends.new result ≡ bodies (together held.old ends.old m) (drop n head) }
 {
     let mut out = m;
+    // By index: n may be past the eighth byte, where no part of the array begins.
     for k in n..8 {
         out = body_within(held, ends, out, head[k]);
     }

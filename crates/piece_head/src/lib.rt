@@ -8,7 +8,7 @@ ghost use Rattle.piece_head.specs.Head.{begun_at, begin_at, head_at};
 use arriving::{Line, Marks, Phase, Stand, Taken};
 use ground::{BOUND, BROKEN_ENTRY, FINE, NO_MODE, Verdict};
 use mode::EntryMode;
-use piece_marks::{fresh, is_full, placed_at, refuse};
+use piece_marks::{is_full, placed_at, refuse};
 use rules::mode_permitted;
 
 // The marks where the name begins, n bytes past the entry's first.
@@ -32,22 +32,20 @@ fn begin(m: Marks, at: usize, head: [u8; 8]) -> Taken
 {
     match EntryMode::extract_at(&head, 0) {
         None => {
-            let first = m.first;
-            let marks = fresh(
-                m.h,
-                m.rules,
-                Verdict {
-                    number: BROKEN_ENTRY,
-                    place: first,
-                    part: NO_MODE,
-                },
-            );
-            Taken { marks, next: 8 }
+            let verdict = Verdict {
+                number: BROKEN_ENTRY,
+                place: m.first,
+                part: NO_MODE,
+            };
+            Taken {
+                marks: refuse(m, verdict),
+                next: 8,
+            }
         }
-        Some((mode, n)) => {
-            let marks = begun(m, at, head, mode, n);
-            Taken { marks, next: n }
-        }
+        Some((mode, n)) => Taken {
+            marks: begun(m, at, head, mode, n),
+            next: n,
+        },
     }
 }
 
@@ -56,20 +54,22 @@ pub fn head_byte(m: Marks, at: usize, k: usize, b: u8) -> Taken
     ensures { result ≡ head_at m at k b }
 {
     if is_full(k, m.count) {
-        let marks = refuse(
-            m,
-            Verdict {
-                number: BOUND,
-                ..FINE
-            },
-        );
-        return Taken { marks, next: 8 };
+        let verdict = Verdict {
+            number: BOUND,
+            ..FINE
+        };
+        return Taken {
+            marks: refuse(m, verdict),
+            next: 8,
+        };
     }
     let mut head = m.head;
     if k < 7 {
         head[k] = b;
-        let marks = placed_at(m, at, head, Phase::Head(k + 1));
-        return Taken { marks, next: 8 };
+        return Taken {
+            marks: placed_at(m, at, head, Phase::Head(k + 1)),
+            next: 8,
+        };
     }
     head[7] = b;
     begin(m, at, head)

@@ -69,7 +69,8 @@ fn is_over(held: &[u8], last: Last, l: Line) -> bool
     }
 }
 
-// What the rules say of a finished entry by itself and after the one before: 5, 6, 18, 7 or 0.
+// What the rules say of a finished entry by itself and after the one before: 5, 6, 18, 7 or 0, numbers of the one table that `name_number`
+// and C answer with (docs/FORMAT.md, "Numbers").
 pub fn judge(held: &[u8], last: Last, l: Line) -> usize
     ensures { result ≡ judged held.now last l }
 {

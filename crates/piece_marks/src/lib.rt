@@ -65,62 +65,31 @@ fn read_head(head: [u8; 8], k: usize) -> Option<(EntryMode, usize)>
     EntryMode::extract_at(&head[..n], 0)
 }
 
+// What a byte past the bound settles.
+fn over_verdict(m: Marks) -> Verdict
+    ensures { refuse m result ≡ over_in m m.phase }
+{
+    let bound = Verdict {
+        number: BOUND,
+        ..FINE
+    };
+    match m.phase {
+        Phase::Head(0) => bound,
+        Phase::Head(k) => match read_head(m.head, k) {
+            None => Verdict {
+                number: BROKEN_ENTRY,
+                place: m.first,
+                part: NO_MODE,
+            },
+            Some(_) => bound,
+        },
+        Phase::Name(_) | Phase::Id(_, _) => bound,
+    }
+}
+
 // A byte past the bound.
 pub fn over(m: Marks) -> Marks
     ensures { result ≡ over_in m m.phase }
 {
-    let phase = m.phase;
-    match phase {
-        Phase::Head(k) => {
-            if k == 0 {
-                return fresh(
-                    m.h,
-                    m.rules,
-                    Verdict {
-                        number: BOUND,
-                        ..FINE
-                    },
-                );
-            }
-            let head = m.head;
-            match read_head(head, k) {
-                None => {
-                    let first = m.first;
-                    fresh(
-                        m.h,
-                        m.rules,
-                        Verdict {
-                            number: BROKEN_ENTRY,
-                            place: first,
-                            part: NO_MODE,
-                        },
-                    )
-                }
-                Some((_, _)) => fresh(
-                    m.h,
-                    m.rules,
-                    Verdict {
-                        number: BOUND,
-                        ..FINE
-                    },
-                ),
-            }
-        }
-        Phase::Name(_) => fresh(
-            m.h,
-            m.rules,
-            Verdict {
-                number: BOUND,
-                ..FINE
-            },
-        ),
-        Phase::Id(_, _) => fresh(
-            m.h,
-            m.rules,
-            Verdict {
-                number: BOUND,
-                ..FINE
-            },
-        ),
-    }
+    refuse(m, over_verdict(m))
 }

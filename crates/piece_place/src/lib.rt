@@ -35,7 +35,6 @@ pub fn place(
             put(held, 0, name);
             r
         }
-        Ordering::Equal => Err(Misplaced::NotAfter),
-        Ordering::Greater => Err(Misplaced::NotAfter),
+        Ordering::Equal | Ordering::Greater => Err(Misplaced::NotAfter),
     }
 }

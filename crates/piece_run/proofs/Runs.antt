@@ -2,11 +2,10 @@
 use Prim.Native.Nat.{ℕ, suc, ◌+◌, ◌-◌, ◌≤◌, ◌<◌}
 use native.Mathlib.Omega.{arith}
 use mathlib.Core.Path.{◌≡◌, refl, ap, sym, ◌∙◌}
-use mathlib.Core.Bool.{Bool, true, false}
+use mathlib.Core.Bool.{Bool}
 use mathlib.Core.List.{List}
-use lib.Dec.{eqb}
 use lib.ListN.{length}
-use borrow.Author.Tests.{eq-eqb, ne_eqb, eqb-false, lt-ltb, le-ltb}
+use borrow.Author.Tests.{eq-eqb, ne_eqb, lt-ltb, le-ltb}
 use Rattle.ground.specs.Basics.{pick, part}
 use Rattle.ground.specs.Verdict.{most_records}
 use Rattle.arriving.specs.Feed.{most_held}
@@ -19,35 +18,32 @@ use Rattle.piece_run.specs.Runs.{Going, going, run_after, placed_in, taken_in, m
 use Rattle.piece_run.specs.declared.Run.{Run}
 use Rattle.doubles.specs.declared.Misplaced.{Misplaced}
 use Rattle.doubles.specs.declared.Misplaced.TheVariants.{Double, NotAfter}
-use Rattle.std.specs.Prelude.{Err, Ok, Result}
+use Rattle.std.specs.Prelude.{Option, None, Some, Err, Ok, Result}
 
 -- ---- one whole entry more
 
 -- an entry that is seen lies inside
-pub seen-inside : (s : List ℕ) (i h : ℕ) (e : Seen) → e ≡ seen_at s i h → (e.end ≡ 0 → ⊥)
-    → (e.start ≤ e.end) × (e.end ≤ length s) × (e.end + 1 + h ≤ length s)
-seen-inside s i h e q n = lies_within s i h e (lies s i h e q n)
+pub seen-inside : (s : List ℕ) (i h : ℕ) (e : Seen) → Some e ≡ seen_at s i h → (e.start ≤ e.end) × (e.end ≤ length s) × (e.end + 1 + h ≤ length s)
+seen-inside s i h e q = lies_within s i h e (lies s i h e q)
 
 -- a run, the held name and the open names are those of another
 abbrev pub Are : Run → List ℕ → List ℕ → Going → Type 0
 Are r held ends g = (r ≡ g.run) × ((held ≡ g.held) × (ends ≡ g.ends))
 
-module _ (s : List ℕ) (h : ℕ) (r : Run) (held ends : List ℕ) (e : Seen) (q : e ≡ seen_at s r.next h) where
-  pub more-none : e.end ≡ 0 → Are r held ends (one_more s h (going r held ends))
+module _ (s : List ℕ) (h : ℕ) (r : Run) (held ends : List ℕ) where
+  pub more-none : None ≡ seen_at s r.next h → Are r held ends (one_more s h (going r held ends))
   unfolding one_more
-  more-none z =
-      let x : more_by (going r held ends) s h (seen_at s r.next h) ≡ going r held ends
-      = ap (more_by (going r held ends) s h) (sym q) ∙ ap (λ (v : Bool). pick v (going r held ends) (taken_in (going r held ends) s h e)) (eq-eqb e.end 0 z) in
+  more-none q =
+      let x : more_by (going r held ends) s h (seen_at s r.next h) ≡ going r held ends = ap (more_by (going r held ends) s h) (sym q) in
       rw x (refl, (refl, refl))
 
-  module _ (n : e.end ≡ 0 → ⊥) (p : Result ℕ Misplaced) (left after : List ℕ)
+  module _ (e : Seen) (q : Some e ≡ seen_at s r.next h) (p : Result ℕ Misplaced) (left after : List ℕ)
       (w : Put held ends r.last r.ended (part e.start e.end s) e.folder p left after) where
     pub more-is : Are (run_after r h e p) after left (one_more s h (going r held ends))
     unfolding one_more
     more-is =
         let x : more_by (going r held ends) s h (seen_at s r.next h) ≡ taken_in (going r held ends) s h e
-        = ap (more_by (going r held ends) s h) (sym q) ∙ ap (λ (v : Bool). pick v (going r held ends) (taken_in (going r held ends) s h e)) (ne_eqb
-        e.end 0 n) in
+        = ap (more_by (going r held ends) s h) (sym q) in
         rw x (
           ap (run_after r h e) w.0,
           (w.1.1 ∙ ap (λ (y : Result ℕ Misplaced). held_after y held (part e.start e.end s)) w.0, w.1.0),
@@ -64,31 +60,33 @@ module _ (s : List ℕ) (h : ℕ) (r : Run) (held ends : List ℕ) (e : Seen) (q
 
 -- its name can be held, and a run that goes on has one entry more
 module _ (s : List ℕ) (h : ℕ) (g : Going) where
-  abbrev seen· : Seen
-  seen· = seen_at s g.run.next h
+  fits-placed : (e : Seen) → e.end - e.start ≤ most_held → g.run.last.size ≤ most_held → (p : Result ℕ Misplaced)
+      → (run_after g.run h e p).last.size ≤ most_held
+  fits-placed e l f (Ok k) = l
+  fits-placed e l f (Err NotAfter) = f
+  fits-placed e l f (Err Double) = f
 
-  fits_by : (v : Bool) (p : Result ℕ Misplaced) (a b : List ℕ) → (v ≡ false → seen·.end - seen·.start ≤ most_held) → g.run.last.size ≤ most_held
-      → (pick v g (going (run_after g.run h seen· p) a b)).run.last.size ≤ most_held
-  fits_by true p a b l f = f
-  fits_by false (Ok k) a b l f = l refl
-  fits_by false (Err NotAfter) a b l f = f
-  fits_by false (Err Double) a b l f = f
+  fits_by : (o : Option Seen) → ((e : Seen) → Some e ≡ o → e.end - e.start ≤ most_held) → g.run.last.size ≤ most_held
+      → (more_by g s h o).run.last.size ≤ most_held
+  fits_by None l f = f
+  fits_by (Some e) l f = fits-placed e (l e refl) f (placed_in g s e)
 
   pub one-fits : g.run.last.size ≤ most_held → (one_more s h g).run.last.size ≤ most_held
   unfolding one_more
-  one-fits f =
-      fits_by (eqb seen·.end 0) (placed_in g s seen·) _ _ (λ z. (lies s g.run.next h seen· refl (eqb-false seen·.end 0 z)).small) f
+  one-fits f = fits_by (seen_at s g.run.next h) (λ e q. (lies s g.run.next h e q).small) f
 
-  count_by : (v : Bool) (p : Result ℕ Misplaced) (a b : List ℕ) → ((pick v g (going (run_after g.run h seen· p) a b)).run.next ≡ g.run.next → ⊥)
-      → (pick v g (going (run_after g.run h seen· p) a b)).run.count ≡ g.run.count + 1
-  count_by true p a b n = absurd (n refl)
-  count_by false (Ok k) a b n = refl
-  count_by false (Err NotAfter) a b n = absurd (n refl)
-  count_by false (Err Double) a b n = absurd (n refl)
+  count-placed : (e : Seen) (p : Result ℕ Misplaced) → ((run_after g.run h e p).next ≡ g.run.next → ⊥) → (run_after g.run h e p).count ≡ g.run.count + 1
+  count-placed e (Ok k) n = refl
+  count-placed e (Err NotAfter) n = absurd (n refl)
+  count-placed e (Err Double) n = absurd (n refl)
+
+  count_by : (o : Option Seen) → ((more_by g s h o).run.next ≡ g.run.next → ⊥) → (more_by g s h o).run.count ≡ g.run.count + 1
+  count_by None n = absurd (n refl)
+  count_by (Some e) n = count-placed e (placed_in g s e) n
 
   pub one-counts : ((one_more s h g).run.next ≡ g.run.next → ⊥) → (one_more s h g).run.count ≡ g.run.count + 1
   unfolding one_more
-  one-counts n = count_by (eqb seen·.end 0) (placed_in g s seen·) _ _ n
+  one-counts n = count_by (seen_at s g.run.next h) n
 
   from-same : (n : ℕ) → n ≡ suc (n - 1) → (one_more s h g).run.next ≡ g.run.next → all_from n s h g ≡ one_more s h g
   unfolding all_from

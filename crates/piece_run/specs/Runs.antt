@@ -1,5 +1,5 @@
 -- Whole entries of a piece, one after the other. Assumes nothing.
-use Rattle.std.specs.Prelude.{ℕ, zero, suc, ◌+◌, ◌-◌, true, false, List, eqb, ltb, take, Err, Ok, Result}
+use Rattle.std.specs.Prelude.{ℕ, zero, suc, ◌+◌, ◌-◌, true, false, List, eqb, ltb, take, Option, None, Some, Err, Ok, Result}
 use Rattle.ground.specs.Basics.{pick, part}
 use Rattle.ground.specs.Verdict.{most_records}
 use Rattle.doubles.specs.Stack.{place_of, marks_of}
@@ -38,8 +38,9 @@ open_in g s e = marks_of g.ends g.run.ended (take g.run.last.size g.held) g.run.
 abbrev pub taken_in : Going → List ℕ → ℕ → Seen → Going
 taken_in g s h e = going (run_after g.run h e (placed_in g s e)) (held_after (placed_in g s e) g.held (part e.start e.end s)) (open_in g s e)
 
-abbrev pub more_by : Going → List ℕ → ℕ → Seen → Going
-more_by g s h e = pick (eqb e.end 0) g (taken_in g s h e)
+abbrev pub more_by : Going → List ℕ → ℕ → Option Seen → Going
+more_by g s h None = g
+more_by g s h (Some e) = taken_in g s h e
 
 -- one whole entry more, if there is one
 unfoldable pub one_more : List ℕ → ℕ → Going → Going

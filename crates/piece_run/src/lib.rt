@@ -13,7 +13,7 @@ use piece_place::place;
 use piece_seen::seen_at;
 
 // Whole entries of a piece, one after the other: the place behind them, how many entries are finished, the last of them, how many names are
-// open, and whether the name of the entry at the place was there before.
+// open, and whether the name of the entry at the place was there before: a flag, since a run that ends there keeps all the rest.
 #[derive(Clone, Copy)]
 pub struct Run {
     pub next: usize,
@@ -30,35 +30,29 @@ fn one_entry(held: &mut [u8; 4096], ends: &mut [u32; 4097], r: Run, piece: &[u8]
     ensures held { held.new ≡ (one_more piece.now h (going r held.old ends.old)).held }
     ensures ends { ends.new ≡ (one_more piece.now h (going r held.old ends.old)).ends }
 {
-    let i = r.next;
-    let e = seen_at(piece, i, h);
-    let start = e.start;
-    let end = e.end;
-    if end == 0 {
+    let Some(e) = seen_at(piece, r.next, h) else {
         return r;
-    }
-    let last = r.last;
-    match place(held, ends, last, r.ended, &piece[start..end], e.folder) {
+    };
+    match place(
+        held,
+        ends,
+        r.last,
+        r.ended,
+        &piece[e.start..e.end],
+        e.folder,
+    ) {
         Ok(k) => Run {
-            next: end + 1 + h,
+            next: e.end + 1 + h,
             count: r.count + 1,
             last: Last {
-                size: end - start,
+                size: e.end - e.start,
                 folder: e.folder,
             },
             ended: k,
             double: false,
         },
-        Err(why) => match why {
-            Misplaced::NotAfter => r,
-            Misplaced::Double => Run {
-                next: i,
-                count: r.count,
-                last,
-                ended: r.ended,
-                double: true,
-            },
-        },
+        Err(Misplaced::NotAfter) => r,
+        Err(Misplaced::Double) => Run { double: true, ..r },
     }
 }
 
@@ -78,6 +72,7 @@ pub fn all_entries(
     if MOST_HELD < r.last.size {
         return r;
     }
+    // The run's own count is what each turn adds one to, so no `for` counts beside it.
     while r.count < MOST_RECORDS {
         let t = one_entry(held, ends, r, piece, h);
         if t.next == r.next {

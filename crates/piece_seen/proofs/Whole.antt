@@ -14,11 +14,12 @@ use Rattle.mode_code.specs.Code.{code_at, quick_at}
 use Rattle.mode_code.proofs.Laws.{quick_is-code, code_inside}
 use Rattle.rules.specs.Rules.{bare_number}
 use Rattle.arriving.specs.Feed.{most_held}
-use Rattle.piece_seen.specs.Whole.{none_seen, seen_to, seen_by, seen_at}
+use Rattle.piece_seen.specs.Whole.{seen_to, seen_by, seen_at}
 use Rattle.piece_seen.specs.declared.Seen.{Seen}
+use Rattle.std.specs.Prelude.{Option, None, Some}
 
 module _ (s : List ℕ) (i h code : ℕ) (q : code ≡ quick_at s i) where
-  pub no_code : code ≡ 0 → none_seen ≡ seen_at s i h
+  pub no_code : code ≡ 0 → None ≡ seen_at s i h
   unfolding seen_at
   no_code z = rw (eq-eqb (quick_at s i) 0 (sym q ∙ z))
 
@@ -31,26 +32,26 @@ module _ (s : List ℕ) (i h code : ℕ) (q : code ≡ quick_at s i) where
 
     by_code : seen_at s i h ≡ seen_by s i h code
     unfolding seen_at
-    by_code = ap (λ (v : Bool). pick v none_seen (seen_by s i h (quick_at s i))) (ne_eqb (quick_at s i) 0 (λ z. n (q ∙ z))) ∙ ap (seen_by s i h) (sym q)
+    by_code = ap (λ (v : Bool). pick v None (seen_by s i h (quick_at s i))) (ne_eqb (quick_at s i) 0 (λ z. n (q ∙ z))) ∙ ap (seen_by s i h) (sym q)
 
     module _ (end : ℕ) (e : end ≡ place_from 0 s (i + code % 16)) where
       by_end : seen_at s i h ≡ seen_to s h (i + code % 16) (code / 16) end
       by_end = by_code ∙ ap (seen_to s h (i + code % 16) (code / 16)) (sym e)
 
-      pub no-id : length s - end ≤ h → none_seen ≡ seen_at s i h
+      pub no-id : length s - end ≤ h → None ≡ seen_at s i h
       no-id w = sym (by_end ∙ rw (le-leb (length s - end) h w))
 
       module _ (w : h < length s - end) where
-        pub too_long : most_held < end - (i + code % 16) → none_seen ≡ seen_at s i h
+        pub too_long : most_held < end - (i + code % 16) → None ≡ seen_at s i h
         too_long l = sym (by_end ∙ rw (lt-leb (length s - end) h w, lt-ltb most_held (end - (i + code % 16)) l))
 
         module _ (l : end - (i + code % 16) ≤ most_held) (number : ℕ) (u : number ≡ bare_number (part (i + code % 16) end s)) where
-          pub ill_named : (number ≡ 0 → ⊥) → none_seen ≡ seen_at s i h
+          pub ill_named : (number ≡ 0 → ⊥) → None ≡ seen_at s i h
           ill_named z =
               sym (by_end ∙ rw (lt-leb (length s - end) h w, le-ltb most_held (end - (i + code % 16)) l, ← u, ne_eqb number 0 z))
 
           pub well_named : number ≡ 0 → (folder : Bool) → folder ≡ is_tree (code / 16)
-              → record { start = i + code % 16; end = end; folder = folder } ≡ seen_at s i h
+              → Some (record { start = i + code % 16; end = end; folder = folder }) ≡ seen_at s i h
           well_named z folder f =
               sym (by_end ∙ rw (lt-leb (length s - end) h w, le-ltb most_held (end - (i + code % 16)) l, ← u, eq-eqb number 0 z, f))
 
@@ -64,8 +65,8 @@ pub record Lies (s : List ℕ) (i h : ℕ) (e : Seen) : Type 0 where
   pub small : e.end - e.start ≤ most_held
   pub named : bare_number (part e.start e.end s) ≡ 0
 
-pub lies : (s : List ℕ) (i h : ℕ) (e : Seen) → e ≡ seen_at s i h → (e.end ≡ 0 → ⊥) → Lies s i h e
-lies s i h e q n = first (eqb code· 0) refl
+pub lies : (s : List ℕ) (i h : ℕ) (e : Seen) → Some e ≡ seen_at s i h → Lies s i h e
+lies s i h e q = first (eqb code· 0) refl
   where
     code· : ℕ
     code· = quick_at s i
@@ -76,13 +77,16 @@ lies s i h e q n = first (eqb code· 0) refl
     end· : ℕ
     end· = place_from 0 s (i + quick_at s i % 16)
 
-    none : none_seen ≡ seen_at s i h → ⊥
-    none z = n (ap (λ (r : Seen). r.end) (q ∙ sym z))
+    none : None ≡ seen_at s i h → ⊥
+    none z = let y : ◌≡◌ {A = Option Seen} None (Some e) = z ∙ sym q in absurd (cc)
 
     fourth : (code· ≡ 0 → ⊥) → h < length s - end· → end· - start· ≤ most_held → (v : Bool) → eqb (bare_number (part start· end· s)) 0 ≡ v → Lies s i h e
     fourth c w l true z =
         let named = eqb-true (bare_number (part start· end· s)) 0 z in
-        rw (q ∙ sym (well_named s i h code· refl c end· refl w l _ refl named (is_tree (code· / 16)) refl))
+        let y : ◌≡◌ {A = Option Seen} (Some e) (Some (record { start = start·; end = end·; folder = is_tree (code· / 16) }))
+        = q ∙ sym (well_named s i h code· refl c end· refl w l _ refl named (is_tree (code· / 16)) refl) in
+        let x : e ≡ record { start = start·; end = end·; folder = is_tree (code· / 16) } = cc in
+        rw x
         (record { code = c; starts = refl; sort = refl; ends = refl; whole = w; small = l; named = named })
     fourth c w l false z = absurd (none (ill_named s i h code· refl c end· refl w l _ refl (eqb-false _ 0 z)))
 

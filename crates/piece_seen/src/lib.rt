@@ -11,7 +11,7 @@ use mode_code::quick_code;
 use rules::name_number;
 use scan::find_nul;
 
-// Where the name of a whole entry begins and ends, and whether it is a folder; the end is 0 where there is none.
+// Where the name of a whole entry begins and ends, and whether it is a folder.
 #[derive(Clone, Copy)]
 pub struct Seen {
     pub start: usize,
@@ -19,37 +19,31 @@ pub struct Seen {
     pub folder: bool,
 }
 
-const NONE_SEEN: Seen = Seen {
-    start: 0,
-    end: 0,
-    folder: false,
-};
-
 // The entry at a place of a piece, if it lies in it whole, its mode is one of the five, and nothing is said of its name.
-pub fn seen_at(piece: &[u8], i: usize, h: usize) -> Seen
+pub fn seen_at(piece: &[u8], i: usize, h: usize) -> Option<Seen>
     ensures { result ≡ seen_at piece.now i h }
 {
     let code = quick_code(piece, i);
     if code == 0 {
-        return NONE_SEEN;
+        return None;
     }
     let start = i + code % 16;
     let end = find_nul(piece, start);
     if piece.len() - end <= h {
-        return NONE_SEEN;
+        return None;
     }
     if MOST_HELD < end - start {
-        return NONE_SEEN;
+        return None;
     }
     if name_number(&piece[start..end]) != DONE {
-        return NONE_SEEN;
+        return None;
     }
     let mode = EntryMode {
         internal: (code / 16) as u16,
     };
-    Seen {
+    Some(Seen {
         start,
         end,
         folder: mode.is_tree(),
-    }
+    })
 }

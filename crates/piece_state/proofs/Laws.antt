@@ -75,10 +75,6 @@ marks_back m q =
 
 -- ---- the code
 
-pub line-is : {w f a b : Bool} {size shared : ℕ} {s t : Stand} → w ≡ a → f ≡ b → s ≡ t → line_of w f size shared s ≡ line_of a b size shared t
-line-is {f = f} {a = a} {b = b} {size = size} {shared = shared} {s = s} p q r =
-    ap (λ (x : Bool). line_of x f size shared s) p ∙ ap (λ (x : Bool). line_of a x size shared s) q ∙ ap (line_of a b size shared) r
-
 pub marks_are : (l first : List ℕ) {k : ℕ} {f : Bool} {p : Phase} {line : Line} → k ≡ set_said (get_or l 4 0) → f ≡ is_yes (get_or l 9 0)
     → p ≡ phase_said (get_or l 11 0) (get_or l 12 0) line → line ≡ line_said l → changed (marks_said l first) k f p ≡ marks_said l first
 marks_are l first {k} {f} {p} a b c d =

@@ -40,7 +40,7 @@ use Rattle.piece_seen.specs.Whole.{seen_at}
 use Rattle.piece_seen.specs.declared.Seen.{Seen}
 use Rattle.piece_seen.proofs.Whole.{Lies, lies, code_fits}
 use Rattle.piece_place.specs.Place.{held_after}
-use Rattle.piece_run.specs.Runs.{Going, going, run_after, placed_in, open_in, one_more, all_from, all_of}
+use Rattle.piece_run.specs.Runs.{Going, going, run_after, placed_in, open_in, more_by, one_more, all_from, all_of}
 use Rattle.piece_run.specs.declared.Run.{Run}
 use Rattle.piece_run.proofs.Runs.{Are, one-counts, all_begin}
 use Rattle.piece_between.specs.Between.{head_after, ran_of}
@@ -340,51 +340,44 @@ module _ (s : List ℕ) (h : ℕ) where
   held-long (Err Double) held name = length-sets held 0 name
 
   module _ (g : Going) (room : length g.held ≡ most_held) where
-    abbrev seen· : Seen
-    seen· = seen_at s g.run.next h
-
-    abbrev name· : List ℕ
-    name· = part seen·.start seen·.end s
-
-    abbrev by· : Bool → Result ℕ Misplaced → Going
-    by· v p = pick v g (going (run_after g.run h seen· p) (held_after p g.held name·) (open_in g s seen·))
-
-    room_by : (v : Bool) (p : Result ℕ Misplaced) → length (by· v p).held ≡ most_held
-    room_by true p = room
-    room_by false p = held-long p g.held name· ∙ room
+    room_by : (o : Option Seen) → length (more_by g s h o).held ≡ most_held
+    room_by None = room
+    room_by (Some e) = held-long (placed_in g s e) g.held (part e.start e.end s) ∙ room
 
     one-room : length (one_more s h g).held ≡ most_held
     unfolding one_more
-    one-room = room_by (eqb seen·.end 0) (placed_in g s seen·)
+    one-room = room_by (seen_at s g.run.next h)
 
-    single-by : (v : Bool) (p : Result ℕ Misplaced) → ((by· v p).run.next ≡ g.run.next → ⊥) → (by· v p).run.double ≡ false
-    single-by true p n = absurd (n refl)
-    single-by false (Ok k) n = refl
-    single-by false (Err NotAfter) n = absurd (n refl)
-    single-by false (Err Double) n = absurd (n refl)
+    single-placed : (e : Seen) (p : Result ℕ Misplaced) → ((run_after g.run h e p).next ≡ g.run.next → ⊥) → (run_after g.run h e p).double ≡ false
+    single-placed e (Ok k) n = refl
+    single-placed e (Err NotAfter) n = absurd (n refl)
+    single-placed e (Err Double) n = absurd (n refl)
+
+    single-by : (o : Option Seen) → ((more_by g s h o).run.next ≡ g.run.next → ⊥) → (more_by g s h o).run.double ≡ false
+    single-by None n = absurd (n refl)
+    single-by (Some e) n = single-placed e (placed_in g s e) n
 
     one_single : ((one_more s h g).run.next ≡ g.run.next → ⊥) → (one_more s h g).run.double ≡ false
     unfolding one_more
-    one_single n = single-by (eqb seen·.end 0) (placed_in g s seen·) n
+    one_single n = single-by (seen_at s g.run.next h) n
 
     module _ (w : Runs s h g.run) (few : g.run.count < most_records) where
-      placed_went : Whole s g.run.next h seen· → (p : Result ℕ Misplaced) → p ≡ placed_in g s seen·
-          → Went g.held g.ends g.run s h (held_after p g.held name·) (open_in g s seen·) (run_after g.run h seen· p)
-      placed_went o (Ok k) u =
-          went_fine g.held g.ends g.run s h w few room seen· o (Ok k) u (open_in g s seen·) refl (sets g.held 0 name·) refl k refl
-      placed_went o (Err NotAfter) u = went_not g.held g.ends g.run s h w few room seen· o (Err NotAfter) u (open_in g s seen·) refl g.held refl refl
-      placed_went o (Err Double) u =
-          went_double g.held g.ends g.run s h w few room seen· o (Err Double) u (open_in g s seen·) refl (sets g.held 0 name·) refl refl
+      placed_went : (e : Seen) → Whole s g.run.next h e → (p : Result ℕ Misplaced) → p ≡ placed_in g s e
+          → Went g.held g.ends g.run s h (held_after p g.held (part e.start e.end s)) (open_in g s e) (run_after g.run h e p)
+      placed_went e o (Ok k) u =
+          went_fine g.held g.ends g.run s h w few room e o (Ok k) u (open_in g s e) refl (sets g.held 0 (part e.start e.end s)) refl k refl
+      placed_went e o (Err NotAfter) u = went_not g.held g.ends g.run s h w few room e o (Err NotAfter) u (open_in g s e) refl g.held refl refl
+      placed_went e o (Err Double) u =
+          went_double g.held g.ends g.run s h w few room e o (Err Double) u (open_in g s e) refl (sets g.held 0 (part e.start e.end s)) refl refl
 
-      went_by : (v : Bool) → eqb seen·.end 0 ≡ v
-          → Went g.held g.ends g.run s h (by· v (placed_in g s seen·)).held (by· v (placed_in g s seen·)).ends (by· v (placed_in g s seen·)).run
-      went_by true z = went_none g.held g.ends g.run s h w
-      went_by false z =
-          placed_went (whole_of s g.run.next h seen· (lies s g.run.next h seen· refl (eqb-false seen·.end 0 z))) (placed_in g s seen·) refl
+      went_by : (o : Option Seen) → o ≡ seen_at s g.run.next h
+          → Went g.held g.ends g.run s h (more_by g s h o).held (more_by g s h o).ends (more_by g s h o).run
+      went_by None q = went_none g.held g.ends g.run s h w
+      went_by (Some e) q = placed_went e (whole_of s g.run.next h e (lies s g.run.next h e q)) (placed_in g s e) refl
 
       one_went : Went g.held g.ends g.run s h (one_more s h g).held (one_more s h g).ends (one_more s h g).run
       unfolding one_more
-      one_went = went_by (eqb seen·.end 0) refl
+      one_went = went_by (seen_at s g.run.next h) refl
 
   all_room : (n : ℕ) (g : Going) → length g.held ≡ most_held → length (all_from n s h g).held ≡ most_held
   unfolding all_from

@@ -17,7 +17,7 @@ fn eight(s: &[u8], i: usize) -> u64
     requires { i + 8 ≤ length s.now }
     ensures { WordOf (take 8 (drop i s.now)) result }
 {
-    // By index: so written they are read at once.
+    // By index: so written the eight bytes are read at once.
     u64::from_le_bytes([
         s[i],
         s[i + 1],
@@ -71,6 +71,7 @@ fn find_near(s: &[u8], from: usize, x: u8) -> usize
     requires { from ≤ length s.now }
     ensures { result ≡ place_from x s.now from }
 {
+    // By place: where eight bytes stand is part of the answer, and fewer are left at the end.
     let mut i = from;
     while 8 <= s.len() - i {
         let m = marks_at(s, i, x);
@@ -82,7 +83,7 @@ fn find_near(s: &[u8], from: usize, x: u8) -> usize
     find_last(s, i, x)
 }
 
-// Whether no byte is x, of a few: each is looked at, so that many are at once.
+// Whether no byte is x. Each is looked at: the loop has no way out, so that many are looked at at once.
 pub fn lacks(s: &[u8], x: u8) -> bool
     ensures { result ≡ free_of x s.now }
 {
@@ -118,6 +119,7 @@ pub fn find_byte(s: &[u8], from: usize, x: u8) -> usize
     if s.len() < from {
         return from;
     }
+    // By place: where a block stands is part of the answer, and less than one is left at the end.
     let mut i = from;
     while 32 <= s.len() - i {
         if !lacks(&s[i..i + 32], x) {
@@ -141,6 +143,7 @@ fn skip(s: &[u8], from: usize) -> Option<usize>
     ensures { MatchOption result (place_from 0 s.now from ≡ length s.now) (λ at. (at + 32 ≤ length s.now) × (place_from 0 s.now from ≡ place_from 0 s.now at)
         × (place_from 0 s.now at < at + 32)) }
 {
+    // By place: where the block stands is the answer.
     let last = s.len() - 32;
     let mut at = from;
     while at < last {
@@ -191,6 +194,7 @@ pub fn find_nul_or_slash(s: &[u8], from: usize) -> usize
     if s.len() < from {
         return from;
     }
+    // By place: where a block stands is part of the answer, and less than one is left at the end.
     let mut i = from;
     while 16 <= s.len() - i {
         let block = &s[i..i + 16];
@@ -225,6 +229,7 @@ pub fn common_start(a: &[u8], b: &[u8]) -> usize
     ensures { result ≡ common_start a.now b.now }
 {
     let n = shorter(a.len(), b.len());
+    // By place: where eight bytes stand is part of the answer, and fewer are left at the end.
     let mut i = 0;
     while 8 <= n - i {
         let d = eight(a, i) ^ eight(b, i);

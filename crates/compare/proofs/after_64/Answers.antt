@@ -24,15 +24,15 @@ order_32-requires c =
     let loop = c.loop-i in
     ready-after args.a.now args.b.now loop.i args.n loop.i 32 loop.invariant.1 pre.0 (omega arith) (omega arith)
 
-pub returns-then-differ-ne0 : goal.returns-then-differ-ne0
-returns-then-differ-ne0 c =
+pub returns-then-differ : goal.returns-then-differ
+returns-then-differ c =
     let args = c.args in
     let loop = c.loop-i in
     let order-32 = c.order_32 in
-    told_differ args.a.now args.b.now (loop.i + 32) args.n order-32.result order-32.ensures (c.differ.ensures.some c.if-differ-ne0.true)
+    told_differ args.a.now args.b.now (loop.i + 32) args.n order-32.result order-32.ensures (c.differ.ensures.some c.if-differ.true)
 
 pub loop-i-preserved : goal.loop-i-preserved
-loop-i-preserved c = (omega arith, c.differ.ensures.none c.if-differ-ne0.false)
+loop-i-preserved c = (omega arith, c.differ.ensures.none c.if-differ.false)
 
 pub order_32-requires-2 : goal.order_32-requires-2
 order_32-requires-2 c =

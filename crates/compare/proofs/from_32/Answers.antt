@@ -4,17 +4,17 @@ use native.Mathlib.Omega.{arith}
 use Rattle.compare.proofs.Laws.{ready-after, told_same, told_at, told_below, told_above, told_differ}
 use Rattle.compare.proofs.from_32.Goals as goal
 
-pub returns-then-differ-ne0 : goal.returns-then-differ-ne0
-returns-then-differ-ne0 c =
+pub returns-then-differ : goal.returns-then-differ
+returns-then-differ c =
     let args = c.args in
     let order-16 = c.order_16 in
-    told_differ args.a.now args.b.now 16 args.n order-16.result order-16.ensures (c.differ.ensures.some c.if-differ-ne0.true)
+    told_differ args.a.now args.b.now 16 args.n order-16.result order-16.ensures (c.differ.ensures.some c.if-differ.true)
 
 pub order_16-requires-2 : goal.order_16-requires-2
 order_16-requires-2 c =
     let args = c.args in
     let pre = c.requires in
-    ready-after args.a.now args.b.now 16 args.n 16 16 (c.differ.ensures.none c.if-differ-ne0.false) pre.0 (omega arith) (omega (arith, pre.1))
+    ready-after args.a.now args.b.now 16 args.n 16 16 (c.differ.ensures.none c.if-differ.false) pre.0 (omega arith) (omega (arith, pre.1))
 
 pub order_32-requires : goal.order_32-requires
 order_32-requires c =

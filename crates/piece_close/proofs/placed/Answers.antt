@@ -1,9 +1,7 @@
 -- `piece_close::placed` meets its contract. Assumes nothing.
-use Prim.Native.Nat.{ℕ}
-use mathlib.Core.Path.{◌≡◌, ap, ◌∙◌}
-use Rattle.std.specs.Prelude.{Result, Err}
+use mathlib.Core.Path.{ap, ◌∙◌}
+use Rattle.std.specs.Prelude.{Err}
 use Rattle.doubles.specs.declared.Misplaced.{Misplaced}
-use Rattle.doubles.specs.declared.Misplaced.TheVariants.{Double, NotAfter}
 use Rattle.piece_close.proofs.Laws.{placed-fine, placed_double, placed-not}
 use Rattle.piece_close.proofs.placed.Goals as goal
 

@@ -1,7 +1,6 @@
 -- `piece_first::bodies` meets its contract. Assumes nothing.
 use borrow.Author.Rules.{rules}
 use mathlib.Core.Path.{refl, sym, ◌∙◌}
-use Prim.Native.Nat.{◌-◌}
 use native.Mathlib.Omega.{arith}
 use Rattle.arriving.specs.Feed.{together}
 use Rattle.arriving.proofs.Laws.{bodies-turn, bodies_end}

@@ -1,5 +1,6 @@
 -- `piece_place::place` meets its contract. Assumes nothing.
 use native.Mathlib.Omega.{arith}
+use mathlib.Core.Logic.{inl, inr}
 use lib.ListN.{length-take}
 use Rattle.piece_place.proofs.Placing.{up_to, put_all, put_same, put_above, put-below}
 use Rattle.piece_place.proofs.place.Goals as goal
@@ -27,22 +28,14 @@ returns-in-Less c =
 
 pub returns-in-Equal : goal.returns-in-Equal
 returns-in-Equal c =
-    let r = (let args = c.args in
-    let shorter = c.shorter-size in
-    let common-start = c.common_start-shared in
-    let by_next = c.by_next in
-    put_all args.held.now args.ends.now args.last args.ended args.name.now args.folder shorter.result shorter.ensures
-    (put_same args.held.now args.ends.now (up_to args.last shorter.result) args.ended args.name.now args.folder
-    common-start.result common-start.ensures by_next.result by_next.ensures c.in-Equal.is)) in
-    record { placed = r.0; ends = r.1.0; held = r.1.1 }
-
-pub returns-in-Greater : goal.returns-in-Greater
-returns-in-Greater c =
-    let r = (let args = c.args in
-    let shorter = c.shorter-size in
-    let common-start = c.common_start-shared in
-    let by_next = c.by_next in
-    put_all args.held.now args.ends.now args.last args.ended args.name.now args.folder shorter.result shorter.ensures
-    (put_above args.held.now args.ends.now (up_to args.last shorter.result) args.ended args.name.now args.folder
-    common-start.result common-start.ensures by_next.result by_next.ensures c.in-Greater.is)) in
+    let x = c.args in
+    let upto = up_to x.last c.shorter-size.result in
+    let r =
+    put_all x.held.now x.ends.now x.last x.ended x.name.now x.folder c.shorter-size.result c.shorter-size.ensures
+    (elim c.in-Equal.is [
+      | inl e ↦ put_same x.held.now x.ends.now upto x.ended x.name.now x.folder c.common_start-shared.result
+          c.common_start-shared.ensures c.by_next.result c.by_next.ensures e
+      | inr e ↦ put_above x.held.now x.ends.now upto x.ended x.name.now x.folder c.common_start-shared.result
+          c.common_start-shared.ensures c.by_next.result c.by_next.ensures e
+    ]) in
     record { placed = r.0; ends = r.1.0; held = r.1.1 }

@@ -1,6 +1,5 @@
 -- `piece_run::all_entries` meets its contract. Assumes nothing.
 use native.Mathlib.Omega.{arith}
-use Prim.Native.Nat.{◌-◌}
 use Rattle.piece_run.proofs.Runs.{all_none, all_begin, all_end, all_stops, one-counted, all_goes, all_fits}
 use Rattle.piece_run.proofs.all_entries.Goals as goal
 

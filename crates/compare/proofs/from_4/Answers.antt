@@ -1,7 +1,7 @@
 use Prim.Native.Nat.{◌+◌, ◌-◌}
 use native.Mathlib.Omega.{arith}
 use Rattle.compare.proofs.Laws.{ready-after, told_same, told_at, told_below, told_above}
-use Rattle.compare.proofs.under_8.Goals as goal
+use Rattle.compare.proofs.from_4.Goals as goal
 
 pub order_4-requires-in-Equal : goal.order_4-requires-in-Equal
 order_4-requires-in-Equal c =
@@ -10,7 +10,7 @@ order_4-requires-in-Equal c =
     let order-4 = c.order_4 in
     let enum-told2 = c.in-Equal in
     ready-after args.a.now args.b.now 4 args.n (args.n - 4) 4 (told_same args.a.now args.b.now 4 order-4.ensures enum-told2.is)
-    pre.0 (omega (arith, pre.1)) (omega arith)
+    pre.0 (omega (arith, pre.1, pre.2)) (omega (arith, pre.1))
 
 pub returns-in-Less : goal.returns-in-Less
 returns-in-Less c =
@@ -23,7 +23,7 @@ pub returns-in-Equal : goal.returns-in-Equal
 returns-in-Equal c =
     let args = c.args in
     let order-42 = c.order_4-in-Equal in
-    told_at args.a.now args.b.now (args.n - 4 + 4) args.n order-42.result (omega arith) order-42.ensures
+    told_at args.a.now args.b.now (args.n - 4 + 4) args.n order-42.result (omega (arith, c.requires.1)) order-42.ensures
 
 pub returns-in-Greater : goal.returns-in-Greater
 returns-in-Greater c =
