@@ -49,7 +49,7 @@ impl Tally {
 
 const NONE: Tally = Tally { cases: 0, agree: 0 };
 
-// The tally of each call, by its number, and of all.
+// The tally of each call, in the place of its number modulo 63, and of all.
 #[derive(Clone, Copy)]
 struct Tallies {
     each: [Tally; 63],

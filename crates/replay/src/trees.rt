@@ -11,10 +11,7 @@ use std::array;
 
 // Where the rest begins behind a mode text that an entry begins with, and 0 where there is none.
 fn rest(text: &[u8]) -> usize {
-    match EntryMode::extract_at(text, 0) {
-        Some((_, rest)) => rest,
-        None => 0,
-    }
+    EntryMode::extract_at(text, 0).map_or(0, |(_, rest)| rest)
 }
 
 // 1: a mode text, read alone and as the front of an entry.

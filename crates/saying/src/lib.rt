@@ -1,5 +1,5 @@
-// What the programs read from standard input, and what they say on standard output: bytes, a number, an answer's bytes or its refusal in one
-// line. A read or a write that fails is the caller's error.
+// What the programs read from standard input, and what they say on standard output: bytes, an answer's bytes or its refusal in one line.
+// A read or a write that fails is the caller's error.
 #![tactic(auto)]
 
 ghost use Rattle.std.specs.Prelude.{◌≡◌, ◌==◌, ◌≤◌, IfOk, IfSome, if◌then◌else◌, length};
@@ -37,12 +37,6 @@ pub fn read_whole(input: &mut impl Read, bytes: &mut [u8]) -> io::Result<Option<
 
 pub fn say(rt: &impl Print, s: &[u8]) -> io::Result<()> {
     rt.write_all(s)
-}
-
-// A word, and a number behind it.
-pub fn say_with(rt: &impl Print, word: &[u8], n: usize) -> io::Result<()> {
-    say(rt, word)?;
-    rt.print(n)
 }
 
 // That an answer has a verdict of no refusal, or the refusal.

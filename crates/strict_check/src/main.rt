@@ -7,38 +7,18 @@ use asking::ask;
 use ground::{Answer, DONE};
 use piece_ends::{finish, start};
 use pieces::feed;
-use saying::{read_full, say, say_refused, say_with};
+use saying::{done, read_full, say_refused};
 use std::io;
 use std::io::Read;
 
 // As many pieces are longer together than the bound, past which an answer is settled.
 const MOST_PIECES: usize = 2097153;
 
-// The bytes from one place to another, or none where they do not lie inside.
-fn part(s: &[u8], from: usize, to: usize) -> &[u8] {
-    if s.len() < to {
-        return &s[0..0];
-    }
-    if to < from {
-        return &s[0..0];
-    }
-    &s[from..to]
-}
-
 fn tell(rt: &impl Print, a: Answer) -> io::Result<()> {
-    let verdict = a.verdict;
-    if verdict.number != DONE {
-        return say_refused(rt, verdict);
+    match done(a.verdict) {
+        Ok(()) => println!(rt; "entries {}", a.count),
+        Err(v) => say_refused(rt, v),
     }
-    say_with(rt, b"entries ", a.count)?;
-    say(rt, b"\n")
-}
-
-// The check with a piece more, and how many bytes that had.
-#[derive(Clone, Copy)]
-struct Fed {
-    marks: Marks,
-    many: usize,
 }
 
 // The first piece, which the words stand ahead of.
@@ -49,21 +29,22 @@ fn begin(
 ) -> io::Result<Marks> {
     let mut piece = [0u8; 512];
     let n = read_full(input, &mut piece)?;
-    let asked = ask(part(&piece, 0, n));
+    let s = piece.get(..n).unwrap_or_default();
+    let asked = ask(s);
     let m = start(asked.h, asked.rules);
-    Ok(feed(held, ends, m, part(&piece, asked.from, n)))
+    Ok(feed(held, ends, m, s.get(asked.from..).unwrap_or_default()))
 }
 
+// The check with a piece more, and how many bytes that had.
 fn more(
     input: &mut impl Read,
     held: &mut [u8; 4096],
     ends: &mut [u32; 4097],
     m: Marks,
-) -> io::Result<Fed> {
+) -> io::Result<(Marks, usize)> {
     let mut piece = [0u8; 512];
-    let many = read_full(input, &mut piece)?;
-    let marks = feed(held, ends, m, part(&piece, 0, many));
-    Ok(Fed { marks, many })
+    let n = read_full(input, &mut piece)?;
+    Ok((feed(held, ends, m, piece.get(..n).unwrap_or_default()), n))
 }
 
 // Piece after piece, up to the end or a refusal.
@@ -73,17 +54,15 @@ fn check(
     ends: &mut [u32; 4097],
 ) -> io::Result<Marks> {
     let mut m = begin(input, held, ends)?;
-    let mut k = 0;
-    while k < MOST_PIECES {
+    for _ in 0..MOST_PIECES {
         if m.verdict.number != DONE {
-            return Ok(m);
+            break;
         }
-        let fed = more(input, held, ends, m)?;
-        m = fed.marks;
-        if fed.many == 0 {
-            return Ok(m);
+        let (fed, n) = more(input, held, ends, m)?;
+        m = fed;
+        if n == 0 {
+            break;
         }
-        k += 1;
     }
     Ok(m)
 }
