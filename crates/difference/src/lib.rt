@@ -34,23 +34,24 @@ fn compare_with(
     walk_trees(bundle, k, left, right, items, paths, &list[..n])
 }
 
-// The same with a list that has room for all: its length is known from its type, so no proof computes so long a list.
-fn compare_lent(
+// The same with a list of its own that has room for N objects. N is a parameter, so no proof computes so long a list.
+fn compare_own<const N: usize>(
     bundle: &[u8],
     k: Header,
     left: &[u8],
     right: &[u8],
     items: &mut [usize],
     paths: &mut [u8],
-    list: &mut [u32; 1048576],
 ) -> Answer
     requires bundle_len_bound { length bundle.now ≤ most_bytes }
     requires index { IsIndex bundle.now k [] }
+    requires room { N ≤ most_records }
     ensures value { result ≡ fitted (items_in (length items.old)) (length paths.old) (differences k bundle.now left.now right.now) }
     ensures after { items.new ≡ stored result.verdict (numbers_of 0 (differences k bundle.now left.now right.now).items) items.old }
     ensures paths_after { paths.new ≡ stored result.verdict (paths_of (differences k bundle.now left.now right.now).items) paths.old }
 {
-    compare_with(bundle, k, left, right, items, paths, list)
+    let mut list = [0u32; N];
+    compare_with(bundle, k, left, right, items, paths, &mut list)
 }
 
 // With room for an index of all objects: four mebibytes of the stack. The call of itself is never reached. It is there because the compiler
@@ -73,8 +74,7 @@ fn compare_large(
     if MOST_RECORDS < k.count {
         return compare_large(bundle, k, left, right, items, paths);
     }
-    let mut list = [0u32; 1048576];
-    compare_lent(bundle, k, left, right, items, paths, &mut list)
+    compare_own::<1048576>(bundle, k, left, right, items, paths)
 }
 
 // With an index: where there are more than 1,024 objects it takes four mebibytes of the stack.
@@ -94,8 +94,7 @@ fn compare_in(
     ensures paths_after { paths.new ≡ stored result.verdict (paths_of (differences k bundle.now left.now right.now).items) paths.old }
 {
     if k.count <= 1024 {
-        let mut list = [0u32; 1024];
-        return compare_with(bundle, k, left, right, items, paths, &mut list);
+        return compare_own::<1024>(bundle, k, left, right, items, paths);
     }
     compare_large(bundle, k, left, right, items, paths)
 }

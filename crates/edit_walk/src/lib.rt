@@ -62,6 +62,7 @@ fn carry(
     let mut used: usize = 0;
     let mut kept: usize = 0;
     let mut placed = done;
+    // Counted down: where no entry can be read, none is left, so one invariant says what the walk gives however it ends.
     while 0 < left {
         match turn_at(s, h, at, name, tree, placed) {
             None => {

@@ -72,6 +72,7 @@ fn gather(text: &[u8], h: usize, rules: u16, list: &mut [u32]) -> Answer
 {
     let mut at: usize = 0;
     let mut n: usize = 0;
+    // By a cursor that goes past each record; n is the count that is answered, also where the text ends.
     while at < text.len() {
         if MOST_RECORDS <= n {
             return halt(BOUND, 0, n);

@@ -67,21 +67,17 @@ fn walk(s: &[u8], h: usize, out: &mut [u8]) -> usize
     ensures { Added out.old 0 (text_in h s.now) out.new result }
 {
     let mut c = Cursor { at: 0 };
-    let mut n: usize = 0;
     let mut p: usize = 0;
-    while c.at < s.len() {
-        if MOST_RECORDS <= n {
+    for _ in 0..MOST_RECORDS {
+        if s.len() <= c.at {
             return p;
         }
         match c.decode(s, h) {
             Ok((e, next)) => {
                 p = put_record(out, p, s, h, e);
                 c = next;
-                n += 1;
             }
-            Err(_) => {
-                return p;
-            }
+            Err(_) => return p,
         }
     }
     p
