@@ -8,7 +8,7 @@ ghost use Rattle.border_bundle.specs.Border.{no_object, object_asked, checked_nu
 use finding::find_object;
 use ground::{FINE, NOT_THERE, Verdict, longer, sizes};
 
-// An object of a bundle: its kind, and where its bytes begin and end; zeros on a refusal.
+// An object of a bundle: its kind, and where its bytes begin and end; zeros on a refusal. C is lent these numbers, so the kind is no enum.
 #[derive(Clone, Copy)]
 pub struct Object {
     pub verdict: Verdict,

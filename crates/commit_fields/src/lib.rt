@@ -20,7 +20,8 @@ pub struct Refusal {
     pub field: usize,
 }
 
-// The encoding's value, its mark 1 where there is one, and the place after it.
+// The encoding's value, its mark 1 where there is one, and the place after it. Mark and range stand as `CommitParts` has them, to which they go
+// as they are: an `Option` would only be taken apart there.
 #[derive(Clone, Copy)]
 pub struct Encoding {
     pub mark: usize,

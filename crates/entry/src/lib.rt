@@ -33,7 +33,8 @@ pub struct Cursor {
     pub at: usize,
 }
 
-// What a step of the cursor answers: where none was found the entry is all zeros.
+// What a step of the cursor answers: where none was found the entry is all zeros. The flag stands beside it, and not as an `Option`, since C is lent
+// both, and so does `step_of`, of which `demands` and `entry/specs/Parts` speak.
 #[derive(Clone, Copy)]
 pub struct Step {
     pub verdict: Verdict,

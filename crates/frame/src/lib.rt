@@ -19,7 +19,8 @@ pub struct Header {
     pub from: usize,
 }
 
-// An object by its kind and by positions in the bundle: of its id, of its first byte, and past its last.
+// An object by its kind and by positions in the bundle: of its id, of its first byte, and past its last. The kind is the byte that stands there, and
+// no enum: `border_bundle` lends it to C, and `bundle_grammar/specs` speaks of the byte.
 #[derive(Clone, Copy)]
 pub struct Frame {
     pub kind: usize,

@@ -9,7 +9,7 @@ pub const MOST_BYTES: usize = 1073741824;
 
 pub const MOST_RECORDS: usize = 1048576;
 
-// The numbers that a call answers with.
+// The numbers that a call answers with. They are numbers, and no enum, since C is lent them, and Demand2, Demand3 and Sentences of `demands` speak of them.
 pub const DONE: usize = 0;
 
 pub const ID_LENGTH: usize = 1;
@@ -87,7 +87,8 @@ pub const FINE: Verdict = Verdict {
     part: 0,
 };
 
-// The answer of a call that counts records or bytes: the count is 0 on a refusal.
+// The answer of a call that counts records or bytes: the count is 0 on a refusal. Verdict and count stand side by side, and not as a `Result`,
+// since C is lent both, and the theorems of `demands` and `call` speak of the verdict of every answer.
 #[derive(Clone, Copy)]
 pub struct Answer {
     pub verdict: Verdict,

@@ -7,7 +7,8 @@ ghost use Rattle.header.specs.Record.{header_at, put_header, well_formed};
 // How many numbers a header record has.
 pub const HEADER_WIDTH: usize = 5;
 
-// An extra header: its name, its value (through the last LF where it is folded), and the mark, 1 for folded and 0 for one line.
+// An extra header: its name, its value (through the last LF where it is folded), and the mark, 1 for folded and 0 for one line: five of the numbers
+// that C lends, and any other mark is refused, so it is no `bool`.
 #[derive(Clone, Copy)]
 pub struct HeaderRecord {
     pub name_start: usize,
@@ -17,7 +18,8 @@ pub struct HeaderRecord {
     pub mark: usize,
 }
 
-// Where the parts of a commit stand: the tree's first hex digit, then ranges. The encoding's mark is 1 where there is one.
+// Where the parts of a commit stand: the tree's first hex digit, then ranges. The encoding's mark is 1 where there is one: ten of the numbers that C
+// lends, so the encoding is no `Option`, and a range is two fields.
 #[derive(Clone, Copy)]
 pub struct CommitParts {
     pub tree: usize,

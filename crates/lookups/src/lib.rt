@@ -28,7 +28,8 @@ const BAD: Looked = Looked {
     compared: 0,
 };
 
-// A name that is sought: where it stands in the lent names, and 1 for a folder or 0 for anything else.
+// A name that is sought: where it stands in the lent names, and 1 for a folder or 0 for anything else: three of the numbers that C lends, and any
+// other mark is refused, so it is no `bool`.
 #[derive(Clone, Copy)]
 pub struct Sought {
     pub start: usize,
