@@ -44,7 +44,7 @@ of_ground = record {
   sizes = keeps-reads _ (λ i. tt) _ _ _ (λ i o m. m) (λ i. each-size (Of _ of_gate) (done refl refl) (zero refl refl) _ _);
   bounds = keeps-reads _ (λ i. tt) _ _ _ (λ i o m. m) (λ i. each_gate (Of _ of_gate) (done refl refl) (zero refl refl) (zero refl refl) _ _ _);
   scans =
-      ((λ i. tt), answers_once _ _ (λ i o m. m)) and ((λ i. tt), answers_once _ _ (λ i o m. m)) and ((λ i. tt), answers_once _ _ (λ i o m. m)) and ((λ i. tt), answers_once _ _ (λ i o m. m)) and
+      ((λ i. tt), answers_once _ _ (λ i o m. m)) and ((λ i. tt), answers_once _ _ (λ i o m. m)) and ((λ i. tt), answers_once _ _ (λ i o m. m)) and ((λ i. tt), answers_once _ _ (λ i o m. m)) and ((λ i. tt), answers_once _ _ (λ i o m. m)) and
       ((λ i. tt), answers_once _ _ (λ i o m. m)) and ((λ i. tt), answers_once _ _ (λ i o m. m)) and ((λ i. tt), answers_once _ _ (λ i o m. m)) and ((λ i. tt), answers_once _ _ (λ i o m. m)) and
       ((λ i. tt), answers_once _ _ (λ i o m. m)) and ((λ i. tt), answers_once _ _ (λ i o m. m)) and none;
   put = keeps-stores _ (λ i. tt) _ _ _ _ (λ i o m. (refl, m));

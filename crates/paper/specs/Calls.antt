@@ -108,6 +108,7 @@ scans =
     ∷ call scan.count_to.Kinds.ps scan.count_to.Kinds.r scan.count_to.Reads.Asked scan.count_to.Reads.Post
     ∷ call scan.common_start.Kinds.ps scan.common_start.Kinds.r scan.common_start.Reads.Asked scan.common_start.Reads.Post
     ∷ call scan.same_bytes.Kinds.ps scan.same_bytes.Kinds.r scan.same_bytes.Reads.Asked scan.same_bytes.Reads.Post
+    ∷ call scan.lacks.Kinds.ps scan.lacks.Kinds.r scan.lacks.Reads.Asked scan.lacks.Reads.Post
     ∷ call free_of.is_free.Kinds.ps free_of.is_free.Kinds.r free_of.is_free.Reads.Asked free_of.is_free.Reads.Post
     ∷ []
 
