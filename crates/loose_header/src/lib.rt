@@ -47,7 +47,7 @@ fn kind_word(kind: usize) -> Word
     }
 }
 
-// The decimal digits of a number: those of the text from a place on, with 0 before them.
+// The decimal digits of a number: those of the text from a place on, with 0 before them. A buffer with its start, since the text is made without a heap.
 #[derive(Clone, Copy)]
 pub struct Decimal {
     pub text: [u8; 20],

@@ -7,7 +7,7 @@ ghost use Rattle.mode_text.specs.Write.{trimmed, short, mode_text};
 
 use scan::count_to;
 
-// At most six bytes: the first len are the text, the others are 0.
+// At most six bytes: the first len are the text, the others are 0. A buffer with its length: the text is made without a heap, and C is given it in this shape.
 #[derive(Clone, Copy)]
 pub struct ShortText {
     pub bytes: [u8; 6],

@@ -6,7 +6,7 @@ ghost use Rattle.tree_text.specs.Text.{front_of};
 
 use mode::EntryMode;
 
-// At most fourteen bytes: the first len are the text, the others are 0.
+// At most fourteen bytes: the first len are the text, the others are 0. A buffer with its length, since the text is made without a heap.
 #[derive(Clone, Copy)]
 pub struct Front {
     pub bytes: [u8; 14],
