@@ -54,26 +54,18 @@ fn searched(object: &[u8], h: usize, records: &[usize], name: &[u8], folder: boo
     while low < high {
         let middle = (low + high) / 2;
         let e = record_at(records, middle);
-        if entry_record::well_formed(h, object.len(), e) {
-            compared += 1;
-            let first = e.name_start;
-            let end = e.name_end;
-            let tree = entry_record::is_folder(e);
-            match compare::name_order(&object[first..end], tree, name, folder) {
-                Ordering::Less => {
-                    low = middle + 1;
-                    continue;
-                }
-                Ordering::Equal => {
-                    return Ended::Found(middle, compared);
-                }
-                Ordering::Greater => {
-                    high = middle;
-                    continue;
-                }
-            }
+        if !entry_record::well_formed(h, object.len(), e) {
+            return Ended::Bad(middle);
         }
-        return Ended::Bad(middle);
+        compared += 1;
+        let first = e.name_start;
+        let end = e.name_end;
+        let tree = entry_record::is_folder(e);
+        match compare::name_order(&object[first..end], tree, name, folder) {
+            Ordering::Less => low = middle + 1,
+            Ordering::Equal => return Ended::Found(middle, compared),
+            Ordering::Greater => high = middle,
+        }
     }
     Ended::Absent(compared)
 }

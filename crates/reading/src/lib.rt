@@ -186,16 +186,13 @@ fn read_by(s: &[u8], h: usize, lengths: &mut [u8], records: &mut [usize]) -> Ans
     finish_by(s, h, got, lengths, records)
 }
 
-// An object of more than 8 MiB: a name is sought once in the first 131,072 entries, and twice in those behind them. The call of itself is never
-// reached. It is there because the compiler lays no function that calls itself into its callers: only such an object takes this one's stack.
+// An object of more than 8 MiB: a name is sought once in the first 131,072 entries, and twice in those behind them. It has a stack of its own,
+// which only such an object takes.
+#[inline(never)]
 fn read_long(s: &[u8], h: usize, records: &mut [usize]) -> Answer
-    requires { 8388608 < length s.now }
     ensures answer { result ≡ in_room (many (length records.old)) (tally 0 (listing h s.now)) }
     ensures records { records.new ≡ finished h s.now (tally 0 (listing h s.now)) records.old }
 {
-    if s.len() <= 8388608 {
-        return read_long(s, h, records);
-    }
     let mut lengths = [0u8; 131072];
     read_by(s, h, &mut lengths, records)
 }

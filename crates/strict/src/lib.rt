@@ -94,13 +94,7 @@ fn is_kept(s: &[u8], h: usize, start: usize, end: usize) -> bool
     requires { (start ≤ end) × (end ≤ length s.now) }
     ensures { result ≡ true → NameKept h s.now start end }
 {
-    if s.len() - end <= h {
-        return false;
-    }
-    if s[end] != 0 {
-        return false;
-    }
-    reserved_number(&s[start..end]) == DONE
+    h < s.len() - end && s[end] == 0 && reserved_number(&s[start..end]) == DONE
 }
 
 // The same in one scan of the name where the mode is one of those written and there is nothing to refuse; any other entry is decoded and judged.
@@ -181,64 +175,38 @@ fn count_marked(rules: u16, s: &[u8], h: usize, marks: &mut [u32]) -> Result<usi
     Ok(n)
 }
 
-// An object of at most 2,079 bytes: at most 64 names are open at once.
-fn count_few(rules: u16, s: &[u8], h: usize) -> Result<usize, Verdict>
-    requires { length s.now ≤ 2079 }
+// The first pass with room for N open names.
+fn count_with<const N: usize>(rules: u16, s: &[u8], h: usize) -> Result<usize, Verdict>
+    requires room { Roomy (length s.now) N }
+    requires small { N ≤ 46341 }
     ensures { result ≡ tally 0 (strictly (git_rules rules) h s.now) }
 {
-    let mut marks = [0u32; 64];
+    let mut marks = [0u32; N];
     count_marked(rules, s, h, &mut marks)
 }
 
-// An object of at most 128 KiB: at most 512 names are open at once.
-fn count_small(rules: u16, s: &[u8], h: usize) -> Result<usize, Verdict>
-    requires { length s.now ≤ 131072 }
+// The same on a stack of its own: only an object of such length takes the stack of its marks.
+#[inline(never)]
+fn count_apart<const N: usize>(rules: u16, s: &[u8], h: usize) -> Result<usize, Verdict>
+    requires room { Roomy (length s.now) N }
+    requires small { N ≤ 46341 }
     ensures { result ≡ tally 0 (strictly (git_rules rules) h s.now) }
 {
-    let mut marks = [0u32; 512];
-    count_marked(rules, s, h, &mut marks)
+    count_with::<N>(rules, s, h)
 }
 
-// An object of at most 8 MiB: at most 4,096 names are open at once. The call of itself is never reached. It is there because the
-// compiler lays no function that calls itself into its callers: only an object of such length takes this one's stack.
-fn count_medium(rules: u16, s: &[u8], h: usize) -> Result<usize, Verdict>
-    requires { length s.now ≤ 8388608 }
-    ensures { result ≡ tally 0 (strictly (git_rules rules) h s.now) }
-{
-    if 8388608 < s.len() {
-        return count_medium(rules, s, h);
-    }
-    let mut marks = [0u32; 4096];
-    count_marked(rules, s, h, &mut marks)
-}
-
-// An object of any length within the bound: at most 46,341 names are open at once. It calls itself as `count_medium` does.
-fn count_large(rules: u16, s: &[u8], h: usize) -> Result<usize, Verdict>
-    requires { length s.now ≤ most_bytes }
-    ensures { result ≡ tally 0 (strictly (git_rules rules) h s.now) }
-{
-    if MOST_BYTES < s.len() {
-        return count_large(rules, s, h);
-    }
-    let mut marks = [0u32; 46341];
-    count_marked(rules, s, h, &mut marks)
-}
-
-// The first pass, with no more marks than an object of this length can need.
+// The first pass, with no more marks than an object of this length can need: in one of at most 2,079 bytes at most 64 names are open at once,
+// of at most 128 KiB 512, of at most 8 MiB 4,096, and of any length within the bound 46,341.
 fn count_strict(rules: u16, s: &[u8], h: usize) -> Result<usize, Verdict>
     requires { length s.now ≤ most_bytes }
     ensures { result ≡ tally 0 (strictly (git_rules rules) h s.now) }
 {
-    if s.len() <= 2079 {
-        return count_few(rules, s, h);
+    match s.len() {
+        0..=2079 => count_with::<64>(rules, s, h),
+        2080..=131072 => count_with::<512>(rules, s, h),
+        131073..=8388608 => count_apart::<4096>(rules, s, h),
+        _ => count_apart::<46341>(rules, s, h),
     }
-    if s.len() <= 131072 {
-        return count_small(rules, s, h);
-    }
-    if s.len() <= 8388608 {
-        return count_medium(rules, s, h);
-    }
-    count_large(rules, s, h)
 }
 
 // How many entries an object has that keeps the strict rules by a rule set, or its refusal; 2 for an object over its bound.

@@ -17,13 +17,13 @@ loop-low-init c =
     (omega arith, omega (arith, number, (gate_open _ _ _ allowed).2), rw (sym number) (lookup_open _ _ _ _ _ allowed))
 
 pub slice_bounds-name_order-count : goal.slice_bounds-name_order-count
-slice_bounds-name_order-count c = omega (arith, well_parts _ _ _ (sym c.well_formed-in-loop-low.ensures ∙ c.if-well_formed.true))
+slice_bounds-name_order-count c = omega (arith, well_parts _ _ _ (sym c.well_formed-in-loop-low.ensures ∙ c.if-not-well_formed.false))
 
 pub slice_bounds-name_order-start : goal.slice_bounds-name_order-start
-slice_bounds-name_order-start c = omega (arith, well_parts _ _ _ (sym c.well_formed-in-loop-low.ensures ∙ c.if-well_formed.true))
+slice_bounds-name_order-start c = omega (arith, well_parts _ _ _ (sym c.well_formed-in-loop-low.ensures ∙ c.if-not-well_formed.false))
 
 pub slice_bounds-name_order-end : goal.slice_bounds-name_order-end
-slice_bounds-name_order-end c = omega (arith, well_parts _ _ _ (sym c.well_formed-in-loop-low.ensures ∙ c.if-well_formed.true))
+slice_bounds-name_order-end c = omega (arith, well_parts _ _ _ (sym c.well_formed-in-loop-low.ensures ∙ c.if-not-well_formed.false))
 
 pub loop-low-preserved-in-Less : goal.loop-low-preserved-in-Less
 unfolding name_of
@@ -33,11 +33,11 @@ loop-low-preserved-in-Less c =
     let loop-test = c.loop-low-test in
     let record-at = c.record_at-e in
     let well-formed = c.well_formed-in-loop-low in
-    let if1 = c.if-well_formed in
+    let if1 = c.if-not-well_formed in
     let is-folder = c.is_folder-tree in
     let name-order = c.name_order in
     let enum_told = c.in-Less in
-    let good = sym well-formed.ensures ∙ if1.true in
+    let good = sym well-formed.ensures ∙ if1.false in
     let folder = is-folder.ensures in
     let ordered = name-order.ensures in
     let told = enum_told.is in
@@ -53,7 +53,7 @@ unfolding name_of
 returns-in-Equal c =
     let loop = c.loop-low in
     let record-at = c.record_at-e in
-    let good = sym c.well_formed-in-loop-low.ensures ∙ c.if-well_formed.true in
+    let good = sym c.well_formed-in-loop-low.ensures ∙ c.if-not-well_formed.false in
     let folder = c.is_folder-tree.ensures in
     let ordered = c.name_order.ensures in
     let told = c.in-Equal.is in
@@ -69,11 +69,11 @@ loop-low-preserved c =
     let loop-test = c.loop-low-test in
     let record-at = c.record_at-e in
     let well-formed = c.well_formed-in-loop-low in
-    let if1 = c.if-well_formed in
+    let if1 = c.if-not-well_formed in
     let is-folder = c.is_folder-tree in
     let name-order = c.name_order in
     let enum-told3 = c.in-Greater in
-    let good = sym well-formed.ensures ∙ if1.true in
+    let good = sym well-formed.ensures ∙ if1.false in
     let folder = is-folder.ensures in
     let ordered = name-order.ensures in
     let told = enum-told3.is in
@@ -84,17 +84,11 @@ loop-low-preserved c =
           record-at.ensures good Greater folder ordered told,
     )
 
-pub returns-in-loop-low : goal.returns-in-loop-low
-returns-in-loop-low c =
-    let args = c.args in
+pub returns-then-not-well_formed : goal.returns-then-not-well_formed
+returns-then-not-well_formed c =
     let loop = c.loop-low in
-    let loop-test = c.loop-low-test in
-    let record-at = c.record_at-e in
-    let well-formed = c.well_formed-in-loop-low in
-    let if1 = c.if-well_formed in
-    let more = loop-test.true in
-    let broken = sym well-formed.ensures ∙ if1.false in
-    sym (loop.invariant.2 ∙ search_bad _ _ (records_of args.records.now) _ _ _ _ _ more _ record-at.ensures broken)
+    let broken = sym c.well_formed-in-loop-low.ensures ∙ c.if-not-well_formed.true in
+    sym (loop.invariant.2 ∙ search_bad _ _ (records_of c.args.records.now) _ _ _ _ _ c.loop-low-test.true _ c.record_at-e.ensures broken)
 
 pub returns : goal.returns
 returns c = sym (c.loop-low.invariant.2 ∙ search-end _ _ _ _ c.loop-low-test.false)

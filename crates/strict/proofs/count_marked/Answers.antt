@@ -44,7 +44,7 @@ returns-in-NotAfter c =
     let loop = c.loop-at in
     let kept = seen-kept _ _ _ _ _ _ (sym seen_at.ensures ∙ e.is) in
     c.stopped-in-NotAfter.ensures ∙ reading-low _ _ _ _ _ _ _ _ loop.invariant.0 loop-test.true if1.false _ _ 0 kept.0 kept.1 refl _ after-entry.ensures.placed
-      (c.in-Err-after_entry.is ∙ ap (λ (m : Misplaced). Err m) c.in-NotAfter.is)
+    (c.in-Err-after_entry.is ∙ ap (λ (m : Misplaced). Err m) c.in-NotAfter.is)
 
 pub shape_of-marks-in-Double : goal.shape_of-marks-in-Double
 shape_of-marks-in-Double c = after_same _ _ _ _ _ c.after_entry.ensures.marks c.loop-at.invariant.1
@@ -59,7 +59,7 @@ returns-in-Double c =
     let loop = c.loop-at in
     let kept = seen-kept _ _ _ _ _ _ (sym seen_at.ensures ∙ e.is) in
     c.stopped-in-Double.ensures ∙ reading_double _ _ _ _ _ _ _ _ loop.invariant.0 loop-test.true if1.false _ _ 0 kept.0 kept.1 refl _ after-entry.ensures.placed
-      (c.in-Err-after_entry.is ∙ ap (λ (m : Misplaced). Err m) c.in-Double.is)
+    (c.in-Err-after_entry.is ∙ ap (λ (m : Misplaced). Err m) c.in-Double.is)
 
 pub loop-at-preserved : goal.loop-at-preserved
 loop-at-preserved c =
