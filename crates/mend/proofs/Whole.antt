@@ -248,17 +248,6 @@ sets_of out q = ap (sets out 0) q
 pub written-front : (h : ℕ) (s out after l d : List ℕ) → l ≡ d → after ≡ sets out 0 (all_bytes h s l) → after ≡ sets out 0 (all_bytes h s d)
 written-front h s out after l d q w = w ∙ ap (λ (x : List ℕ). sets out 0 (all_bytes h s x)) q
 
--- a list of n zeros, n a variable, so that no proof computes a long one: its length, and room
-pub made_of : (n : ℕ) → n ≡ length (replicate {A = ℕ} n 0)
-made_of n = sym (length-replicate n 0)
-
-pub room_for : (n c : ℕ) → c ≤ n → c ≤ length (replicate {A = ℕ} n 0)
-room_for n c p = omega (arith, length-replicate {A = ℕ} n 0)
-
--- an array of n elements, n a variable: room for as many, and no more
-pub array-room : (n c : ℕ) (l : List ℕ) → length l ≡ n → c ≤ n → n ≤ most_records → (c ≤ length l) × (length l ≤ most_records)
-array-room n c l q p m = (omega arith, omega arith)
-
 pub most_le : 1048576 ≤ most_records
 most_le = omega arith
 

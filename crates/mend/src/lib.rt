@@ -90,24 +90,19 @@ fn gather(s: &[u8], h: usize, fates: &[usize], second: bool, list: &mut [u32]) -
     ensures value { result ≡ length (elements second s.now fates.now 0 (records_in (listing h s.now))) }
     ensures list_after { list.new ≡ sets list.old 0 (elements second s.now fates.now 0 (records_in (listing h s.now))) }
 {
-    let mut at: usize = 0;
-    let mut n: usize = 0;
+    let mut c = Cursor { at: 0 };
     let mut m: usize = 0;
-    while at < s.len() {
-        if MOST_RECORDS <= n {
+    for n in 0..MOST_RECORDS {
+        if s.len() <= c.at {
             return m;
         }
-        let c = Cursor { at };
         match c.decode(s, h) {
-            Err(_) => {
-                return m;
-            }
+            Err(_) => return m,
             Ok((e, next)) => {
                 let taken = choose(s, fates, second, n, e);
                 let x = element(second, e);
                 m = push(list, m, taken, x);
-                at = next.at;
-                n += 1;
+                c = next;
             }
         }
     }
@@ -190,24 +185,19 @@ fn settle(s: &[u8], h: usize, list: &[u32], fates: &mut [usize]) -> usize
     ensures value { result ≡ code_size h s.now list.now (records_in (listing h s.now)) }
     ensures fates_after { fates.new ≡ sets fates.old 0 (code_fates s.now list.now (records_in (listing h s.now))) }
 {
-    let mut at: usize = 0;
-    let mut n: usize = 0;
+    let mut c = Cursor { at: 0 };
     let mut size: usize = 0;
-    while at < s.len() {
-        if MOST_RECORDS <= n {
+    for n in 0..MOST_RECORDS {
+        if s.len() <= c.at {
             return size;
         }
-        let c = Cursor { at };
         match c.decode(s, h) {
-            Err(_) => {
-                return size;
-            }
+            Err(_) => return size,
             Ok((e, next)) => {
                 let fate = entry_fate(s, h, list, e);
                 put_at(fates, n, fate);
                 size += kept_size(fate, h, e);
-                at = next.at;
-                n += 1;
+                c = next;
             }
         }
     }

@@ -10,6 +10,6 @@ returns-then-is_folder c = element_folder _ _ c.if-second.true (sym c.is_folder.
 pub returns : goal.returns
 returns c =
     elim c.else-second.branch [
-      else-second-via-then-second+else-is_folder w ↦ element_file _ _ w.if-second.true (sym w.is_folder.ensures ∙ w.if-is_folder.false)
-    | else-second-via-else-second w ↦ element_plain _ _ w.if-second.false
+      | else-second-via-then-second+else-is_folder w ↦ element_file _ _ w.if-second.true (sym w.is_folder.ensures ∙ w.if-is_folder.false)
+      | else-second-via-else-second w ↦ element_plain _ _ w.if-second.false
     ]

@@ -1,32 +1,27 @@
 -- `mend::gather` meets its contract. Assumes nothing.
 use native.Mathlib.Omega.{arith}
-use Prim.Native.Nat.{◌-◌}
 use mathlib.Core.Path.{sym, ◌∙◌}
 use Rattle.reading.proofs.Laws.{none_full, none_left}
 use Rattle.mend_kept.proofs.Walk.{gathering_start, gathering_end, gathering_turn, here_end, decoded_inside, decoded_place}
 use Rattle.mend.proofs.gather.Goals as goal
 
-pub loop-at-init : goal.loop-at-init
-loop-at-init c = gathering_start _ _ _ _ _
+pub loop-n-init : goal.loop-n-init
+loop-n-init c = gathering_start _ _ _ _ _
 
-pub shape_of-list-then-n-ge-MOST_RECORDS : goal.shape_of-list-then-n-ge-MOST_RECORDS
-shape_of-list-then-n-ge-MOST_RECORDS c = c.loop-at.invariant.size
-
-pub returns-then-n-ge-MOST_RECORDS : goal.returns-then-n-ge-MOST_RECORDS
-returns-then-n-ge-MOST_RECORDS c =
-    let r = gathering_end _ _ _ _ _ _ _ _ _ c.loop-at.invariant (none_full _ _ _ _ c.if-n-ge-MOST_RECORDS.true) in
+pub returns-then-s-c : goal.returns-then-s-c
+returns-then-s-c c =
+    let r = gathering_end _ _ _ _ _ _ _ _ _ c.loop-n.invariant (here_end _ _ _ _ c.if-s-c.true) in
     record { value = r.0; list_after = r.1 }
 
 pub shape_of-list-in-Err : goal.shape_of-list-in-Err
-shape_of-list-in-Err c = c.loop-at.invariant.size
+shape_of-list-in-Err c = c.loop-n.invariant.size
 
 pub returns-in-Err : goal.returns-in-Err
 returns-in-Err c =
-    let r = (let loop = c.loop-at in
-    let if1 = c.if-n-ge-MOST_RECORDS in
+    let r = (let loop = c.loop-n in
     let decode = c.decode in
     let enum_told = c.in-Err in
-    gathering_end _ _ _ _ _ _ _ _ _ loop.invariant (none_left _ _ _ _ if1.false (sym decode.ensures ∙ enum_told.is))) in
+    gathering_end _ _ _ _ _ _ _ _ _ loop.invariant (none_left _ _ _ _ c.loop-n-test.true (sym decode.ensures ∙ enum_told.is))) in
     record { value = r.0; list_after = r.1 }
 
 pub choose-taken-requires : goal.choose-taken-requires
@@ -42,29 +37,24 @@ element-x-requires c =
 
 pub push-m-requires : goal.push-m-requires
 push-m-requires c =
-    let loop = c.loop-at in
-    let if1 = c.if-n-ge-MOST_RECORDS in
-    omega (arith, loop.invariant.few, if1.false)
+    let loop = c.loop-n in
+    omega (arith, loop.invariant.few, c.loop-n-test.true)
 
-pub loop-at-smaller : goal.loop-at-smaller
-loop-at-smaller c = omega (arith, c.if-n-ge-MOST_RECORDS.false)
-
-pub loop-at-preserved : goal.loop-at-preserved
-loop-at-preserved c =
-    let loop = c.loop-at in
-    let if1 = c.if-n-ge-MOST_RECORDS in
+pub loop-n-preserved : goal.loop-n-preserved
+loop-n-preserved c =
+    let loop = c.loop-n in
     let decode = c.decode in
     let e = c.in-Ok in
     let choose = c.choose-taken in
     let element = c.element-x in
     let push = c.push-m in
-    gathering_turn _ _ _ _ _ _ _ _ _ loop.invariant _ _ if1.false (sym decode.ensures ∙ e.is) _ choose.ensures _ element.ensures _
+    gathering_turn _ _ _ _ _ _ _ _ _ loop.invariant _ _ c.loop-n-test.true (sym decode.ensures ∙ e.is) _ choose.ensures _ element.ensures _
     push.ensures.value _ push.ensures.list_after
 
 pub shape_of-list : goal.shape_of-list
-shape_of-list c = c.loop-at.invariant.size
+shape_of-list c = c.loop-n.invariant.size
 
 pub returns : goal.returns
 returns c =
-    let r = gathering_end _ _ _ _ _ _ _ _ _ c.loop-at.invariant (here_end _ _ _ _ c.loop-at-test.false) in
+    let r = gathering_end _ _ _ _ _ _ _ _ _ c.loop-n.invariant (none_full _ _ _ _ c.loop-n-test.false) in
     record { value = r.0; list_after = r.1 }

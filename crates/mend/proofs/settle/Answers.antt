@@ -1,6 +1,5 @@
 -- `mend::settle` meets its contract. Assumes nothing.
 use native.Mathlib.Omega.{arith}
-use Prim.Native.Nat.{◌-◌}
 use mathlib.Core.Path.{sym, ◌∙◌}
 use Rattle.reading.proofs.Laws.{none_full, none_left}
 use Rattle.mend_kept.proofs.Bytes.{own-most}
@@ -8,27 +7,23 @@ use Rattle.mend_kept.proofs.Fates.{plain_key}
 use Rattle.mend_kept.proofs.Walk.{settling_start, settling_end, settling_turn, settling_room, sum_is, here_end, decoded_inside, decoded_place, decoded_size}
 use Rattle.mend.proofs.settle.Goals as goal
 
-pub loop-at-init : goal.loop-at-init
-loop-at-init c = settling_start _ _ _ _
+pub loop-n-init : goal.loop-n-init
+loop-n-init c = settling_start _ _ _ _
 
-pub shape_of-fates-then-n-ge-MOST_RECORDS : goal.shape_of-fates-then-n-ge-MOST_RECORDS
-shape_of-fates-then-n-ge-MOST_RECORDS c = c.loop-at.invariant.long
-
-pub returns-then-n-ge-MOST_RECORDS : goal.returns-then-n-ge-MOST_RECORDS
-returns-then-n-ge-MOST_RECORDS c =
-    let r = settling_end _ _ _ _ _ _ _ _ c.loop-at.invariant (none_full _ _ _ _ c.if-n-ge-MOST_RECORDS.true) in
+pub returns-then-s-c : goal.returns-then-s-c
+returns-then-s-c c =
+    let r = settling_end _ _ _ _ _ _ _ _ c.loop-n.invariant (here_end _ _ _ _ c.if-s-c.true) in
     record { value = r.0; fates_after = r.1 }
 
 pub shape_of-fates-in-Err : goal.shape_of-fates-in-Err
-shape_of-fates-in-Err c = c.loop-at.invariant.long
+shape_of-fates-in-Err c = c.loop-n.invariant.long
 
 pub returns-in-Err : goal.returns-in-Err
 returns-in-Err c =
-    let r = (let loop = c.loop-at in
-    let if1 = c.if-n-ge-MOST_RECORDS in
+    let r = (let loop = c.loop-n in
     let decode = c.decode in
     let enum_told = c.in-Err in
-    settling_end _ _ _ _ _ _ _ _ loop.invariant (none_left _ _ _ _ if1.false (sym decode.ensures ∙ enum_told.is))) in
+    settling_end _ _ _ _ _ _ _ _ loop.invariant (none_left _ _ _ _ c.loop-n-test.true (sym decode.ensures ∙ enum_told.is))) in
     record { value = r.0; fates_after = r.1 }
 
 pub entry_fate-fate-requires : goal.entry_fate-fate-requires
@@ -47,35 +42,30 @@ kept_size-size-requires c =
 
 pub overflow_add-size : goal.overflow_add-size
 overflow_add-size c =
-    let loop = c.loop-at in
-    let if1 = c.if-n-ge-MOST_RECORDS in
+    let loop = c.loop-n in
     let decode = c.decode in
     let e = c.in-Ok in
     let entry-fate = c.entry_fate-fate in
     let kept-size = c.kept_size-size in
-    let r = settling_room _ _ _ _ _ _ _ _ loop.invariant _ _ if1.false (sym decode.ensures ∙ e.is) _ entry-fate.ensures (own-most _) in
+    let r = settling_room _ _ _ _ _ _ _ _ loop.invariant _ _ c.loop-n-test.true (sym decode.ensures ∙ e.is) _ entry-fate.ensures (own-most _) in
     let w = decoded_place _ _ _ _ _ (sym decode.ensures ∙ e.is) in
-    omega (arith, r, w, kept-size.ensures, c.requires.s_len_bound, if1.false)
+    omega (arith, r, w, kept-size.ensures, c.requires.s_len_bound, c.loop-n-test.true)
 
-pub loop-at-smaller : goal.loop-at-smaller
-loop-at-smaller c = omega (arith, c.if-n-ge-MOST_RECORDS.false)
-
-pub loop-at-preserved : goal.loop-at-preserved
-loop-at-preserved c =
-    let loop = c.loop-at in
-    let if1 = c.if-n-ge-MOST_RECORDS in
+pub loop-n-preserved : goal.loop-n-preserved
+loop-n-preserved c =
+    let loop = c.loop-n in
     let decode = c.decode in
     let e = c.in-Ok in
     let entry-fate = c.entry_fate-fate in
     let put-fate = c.put_at in
     let kept-size = c.kept_size-size in
-    settling_turn _ _ _ _ _ _ _ _ loop.invariant _ _ if1.false (sym decode.ensures ∙ e.is) _ entry-fate.ensures (own-most _) _ put-fate.ensures _
+    settling_turn _ _ _ _ _ _ _ _ loop.invariant _ _ c.loop-n-test.true (sym decode.ensures ∙ e.is) _ entry-fate.ensures (own-most _) _ put-fate.ensures _
     (sum_is _ _ kept-size.ensures)
 
 pub shape_of-fates : goal.shape_of-fates
-shape_of-fates c = c.loop-at.invariant.long
+shape_of-fates c = c.loop-n.invariant.long
 
 pub returns : goal.returns
 returns c =
-    let r = settling_end _ _ _ _ _ _ _ _ c.loop-at.invariant (here_end _ _ _ _ c.loop-at-test.false) in
+    let r = settling_end _ _ _ _ _ _ _ _ c.loop-n.invariant (none_full _ _ _ _ c.loop-n-test.false) in
     record { value = r.0; fates_after = r.1 }

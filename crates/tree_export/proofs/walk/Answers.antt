@@ -1,7 +1,6 @@
 -- `tree_export::walk` meets its contract. Assumes nothing.
 use native.Mathlib.Omega.{arith}
 use mathlib.Core.Path.{refl, sym, ◌∙◌}
-use Prim.Native.Nat.{◌-◌}
 use Rattle.tree_export.proofs.Walks.{walking_start, walking_end, walking_full, walking_broken, walking_more, inside}
 use Rattle.tree_export.proofs.walk.Goals as goal
 
