@@ -96,16 +96,11 @@ pub struct Answer {
 }
 
 // Refusal 2: the longest lent byte buffer or the longest lent list is over its bound.
+#[tactic(auto, unfolding(crate::specs::Verdict::size_gate))]
 pub fn sizes(bytes: usize, records: usize) -> Result<(), Verdict>
     ensures { result ≡ size_gate bytes records }
 {
-    if MOST_BYTES < bytes {
-        return Err(Verdict {
-            number: BOUND,
-            ..FINE
-        });
-    }
-    if MOST_RECORDS < records {
+    if MOST_BYTES < bytes || MOST_RECORDS < records {
         return Err(Verdict {
             number: BOUND,
             ..FINE
@@ -118,10 +113,7 @@ pub fn sizes(bytes: usize, records: usize) -> Result<(), Verdict>
 pub fn bounds(h: usize, bytes: usize, records: usize) -> Result<(), Verdict>
     ensures { result ≡ gate_of h bytes records }
 {
-    if h == 20 {
-        return sizes(bytes, records);
-    }
-    if h == 32 {
+    if h == 20 || h == 32 {
         return sizes(bytes, records);
     }
     Err(Verdict {

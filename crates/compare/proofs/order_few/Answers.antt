@@ -1,11 +1,11 @@
-use Prim.Native.Nat.{◌+◌, ◌-◌}
+use Prim.Native.Nat.{◌+◌}
 use mathlib.Core.Path.{refl}
 use native.Mathlib.Omega.{arith}
 use Rattle.compare.proofs.Laws.{byte-below, byte_above, byte_same, told-from}
 use Rattle.compare.proofs.order_few.Goals as goal
 
 pub loop-i-init : goal.loop-i-init
-loop-i-init c = (omega arith, refl)
+loop-i-init c = refl
 
 pub bounds-a-i : goal.bounds-a-i
 bounds-a-i c = omega (arith, c.requires.0)
@@ -19,7 +19,7 @@ returns-then-a-i c =
     let pre = c.requires in
     let loop = c.loop-i in
     let if1 = c.if-a-i in
-    byte-below args.a.now args.b.now loop.i (omega (arith, pre.0)) (omega (arith, pre.1)) loop.invariant.1 _ if1.true
+    byte-below args.a.now args.b.now loop.i (omega (arith, pre.0)) (omega (arith, pre.1)) loop.invariant _ if1.true
 
 pub bounds-b-i-in-loop-i : goal.bounds-b-i-in-loop-i
 bounds-b-i-in-loop-i c = omega (arith, c.requires.1)
@@ -33,7 +33,7 @@ returns-then-b-i c =
     let pre = c.requires in
     let loop = c.loop-i in
     let if2 = c.if-b-i in
-    byte_above args.a.now args.b.now loop.i (omega (arith, pre.0)) (omega (arith, pre.1)) loop.invariant.1 _ if2.true
+    byte_above args.a.now args.b.now loop.i (omega (arith, pre.0)) (omega (arith, pre.1)) loop.invariant _ if2.true
 
 pub loop-i-preserved : goal.loop-i-preserved
 loop-i-preserved c =
@@ -41,11 +41,8 @@ loop-i-preserved c =
     let pre = c.requires in
     let loop = c.loop-i in
     let if1 = c.if-a-i in
-    let if2 = c.if-b-i in (
-      omega arith,
-      byte_same args.a.now args.b.now loop.i (omega (arith, pre.0)) (omega (arith, pre.1)) loop.invariant.1 (loop.i + 1) (omega arith)
-          if1.false if2.false,
-    )
+    let if2 = c.if-b-i in
+    byte_same args.a.now args.b.now loop.i (omega (arith, pre.0)) (omega (arith, pre.1)) loop.invariant (loop.i + 1) (omega arith) if1.false if2.false
 
 pub returns : goal.returns
-returns c = told-from c.args.a.now c.args.b.now c.loop-i.i _ (omega arith) c.loop-i.invariant.1
+returns c = told-from c.args.a.now c.args.b.now c.loop-i.i _ (omega arith) c.loop-i.invariant
