@@ -142,25 +142,16 @@ impl EntryKind {
     pub fn is_executable(self) -> bool
         ensures { result ≡ is_executable self }
     {
-        match self {
-            EntryKind::Tree => false,
-            EntryKind::Blob => false,
-            EntryKind::BlobExecutable => true,
-            EntryKind::Link => false,
-            EntryKind::Commit => false,
-        }
+        matches!(self, EntryKind::BlobExecutable)
     }
 
     // Of the five kinds, both files and the link.
     pub fn is_file_or_link(self) -> bool
         ensures { result ≡ is_file_or_link self }
     {
-        match self {
-            EntryKind::Tree => false,
-            EntryKind::Blob => true,
-            EntryKind::BlobExecutable => true,
-            EntryKind::Link => true,
-            EntryKind::Commit => false,
-        }
+        matches!(
+            self,
+            EntryKind::Blob | EntryKind::BlobExecutable | EntryKind::Link
+        )
     }
 }
