@@ -54,6 +54,7 @@ fn holds_id(h: usize, len: usize, id: usize) -> bool
 pub fn well_formed(h: usize, len: usize, e: EntryRecord) -> bool
     ensures { result ≡ well_formed h len e }
 {
+    // By `&`: no test is a branch of its own.
     let id = holds_id(h, len, e.id_start);
     (e.mode <= 65535)
         & ((e.name_end <= len)

@@ -13,8 +13,7 @@ fn find_from(s: &[u8], h: usize, count: usize, from: usize, id: &[u8]) -> Option
     ensures { result ≡ first_of h s.now id.now (frames h s.now count from) }
 {
     let mut at = from;
-    let mut left = count;
-    while 0 < left {
+    for _i in 0..count {
         match frame_at(s, h, at) {
             None => return None,
             Some(f) => {
@@ -24,7 +23,6 @@ fn find_from(s: &[u8], h: usize, count: usize, from: usize, id: &[u8]) -> Option
                     return Some(f);
                 }
                 at = f.end;
-                left -= 1;
             }
         }
     }

@@ -240,6 +240,13 @@ module _ (h : ℕ) (s : List ℕ) (left at : ℕ) where
     unfolding onward
     frames-whole e = frames-some ∙ rw e
 
+-- the same of those that are left of so many, where i of them are passed
+pub frames_turn : (h : ℕ) (s : List ℕ) (count i at : ℕ) → i < count → {f : Frame} → frame_at h at (drop at s) ≡ Some f
+    → frames h s (count - i) at ≡ frame f (frames h s (count - (i + 1)) f.end)
+frames_turn h s count i at p {f} e =
+    let z : count - i - 1 ≡ count - (i + 1) = omega arith in
+    frames-whole h s (count - i) at (omega arith) e ∙ ap (λ (k : ℕ). frame f (frames h s k f.end)) z
+
 pub whole_end : (b : Bool) → whole (pick b done fault) ≡ b
 unfolding whole
 whole_end true = refl

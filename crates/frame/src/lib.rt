@@ -116,10 +116,7 @@ fn frame_in(s: &[u8], h: usize, at: usize) -> Option<Frame>
 {
     let mark = at + h;
     let kind = s[mark] as usize;
-    if kind < 1 {
-        return None;
-    }
-    if 4 < kind {
+    if kind < 1 || 4 < kind {
         return None;
     }
     let size = four_at(s, mark + 1);

@@ -19,21 +19,16 @@ fn places(s: &[u8], h: usize, count: usize, from: usize, list: &mut [u32]) -> us
     ensures list_after { list.new ≡ sets list.old 0 (elements_in (frames h s.now count from)) }
 {
     let mut at = from;
-    let mut left = count;
-    let mut n: usize = 0;
-    while 0 < left {
+    for n in 0..count {
         match frame_at(s, h, at) {
             None => return n,
             Some(f) => {
-                let place = f.id;
-                list[n] = (place * 2) as u32;
-                n += 1;
+                list[n] = (f.id * 2) as u32;
                 at = f.end;
-                left -= 1;
             }
         }
     }
-    n
+    count
 }
 
 // Makes the index at the front of a list, and says how long it is. A bundle over its bound has none, nor has one with more objects than the
@@ -42,10 +37,7 @@ pub fn make_index(s: &[u8], k: Header, list: &mut [u32]) -> usize
     ensures count { result ≡ length (index_of s.now k (length list.old)) }
     ensures list { list.new ≡ index_of s.now k (length list.old) ++ drop (length (index_of s.now k (length list.old))) list.old }
 {
-    if MOST_BYTES < s.len() {
-        return 0;
-    }
-    if list.len() < k.count {
+    if MOST_BYTES < s.len() || list.len() < k.count {
         return 0;
     }
     let n = places(s, k.h, k.count, k.from, list);

@@ -79,6 +79,7 @@ fn put_answer(answers: &mut [usize], i: usize, a: Looked)
     if answers.len() / EACH <= i {
         return;
     }
+    // By index: the numbers of an answer lie behind one another in the flat list that C lends.
     let at = i * EACH;
     answers[at] = a.verdict.number;
     answers[at + 1] = a.index;

@@ -4,7 +4,7 @@
 ghost use Rattle.std.specs.Prelude.{◌≡◌, ◌+◌, ◌≤◌, ◌<◌, length};
 ghost use Rattle.entry.specs.Record.{folder_of};
 ghost use Rattle.order.specs.Order.{name_order};
-ghost use Rattle.merge.specs.Merge.{ahead_at, EntryWithin, name_in, no_side, side_of, left_change, right_change, both_of, step_at};
+ghost use Rattle.merge.specs.Merge.{ahead_at, EntryWithin, name_in, no_side, side_of, change_of, left_change, right_change, both_of, step_at};
 
 use entry::{Cursor, EntryRecord};
 use entry_record::is_folder;
@@ -52,27 +52,20 @@ fn next_entry(bundle: &[u8], h: usize, c: Rest) -> Option<(EntryRecord, Rest)>
     ensures { result ≡ ahead_at h bundle.now c }
 {
     let left = c.left;
-    if left == 0 {
-        return None;
-    }
     let start = c.start;
     let end = c.end;
-    if end < start {
-        return None;
-    }
-    if bundle.len() < end {
+    if left == 0 || end < start || bundle.len() < end {
         return None;
     }
     let from = Cursor { at: c.at };
     match from.decode(&bundle[start..end], h) {
-        Err(_) => return None,
+        Err(_) => None,
         Ok((e, next)) => {
             let name_start = start + e.name_start;
             let name_end = start + e.name_end;
             let id_start = start + e.id_start;
             let text_start = start + e.text_start;
-            let fewer = left - 1;
-            return Some((
+            Some((
                 EntryRecord {
                     mode: e.mode,
                     name_start,
@@ -84,9 +77,9 @@ fn next_entry(bundle: &[u8], h: usize, c: Rest) -> Option<(EntryRecord, Rest)>
                     start,
                     end,
                     at: next.at,
-                    left: fewer,
+                    left: left - 1,
                 },
-            ));
+            ))
         }
     }
 }
@@ -115,6 +108,19 @@ fn no_side() -> Side
     }
 }
 
+// A change under the name of an entry.
+fn change_of(e: EntryRecord, left: Side, right: Side, deep: bool) -> Change
+    ensures { result ≡ change_of e left right deep }
+{
+    Change {
+        name_start: e.name_start,
+        name_end: e.name_end,
+        left,
+        right,
+        deep,
+    }
+}
+
 // An entry of both trees.
 fn in_both(bundle: &[u8], h: usize, a: EntryRecord, b: EntryRecord, l: Rest, r: Rest) -> Step
     requires entry_within { EntryWithin h (length bundle.now) a }
@@ -131,30 +137,9 @@ fn in_both(bundle: &[u8], h: usize, a: EntryRecord, b: EntryRecord, l: Rest, r: 
         if a.mode == b.mode {
             return Step::Same(l, r);
         }
-        return Step::Differs(
-            Change {
-                name_start: a.name_start,
-                name_end: a.name_end,
-                left,
-                right,
-                deep: false,
-            },
-            l,
-            r,
-        );
+        return Step::Differs(change_of(a, left, right, false), l, r);
     }
-    let deep = is_folder(a);
-    Step::Differs(
-        Change {
-            name_start: a.name_start,
-            name_end: a.name_end,
-            left,
-            right,
-            deep,
-        },
-        l,
-        r,
-    )
+    Step::Differs(change_of(a, left, right, is_folder(a)), l, r)
 }
 
 // An entry that is only left.
@@ -162,16 +147,7 @@ fn only_left(h: usize, e: EntryRecord) -> Change
     requires { e.id_start + h < 18446744073709551616 }
     ensures { result ≡ left_change h e }
 {
-    let left = side_of(h, e);
-    let right = no_side();
-    let deep = is_folder(e);
-    Change {
-        name_start: e.name_start,
-        name_end: e.name_end,
-        left,
-        right,
-        deep,
-    }
+    change_of(e, side_of(h, e), no_side(), is_folder(e))
 }
 
 // An entry that is only right.
@@ -179,16 +155,7 @@ fn only_right(h: usize, e: EntryRecord) -> Change
     requires { e.id_start + h < 18446744073709551616 }
     ensures { result ≡ right_change h e }
 {
-    let left = no_side();
-    let right = side_of(h, e);
-    let deep = is_folder(e);
-    Change {
-        name_start: e.name_start,
-        name_end: e.name_end,
-        left,
-        right,
-        deep,
-    }
+    change_of(e, no_side(), side_of(h, e), is_folder(e))
 }
 
 // Git's order of two entries, by name and sort.
@@ -217,15 +184,15 @@ pub fn merge_step(bundle: &[u8], h: usize, l: Rest, r: Rest) -> Step
     let y = next_entry(bundle, h, r);
     match x {
         None => match y {
-            None => return Step::Done,
-            Some((b, next)) => return Step::Differs(only_right(h, b), l, next),
+            None => Step::Done,
+            Some((b, next)) => Step::Differs(only_right(h, b), l, next),
         },
         Some((a, next)) => match y {
-            None => return Step::Differs(only_left(h, a), next, r),
+            None => Step::Differs(only_left(h, a), next, r),
             Some((b, other)) => match order_of(bundle, a, b) {
-                Ordering::Less => return Step::Differs(only_left(h, a), next, r),
-                Ordering::Equal => return in_both(bundle, h, a, b, next, other),
-                Ordering::Greater => return Step::Differs(only_right(h, b), l, other),
+                Ordering::Less => Step::Differs(only_left(h, a), next, r),
+                Ordering::Equal => in_both(bundle, h, a, b, next, other),
+                Ordering::Greater => Step::Differs(only_right(h, b), l, other),
             },
         },
     }

@@ -39,15 +39,9 @@ fn place_in(bundle: &[u8], h: usize, index: &[u32], id: &[u8]) -> usize
     while low < high {
         let middle = low + (high - low) / 2;
         match order_at(bundle, h, index[middle], id) {
-            Ordering::Less => {
-                low = middle + 1;
-                continue;
-            }
+            Ordering::Less => low = middle + 1,
             Ordering::Equal => return middle,
-            Ordering::Greater => {
-                high = middle;
-                continue;
-            }
+            Ordering::Greater => high = middle,
         }
     }
     low

@@ -22,30 +22,27 @@ fn twice_with(s: &[u8], k: Header, list: &mut [u32]) -> bool
     neighbours(s, k.h, list, n)
 }
 
-// With room for few.
-fn twice_small(s: &[u8], k: Header) -> bool
+// With room for N.
+fn twice_among<const N: usize>(s: &[u8], k: Header) -> bool
     requires fact { k.h ≡ 0 → ⊥ }
-    requires count_bound { k.count ≤ 1024 }
+    requires count_bound { k.count ≤ N }
+    requires small { N ≤ most_records }
     requires s_len_bound { length s.now ≤ most_bytes }
     ensures { result ≡ repeats (ids_in k.h s.now (frames_by s.now k)) }
 {
-    let mut list = [0u32; 1024];
+    let mut list = [0u32; N];
     twice_with(s, k, &mut list)
 }
 
-// The same with room for all: four mebibytes of the stack. The call of itself is never reached. It is there because the compiler
-// lays no function that calls itself into its callers: only such a bundle takes this one's stack.
+// With room for all: four mebibytes of a stack of its own, which only such a bundle takes.
+#[inline(never)]
 fn twice_large(s: &[u8], k: Header) -> bool
     requires fact { k.h ≡ 0 → ⊥ }
     requires count_le_most_records { k.count ≤ most_records }
     requires s_len_bound { length s.now ≤ most_bytes }
     ensures { result ≡ repeats (ids_in k.h s.now (frames_by s.now k)) }
 {
-    if MOST_RECORDS < k.count {
-        return twice_large(s, k);
-    }
-    let mut list = [0u32; 1048576];
-    twice_with(s, k, &mut list)
+    twice_among::<MOST_RECORDS>(s, k)
 }
 
 // Whether an id stands twice in a bundle within the bound, before any fault of its framing. With more than 1,024 objects it takes
@@ -60,7 +57,7 @@ pub fn id_twice(s: &[u8]) -> bool
         None => false,
         Some(k) => {
             if k.count <= 1024 {
-                return twice_small(s, k);
+                return twice_among::<1024>(s, k);
             }
             twice_large(s, k)
         }

@@ -1,6 +1,9 @@
 -- `merge::in_both` meets its contract. Assumes nothing.
 use Rattle.merge.proofs.Laws as laws
+use mathlib.Core.Path.{ap, ◌∙◌}
 use lib.ListN.{length}
+use Rattle.merge.specs.declared.Change.{Change}
+use Rattle.merge.specs.declared.Step.TheVariants as step
 use Rattle.merge.proofs.in_both.Goals as goal
 
 pub slice_bounds-same_bytes-count : goal.slice_bounds-same_bytes-count
@@ -53,21 +56,15 @@ returns-then-a-b c =
 pub returns-then-same_bytes : goal.returns-then-same_bytes
 returns-then-same_bytes c =
     let args = c.args in
-    let side-of = c.side_of-left in
-    let side-of2 = c.side_of-right in
     let same_bytes = c.same_bytes in
-    let if1 = c.if-same_bytes in
-    let if2 = c.if-a-b in
-    laws.both-mode args.h args.bundle.now args.a args.b args.l args.r side-of.result side-of2.result side-of.ensures
-    side-of2.ensures same_bytes.result same_bytes.ensures if1.true if2.false
+    ap (λ (d : Change). step.Differs d args.l args.r) c.change_of.ensures
+    ∙ laws.both-mode args.h args.bundle.now args.a args.b args.l args.r c.side_of-left.result c.side_of-right.result c.side_of-left.ensures
+    c.side_of-right.ensures same_bytes.result same_bytes.ensures c.if-same_bytes.true c.if-a-b.false
 
 pub returns : goal.returns
 returns c =
     let args = c.args in
-    let side-of = c.side_of-left in
-    let side-of2 = c.side_of-right in
     let same_bytes = c.same_bytes in
-    let if1 = c.if-same_bytes in
-    let is-folder = c.is_folder-deep in
-    laws.both-id args.h args.bundle.now args.a args.b args.l args.r side-of.result side-of2.result side-of.ensures
-    side-of2.ensures same_bytes.result same_bytes.ensures if1.false is-folder.result is-folder.ensures
+    ap (λ (d : Change). step.Differs d args.l args.r) c.change_of-2.ensures
+    ∙ laws.both-id args.h args.bundle.now args.a args.b args.l args.r c.side_of-left.result c.side_of-right.result c.side_of-left.ensures
+    c.side_of-right.ensures same_bytes.result same_bytes.ensures c.if-same_bytes.false c.is_folder.result c.is_folder.ensures

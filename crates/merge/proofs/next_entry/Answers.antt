@@ -1,24 +1,14 @@
 -- `merge::next_entry` meets its contract. Assumes nothing.
+use mathlib.Core.Logic.{⊎_elim}
 use Rattle.merge.proofs.Laws as laws
 use Rattle.merge.proofs.next_entry.Goals as goal
 
 pub returns-then-left-eq0 : goal.returns-then-left-eq0
-returns-then-left-eq0 c = laws.ahead_none c.args.h c.args.bundle.now c.args.c c.if-left-eq0.true
-
-pub returns-then-end-start : goal.returns-then-end-start
-returns-then-end-start c =
+returns-then-left-eq0 c =
     let args = c.args in
-    let if1 = c.if-left-eq0 in
-    let if2 = c.if-end-start in
-    laws.ahead_crossed args.h args.bundle.now args.c if1.false if2.true
-
-pub returns-then-bundle-end : goal.returns-then-bundle-end
-returns-then-bundle-end c =
-    let args = c.args in
-    let if1 = c.if-left-eq0 in
-    let if2 = c.if-end-start in
-    let if3 = c.if-bundle-end in
-    laws.ahead_outside args.h args.bundle.now args.c if1.false if2.false if3.true
+    ⊎_elim (λ w. laws.ahead_none args.h args.bundle.now args.c w)
+    (λ v. ⊎_elim (λ w. laws.ahead_crossed args.h args.bundle.now args.c w.0 w.1) (λ w. laws.ahead_outside args.h args.bundle.now args.c w.0 w.1 w.2) v)
+    c.then-left-eq0.either
 
 pub slice_bounds-decode-start : goal.slice_bounds-decode-start
 slice_bounds-decode-start c = c.if-end-start.false

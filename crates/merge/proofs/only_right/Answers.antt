@@ -1,11 +1,7 @@
 -- `merge::only_right` meets its contract. Assumes nothing.
+use mathlib.Core.Path.{◌∙◌}
 use Rattle.merge.proofs.Laws as laws
 use Rattle.merge.proofs.only_right.Goals as goal
 
 pub returns : goal.returns
-returns c =
-    let args = c.args in
-    let no-side = c.no_side-left in
-    let side-of = c.side_of-right in
-    let is-folder = c.is_folder-deep in
-    laws.one-sided args.e _ _ _ no-side.ensures side-of.ensures is-folder.ensures
+returns c = c.change_of.ensures ∙ laws.one-sided c.args.e _ _ _ c.no_side.ensures c.side_of.ensures c.is_folder.ensures
