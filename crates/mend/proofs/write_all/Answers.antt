@@ -1,6 +1,5 @@
 -- `mend::write_all` meets its contract. Assumes nothing.
 use native.Mathlib.Omega.{arith}
-use Prim.Native.Nat.{◌-◌}
 use mathlib.Core.Path.{refl}
 use Rattle.mend_kept.proofs.Bytes.{writing_start, writing_end, writing-turn}
 use Rattle.mend.proofs.write_all.Goals as goal
