@@ -21,6 +21,7 @@ pub struct Refusal {
 }
 
 // The encoding's value, its mark 1 where there is one, and the place after it.
+// A mark beside the range: `encoding_at` of specs/Fields.antt is this record, and the parts that C reads have the same three numbers.
 #[derive(Clone, Copy)]
 pub struct Encoding {
     pub mark: usize,
