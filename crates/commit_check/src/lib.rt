@@ -58,6 +58,7 @@ fn count_headers(bytes: &[u8], headers: &[usize]) -> usize
     ensures { result ≡ passing (map (header_fits bytes.now) (headers_of headers.now)) }
 {
     let n = headers.len() / HEADER_WIDTH;
+    // By index: the records lie flat as C lends them, and `header_at` reads one.
     for i in 0..n {
         if !is_header(bytes, header_at(headers, i)) {
             return i;

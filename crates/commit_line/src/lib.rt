@@ -39,13 +39,10 @@ pub fn id_line(s: &[u8], at: usize, word: &[u8], h: usize) -> bool
 pub fn value_line(s: &[u8], at: usize, word: &[u8]) -> Option<(usize, usize)>
     ensures { result ≡ line_at word.now s.now at }
 {
-    if word_at(s, at, word) {
-        let from = at + word.len() + 1;
-        let lf = find_byte(s, from, b'\n');
-        if lf < s.len() {
-            return Some((from, lf));
-        }
+    if !word_at(s, at, word) {
         return None;
     }
-    None
+    let from = at + word.len() + 1;
+    let lf = find_byte(s, from, b'\n');
+    if lf < s.len() { Some((from, lf)) } else { None }
 }

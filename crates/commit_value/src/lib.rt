@@ -64,6 +64,7 @@ pub fn put_value(out: &mut [u8], at: usize, v: &[u8], mark: usize) -> usize
 }
 
 // The number that refuses an encoding's value, or 0.
+// 0 for none: `encoding_refusal` of specs/Encoding.antt is a number.
 pub fn encoding_fault(v: &[u8]) -> usize
     ensures { result ≡ encoding_refusal (given v.now) }
 {

@@ -106,6 +106,7 @@ fn put_headers(out: &mut [u8], at: usize, bytes: &[u8], headers: &[usize]) -> us
 {
     let n = headers.len() / HEADER_WIDTH;
     let mut to = at;
+    // By index: the records lie flat as C lends them, and `header_at` reads one.
     for i in 0..n {
         to = put_header(out, to, bytes, header_at(headers, i));
     }
