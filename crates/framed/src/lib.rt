@@ -8,21 +8,16 @@ ghost use Rattle.framed.specs.Ids.{below, rises};
 
 use frame::frame_at;
 use order::name_order;
-use std::cmp::Ordering;
 
 // Whether so many objects stand from a place on, and nothing is left over.
 pub fn well_framed(s: &[u8], h: usize, count: usize, from: usize) -> bool
     ensures { result ≡ whole (frames h s.now count from) }
 {
     let mut at = from;
-    let mut left = count;
-    while 0 < left {
+    for _i in 0..count {
         match frame_at(s, h, at) {
             None => return false,
-            Some(f) => {
-                at = f.end;
-                left -= 1;
-            }
+            Some(f) => at = f.end,
         }
     }
     at == s.len()
@@ -32,11 +27,7 @@ pub fn well_framed(s: &[u8], h: usize, count: usize, from: usize) -> bool
 fn is_below(x: &[u8], y: &[u8]) -> bool
     ensures { result ≡ below x.now y.now }
 {
-    match name_order(x, false, y, false) {
-        Ordering::Less => true,
-        Ordering::Equal => false,
-        Ordering::Greater => false,
-    }
+    name_order(x, false, y, false).is_lt()
 }
 
 // Whether the ids ascend: then none stands twice, and one pass has said so.
@@ -46,8 +37,7 @@ pub fn ascending(s: &[u8], h: usize, count: usize, from: usize) -> bool
     let mut a: usize = 0;
     let mut b: usize = 0;
     let mut at = from;
-    let mut left = count;
-    while 0 < left {
+    for _i in 0..count {
         match frame_at(s, h, at) {
             None => return true,
             Some(f) => {
@@ -57,7 +47,6 @@ pub fn ascending(s: &[u8], h: usize, count: usize, from: usize) -> bool
                     a = start;
                     b = end;
                     at = f.end;
-                    left -= 1;
                 } else {
                     return false;
                 }
