@@ -10,7 +10,7 @@ use lib.ListN.{length, get_or, get_or-eq_default}
 use lib.Dec.{leb}
 use borrow.Author.Tests.{eq-eqb, ne_eqb, le-leb, lt-leb, leb-true, leb-false}
 use Rattle.ground.specs.Basics.{pick, part}
-use Rattle.ground.specs.Verdict.{verdict, gate_of}
+use Rattle.ground.specs.Verdict.{gate_of}
 use Rattle.ground.proofs.Laws.{equal, gate_open, id_small}
 use Rattle.ground.specs.declared.Verdict.{Verdict}
 use Rattle.actor.specs.Actor.{is_actor}

@@ -1,5 +1,4 @@
 -- `commit_fields::count_headers` meets its contract. Assumes nothing.
-use Prim.Native.Nat.{◌-◌}
 use mathlib.Core.Path.{refl, sym, ◌∙◌}
 use native.Mathlib.Omega.{arith}
 use Rattle.extra_header.proofs.Laws.{extra_next}

@@ -1,5 +1,4 @@
 -- `commit_fields::count_parents` meets its contract. Assumes nothing.
-use Prim.Native.Nat.{◌-◌}
 use mathlib.Core.Path.{sym, ◌∙◌}
 use native.Mathlib.Omega.{arith}
 use Rattle.commit_fields.proofs.Laws.{parents_end, parents-more, parent_fits}

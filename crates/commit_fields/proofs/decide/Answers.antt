@@ -1,5 +1,5 @@
 -- `commit_fields::decide` meets its contract. Assumes nothing.
-use mathlib.Core.Path.{◌≡◌, sym, ◌∙◌}
+use mathlib.Core.Path.{sym, ◌∙◌}
 use lib.ListN.{length}
 use Prim.Native.Nat.{max}
 use Rattle.std.proofs.lemmas.Result.{err_from_is_err_and}
