@@ -9,5 +9,5 @@ use Rattle.component.proofs.is_path.Given as goal
 abbrev pub invariant-loop : goal.invariant-loop
 invariant-loop l = record {
   within : l.at ≤ length l.path;
-  rest : is_path (pieces l.path) ≡ rest_good l.counter (pieces (drop l.at l.path))
+  rest : is_path (pieces l.path) ≡ rest_good l.counter (pieces (drop l.at l.path));
 }

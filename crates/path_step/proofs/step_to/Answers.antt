@@ -22,13 +22,13 @@ slice_bounds-find_entry-end c = omega (arith, spot_inside c.args.h c.args.s.now 
 pub returns-in_err-e : goal.returns-in_err-e
 returns-in_err-e c =
     c.from_residual-in_err-e.ensures
-      ∙ spot_none _ _ _ _ _ c.find_object.ensures _ c.in_ok-f.was c.if-f-ne-TREE.false _ c.find_entry.ensures c.in_err-e.was
+    ∙ spot_none _ _ _ _ _ c.find_object.ensures _ c.in_ok-f.was c.if-f-ne-TREE.false _ c.find_entry.ensures c.in_err-e.was
 
 pub overflow_add-result : goal.overflow_add-result
 overflow_add-result c =
     omega (
       arith,
-      spot_within c.args.h c.args.s.now c.args.id.now c.args.name.now _ c.find_object.ensures _ c.in_ok-f.was c.if-f-ne-TREE.false _ c.find_entry.ensures _ c.in_ok-e.was
+      spot_within c.args.h c.args.s.now c.args.id.now c.args.name.now _ c.find_object.ensures _ c.in_ok-f.was c.if-f-ne-TREE.false _ c.find_entry.ensures _ c.in_ok-e.was,
     )
 
 pub returns : goal.returns

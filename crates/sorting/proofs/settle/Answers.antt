@@ -28,9 +28,10 @@ loop-m-preserved c =
     let key = key_at c.args.text.now c.args.mark c.args.width in
     let size = loop.invariant.0.size in
     let same = c.swap.ensures.after ∙ sym (swap_is loop.list 0 (loop.m - 1) 0 (omega (arith, size)) (omega (arith, size))) in
-    let moved = rw same at c.sift.ensures.moved in
-    (settle-again (below_by key) (key_strict key) c.args.list.now loop.list loop.m loop.invariant.0 c.loop-m-test.true (omega (arith, size)) _ moved c.sift.ensures.heap_2,
-     omega arith)
+    let moved = rw same at c.sift.ensures.moved in (
+      settle-again (below_by key) (key_strict key) c.args.list.now loop.list loop.m loop.invariant.0 c.loop-m-test.true (omega (arith, size)) _ moved c.sift.ensures.heap_2,
+      omega arith,
+    )
 
 pub returns : goal.returns
 returns c =

@@ -20,7 +20,7 @@ loop-i-preserved c =
     let larger = c.larger-c in
     let key = key_at args.text.now args.mark args.width in
     let turned = sift_turn (below_by key) (key_strict key) args.list.now loop.list args.from args.n loop.i _ larger.ensures
-        (sym c.below.ensures ∙ c.if-below.true) c.requires.n_in_bounds loop.invariant in
+    (sym c.below.ensures ∙ c.if-below.true) c.requires.n_in_bounds loop.invariant in
     rw (c.swap.ensures.after, sym (swap_is loop.list loop.i larger.result 0 (omega (arith, loop.invariant.moved.size)) (omega (arith, larger.ensures.within, loop.invariant.moved.size)))) turned
 
 pub returns-else-below-clause-heap_2 : goal.returns-else-below-clause-heap_2
