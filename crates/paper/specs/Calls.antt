@@ -159,6 +159,7 @@ orders =
     call order.name_order.Kinds.ps order.name_order.Kinds.r order.name_order.Reads.Asked order.name_order.Reads.Post
     ∷ call compare.name_order.Kinds.ps compare.name_order.Kinds.r compare.name_order.Reads.Asked compare.name_order.Reads.Post
     ∷ call order.by_next.Kinds.ps order.by_next.Kinds.r order.by_next.Reads.Asked order.by_next.Reads.Post
+    ∷ call order.by_number.Kinds.ps order.by_number.Kinds.r order.by_number.Reads.Asked order.by_number.Reads.Post
     ∷ call order.order_number.Kinds.ps order.order_number.Kinds.r order.order_number.Reads.Asked order.order_number.Reads.Post
     ∷ []
 
