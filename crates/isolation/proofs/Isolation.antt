@@ -242,7 +242,7 @@ gate_number : (n r : ℕ) (v : Verdict) → size_gate n r ≡ Err v → v.number
 unfolding size_gate
 gate_number n r v e z = go (leb n most_bytes && leb r most_records) e
   where
-    go : (b : Bool) → pick b (Ok tt) (Err (verdict 2 0)) ≡ Err v → ⊥
+    go : (b : Bool) → pick {A = Result ⊤ Verdict} b (Ok tt) (Err (verdict 2 0)) ≡ Err v → ⊥
     go true e = let y : ◌≡◌ {A = ℕ} 0 1 = cc in omega arith
     go false e = let y : verdict 2 0 ≡ v = cc in let x : 2 ≡ v.number = ap (λ (u : Verdict). u.number) y in omega arith
 
