@@ -1,11 +1,16 @@
-// What an element of a list stands for, bytes of a text, and the comparison of two elements by them. It reads no further than it has to.
+// What an element of a list stands for, bytes of a text, and the comparison of two elements by them. It looks at no more than 64 bytes at once,
+// and past those reads no further than it has to.
 #![tactic(auto)]
 
-ghost use Rattle.std.specs.Prelude.{◌≡◌, false, ◌-◌, ◌≤◌, ltb, length, take, drop};
+ghost use Rattle.std.specs.Prelude.{◌≡◌, false, ◌+◌, ◌-◌, ◌≤◌, ltb, length, take, drop};
+ghost use Rattle.ground.specs.Scan.{common_start};
 ghost use Rattle.order.specs.Order.{by_number, next, name_order};
 ghost use Rattle.keys.specs.Key.{past_mark, cut_to, key_at, below_by, decide, ended};
 
 use std::cmp::Ordering;
+
+// The most bytes of two names that are compared at once.
+const FAR: usize = 64;
 
 // The place where the bytes past the first mark begin.
 fn begin(text: &[u8], mark: u8, place: usize) -> usize
@@ -78,13 +83,32 @@ fn end_of(p: u16, tree: bool) -> u16
     }
 }
 
-// Git's comparison of the names that begin at two places, which reads no further than it has to.
+// So many bytes that two names share, told by words: at most FAR, as more may stand past the names; none where their first bytes differ already.
+fn shared(text: &[u8], width: usize, a: usize, b: usize) -> usize
+    requires { (a ≤ length text.now) × (b ≤ length text.now) }
+    ensures agree { common_start (cut_to width (drop a text.now)) (cut_to width (drop b text.now))
+        ≡ result + common_start (drop result (cut_to width (drop a text.now))) (drop result (cut_to width (drop b text.now))) }
+    ensures left { result ≤ length (cut_to width (drop a text.now)) }
+    ensures right { result ≤ length (cut_to width (drop b text.now)) }
+{
+    if ground::byte_at(text, a) != ground::byte_at(text, b) {
+        return 0;
+    }
+    let far = ground::shorter(text.len() - a, FAR);
+    let n = scan::common_start(&text[a..a + far], &text[b..]);
+    if width == 0 {
+        return scan::count_to(&text[a..a + n], 0);
+    }
+    n.min(width)
+}
+
+// Git's comparison of the names that begin at two places, which reads past what they are known to share no further than it has to.
 fn names(text: &[u8], width: usize, a: usize, atree: bool, b: usize, btree: bool) -> Ordering
     requires { (a ≤ length text.now) × (b ≤ length text.now) }
     ensures { result ≡ name_order (cut_to width (drop a text.now)) atree (cut_to width (drop b text.now)) btree }
 {
     // By hand: how long the names are is found on the way.
-    let mut i = 0;
+    let mut i = shared(text, width, a, b);
     loop {
         let p = next_at(text, width, a, i);
         let q = next_at(text, width, b, i);

@@ -114,7 +114,8 @@ fn search(s: &[u8], list: &[u32], x: u32) -> usize
     requires { Ascends (below_by (key_at s.now 32 0)) list.now }
     ensures { Lowest (below_by (key_at s.now 32 0)) list.now x result }
 {
-    list.partition_point(|y| below(s, b' ', 0, *y, x))
+    // The element itself is met once in nearly each search, and nothing stands below itself.
+    list.partition_point(|y| *y != x && below(s, b' ', 0, *y, x))
 }
 
 // Whether the entry of an element has a name.

@@ -9,10 +9,8 @@ use mathlib.Core.List.{List, [], ◌∷◌, ◌++◌}
 use mathlib.Core.Logic.{⊎_elim}
 use lib.Dec.{eqb, ltb}
 use lib.ListN.{length, get_or, take, drop, set, length-set, drop_of_length-le}
-use lib.Seq.{sets, sets-eq, drop-cons, length-sets, length-take-le, set_out, take-take, take_all}
+use lib.Seq.{sets, drop-cons, length-sets, length-take-le, set_out, take_all, get_or-take}
 use borrow.Author.Tests.{eq-eqb, ne_eqb, lt-ltb, le-ltb, eqb-false, ltb-false}
-use borrow.Rule.Slice.PartMut.{put_mid}
-use Rattle.std.proofs.lemmas.Slice.{put_mid-paste}
 use Rattle.ground.specs.Basics.{pick}
 use Rattle.ground.specs.Verdict.{verdict, refused, stored, gate_of}
 use Rattle.ground.proofs.Laws.{gate_shut, stored-done, stored_refused, sets_append, sets_front}
@@ -37,6 +35,13 @@ sets_more l piece at k h =
 pub sets-none : (l piece : List ℕ) (at k : ℕ) → length piece ≤ k → sets l at (drop k piece) ≡ l
 sets-none l piece at k h = rw (drop_of_length-le piece {i = k} h)
 
+-- from one byte to the next of so much of a piece
+pub sets-turn : (l piece : List ℕ) (at n k : ℕ) → k < n → n ≤ length piece
+    → sets l (at + k) (drop k (take n piece)) ≡ sets (set l (at + k) (get_or piece k 0)) (at + (k + 1)) (drop (k + 1) (take n piece))
+sets-turn l piece at n k h m =
+    let inside : k < length (take n piece) = rw (length-take-le n piece m) h in
+    sets_more l (take n piece) at k inside ∙ rw (get_or-take n piece k 0 h) refl
+
 -- past the end nothing is stored
 pub sets-past : (l : List ℕ) (at : ℕ) (p : List ℕ) → length l ≤ at → sets l at p ≡ l
 sets-past l at [] h = refl
@@ -55,16 +60,6 @@ sets_fitting l at p =
       | yes h ↦ ap (sets l at) (take_all (min (length p) (length l - at)) p (omega arith))
       | no h ↦ sets-cut l at (min (length p) (length l - at)) p (omega arith)
     ]
-
--- so much of a piece copied to its place
-pub sets-copied : (l p ys : List ℕ) (at n k : ℕ) → at ≤ length l → n ≡ min (length p) (length l - at) → k ≡ n → ys ≡ take n p
-    → put_mid at k l ys ≡ sets l at p
-sets-copied l p ys at n k h m e y =
-    let len : length (take n p) ≡ n = length-take-le n p (omega arith) in
-    put_mid-paste at k l ys (take n p) n y (sym e) (sym len)
-    ∙ ap (λ (z : List ℕ). take at l ++ z ++ drop (at + n) l) (take-take n n p (omega arith))
-    ∙ sym (rw len at (sets-eq (take n p) l at (rw len (omega arith))))
-    ∙ rw m (sets_fitting l at p)
 
 -- the byte after a piece that leaves no room for it is not stored
 pub ended-past : (l : List ℕ) (at : ℕ) (p : List ℕ) (x : ℕ) → length l ≤ at + length p → sets l at (p ++ x ∷ []) ≡ sets l at p

@@ -15,7 +15,10 @@ pub fn put(out: &mut [u8], at: usize, piece: &[u8])
         return;
     }
     let n = piece.len().min(out.len() - at);
-    out[at..at + n].copy_from_slice(&piece[..n]);
+    // By index: `copy_from_slice` would need memmove of whoever links the library.
+    for k in 0..n {
+        out[at + k] = piece[k];
+    }
 }
 
 // Stores a piece and one byte after it, as far as there is room.

@@ -33,7 +33,8 @@ pub fn meet(stand: Stand, last: Last, size: usize, x: u8, b: u8) -> Stand
 {
     match stand {
         Stand::Level => by_byte(last, size, x, b),
-        Stand::Over | Stand::NotOver => stand,
+        Stand::Over => Stand::Over,
+        Stand::NotOver => Stand::NotOver,
     }
 }
 

@@ -35,6 +35,7 @@ pub fn place(
             put(held, 0, name);
             r
         }
-        Ordering::Equal | Ordering::Greater => Err(Misplaced::NotAfter),
+        Ordering::Equal => Err(Misplaced::NotAfter),
+        Ordering::Greater => Err(Misplaced::NotAfter),
     }
 }

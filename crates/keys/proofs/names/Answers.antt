@@ -1,8 +1,6 @@
 -- `keys::names` meets its contract. Assumes nothing.
-use Prim.Native.Nat.{◌-◌}
 use lib.ListN.{drop}
-use Rattle.keys.specs.Key.{cut_to}
-use Rattle.keys.proofs.Keys.{walk_start, walk_more, walk_end, walk_off, cut_le}
+use Rattle.keys.proofs.Keys.{walk_more, walk_end, walk_off, cut_le}
 use native.Mathlib.Omega.{arith}
 use mathlib.Core.Path.{◌∙◌}
 use lib.ListN.{length-drop}
@@ -11,8 +9,8 @@ use Rattle.keys.proofs.names.Goals.{then-p-eq0-via-then-p-eq0, then-p-eq0-via-el
 
 pub loop-width-init : goal.loop-width-init
 loop-width-init c =
-    let args = c.args in
-    walk_start (cut_to args.width (drop args.a args.text.now)) (cut_to args.width (drop args.b args.text.now))
+    let start = c.shared-i.ensures in
+    record { shared = start.agree; left = start.left; right = start.right }
 
 pub next_at-p-requires : goal.next_at-p-requires
 next_at-p-requires c = record { from_in_bounds = c.requires.0; i_in_bounds = c.loop-width.invariant.left }

@@ -1,6 +1,5 @@
 -- `piece_place::place` meets its contract. Assumes nothing.
 use native.Mathlib.Omega.{arith}
-use mathlib.Core.Logic.{inl, inr}
 use lib.ListN.{length-take}
 use Rattle.piece_place.proofs.Placing.{up_to, put_all, put_same, put_above, put-below}
 use Rattle.piece_place.proofs.place.Goals as goal
@@ -29,13 +28,17 @@ returns-in-Less c =
 pub returns-in-Equal : goal.returns-in-Equal
 returns-in-Equal c =
     let x = c.args in
-    let upto = up_to x.last c.shorter-size.result in
     let r =
     put_all x.held.now x.ends.now x.last x.ended x.name.now x.folder c.shorter-size.result c.shorter-size.ensures
-    (elim c.in-Equal.is [
-      | inl e ↦ put_same x.held.now x.ends.now upto x.ended x.name.now x.folder c.common_start-shared.result
-          c.common_start-shared.ensures c.by_next.result c.by_next.ensures e
-      | inr e ↦ put_above x.held.now x.ends.now upto x.ended x.name.now x.folder c.common_start-shared.result
-          c.common_start-shared.ensures c.by_next.result c.by_next.ensures e
-    ]) in
+    (put_same x.held.now x.ends.now (up_to x.last c.shorter-size.result) x.ended x.name.now x.folder
+    c.common_start-shared.result c.common_start-shared.ensures c.by_next.result c.by_next.ensures c.in-Equal.is) in
+    record { placed = r.0; ends = r.1.0; held = r.1.1 }
+
+pub returns-in-Greater : goal.returns-in-Greater
+returns-in-Greater c =
+    let x = c.args in
+    let r =
+    put_all x.held.now x.ends.now x.last x.ended x.name.now x.folder c.shorter-size.result c.shorter-size.ensures
+    (put_above x.held.now x.ends.now (up_to x.last c.shorter-size.result) x.ended x.name.now x.folder
+    c.common_start-shared.result c.common_start-shared.ensures c.by_next.result c.by_next.ensures c.in-Greater.is) in
     record { placed = r.0; ends = r.1.0; held = r.1.1 }
